@@ -1,7 +1,6 @@
 -- The climb of a branch question on tables as built carries a state down through the word.
 --     move-parent, move-jump    what a move makes of a state: the word of the labels that it goes over
 --     down-built                so the moves of a climb make of it what the whole word makes
--- Assumes nothing.
 use Prim.Native.Nat.{ℕ, _+_, _-_, _≤_, _<_}
 use mathlib.Core.Path.{_≡_, refl, sym, ap, _∙_, subst}
 use mathlib.Core.List.{List, [], _∷_, _++_}

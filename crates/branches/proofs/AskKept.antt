@@ -2,7 +2,6 @@
 --     first-below    the first state is a state
 --     branch-kept    of the named result
 --     ask-kept       of the answer
--- Assumes nothing.
 use Prim.Native.Nat.{ℕ, zero, suc, _<_}
 use mathlib.Core.Path.{_≡_, refl, subst}
 use mathlib.Core.Bool.{Bool, true, false, _&&_}

@@ -2,7 +2,6 @@
 --     replay-state                what a climb ends in is a state
 --     first-runs                  the first state is read from the runs of labels and steps
 --     Handed, handed, replay-is   what is handed on is what is lent
--- Assumes nothing.
 use Prim.Native.Nat.{ℕ, _+_, _-_, _*_, _<_}
 use mathlib.Core.Path.{_≡_, refl, sym, ap, _∙_, subst}
 use mathlib.Core.List.{List}

@@ -5,7 +5,6 @@
 --     usable-in-range                    numbers as built and maps of states lead nowhere outside: there 18 has no cause
 --     bytes-usable, built-usable         so where all bytes are below S, and so on tables as built
 --     built-in-range                     tables as built lead nowhere outside
--- Assumes nothing.
 use Prim.Native.Nat.{ℕ, _+_, _*_, _≤_, _<_}
 use mathlib.Core.Path.{_≡_, refl, sym, ap, _∙_, subst}
 use mathlib.Core.Bool.{Bool, true, false, cond, _&&_}

@@ -5,7 +5,6 @@
 --     ask-passed   no more nodes passed over than the plan is high
 --     ask-done     the whole promise, for whatever answers as askAnswer does
 --     empty-word   the same node twice, from below it: state 0, its mark, no links and no node passed over
--- Assumes nothing.
 use Prim.Native.Nat.{ℕ, _+_, _-_, _*_, _≤_, _<_}
 use mathlib.Core.Path.{_≡_, refl, sym, ap, ap₂, _∙_, subst}
 use mathlib.Core.Bool.{Bool, true, false}

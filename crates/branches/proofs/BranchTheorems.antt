@@ -5,7 +5,6 @@
 --         built
 --     check-no, no-check     it is no exactly where 2 to 11 pass and the tables are not as built
 --     build-then-check       what an accepted build leaves is answered with yes
--- Assumes nothing.
 use Prim.Native.Nat.{ℕ}
 use mathlib.Core.Path.{_≡_, sym, ap, _∙_}
 use mathlib.Core.List.{List, _++_}

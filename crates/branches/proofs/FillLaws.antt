@@ -1,7 +1,6 @@
 -- The writers of a plan's tables for a branch table, one after the other: the links, the state bytes, the maps.
 --     fill-link-args, branch-args        what each needs; fill-branch-args: after the links are written
 --     filled                             what they leave together
--- Assumes nothing.
 use Prim.Native.Nat.{ℕ}
 use mathlib.Core.Path.{_≡_, refl, sym, ap, _∙_}
 use mathlib.Core.List.{List, [], _++_}

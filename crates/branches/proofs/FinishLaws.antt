@@ -1,7 +1,6 @@
 -- Check 16, and the first state of a branch question.
 --     in-subtree-is, is-in-subtree                       what it says, and back
 --     first-no-label, first-label, first-start           the first state, in each reading
--- Assumes nothing.
 use Prim.Native.Nat.{ℕ, _+_, _-_, _*_, _≤_, _<_}
 use mathlib.Core.Path.{_≡_, sym, ap, _∙_}
 use mathlib.Core.Bool.{true, false}

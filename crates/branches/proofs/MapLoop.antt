@@ -4,7 +4,6 @@
 --     nodeMap-is           where the maps above a node are the automaton's, what follows from them is its map
 --     node-args            what the node's turn reads is inside
 --     map-iteration, map-root   the turns
--- Assumes nothing.
 use Prim.Native.Nat.{ℕ, _+_, _*_, _≤_, _<_}
 use mathlib.Core.Path.{_≡_, sym, ap, ap₂, _∙_}
 use mathlib.Core.List.{List}

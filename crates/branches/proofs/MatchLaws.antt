@@ -3,7 +3,6 @@
 --     answer-cells      where the links say yes, they are the tree's
 --     links-fail, steps-fail, maps-tell   the test of both tables, where the links or the state bytes say no, and
 --         where the maps decide
--- Assumes nothing.
 use Prim.Native.Nat.{ℕ, _≤_}
 use mathlib.Core.Path.{_≡_, refl, sym, ap, ap₂, _∙_}
 use mathlib.Core.Bool.{Bool, true, false, _&&_}

@@ -1,7 +1,6 @@
 -- A control for document 02's S-7: a branch question whose climb passes over more nodes than it has links, on tables as
 -- built. Computed.
 --     gap-branch   from node 3 at depth 6 to the root: 2 links, 6 nodes passed over, in both readings
--- Assumes nothing.
 use Prim.Native.Nat.{ℕ}
 use mathlib.Core.Path.{_≡_, refl}
 use mathlib.Core.List.{List, [], _∷_}

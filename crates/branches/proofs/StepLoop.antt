@@ -5,7 +5,6 @@
 --     step-fits, step-is, step-iteration        a node's turn: its reads are inside their lists, and its state is the
 --         automaton's
 --     root-inside, root-is, root-iteration      the root's turn
--- Assumes nothing.
 use Prim.Native.Nat.{ℕ, _+_, _*_, _≤_, _<_}
 use mathlib.Core.Path.{_≡_, refl, sym, ap, _∙_}
 use mathlib.Core.List.{List}

@@ -1,7 +1,6 @@
 -- The turns of the loop that writes a map of a branch table from the maps of two nodes and a label.
 --     step-far-below, step-inside   what a turn reads is inside
 --     step-is                       and it is the state wanted
--- Assumes nothing.
 use Prim.Native.Nat.{ℕ, _+_, _*_, _<_}
 use mathlib.Core.Path.{_≡_, ap, _∙_}
 use mathlib.Core.List.{List}

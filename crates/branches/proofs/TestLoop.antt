@@ -4,7 +4,6 @@
 --     all-states                          at the end all are
 --     root-map-same, map-same, root-map-differs, map-differs, all-maps   the same of the maps
 -- What the build would write at a node is told by the build's own turns (StepLoop, MapLoop).
--- Assumes nothing.
 use Prim.Native.Nat.{ℕ, _+_, _*_, _<_}
 use mathlib.Core.Path.{_≡_, sym, _∙_}
 use mathlib.Core.Bool.{true, false}

@@ -5,8 +5,6 @@
 -- BranchUsable p r nodeTable stateTable == plan, branch table and node table as built, and every map byte below S
 -- linksTold answer, passedTold answer == the links of an answer, and the nodes passed over; 0 of a refusal
 -- AskDone reading .. == the promise of a branch question
---
--- Assumes nothing.
 use Prim.Native.Nat.{ℕ, _-_, _<_, _≤_, _*_}
 use mathlib.Core.Path.{_≡_}
 use mathlib.Core.Bool.{Bool, true, false}

@@ -12,7 +12,6 @@
 -- "It tells state, yes or no, and the links of the climb from the lower node to the upper's depth", and the nodes that this climb passed
 -- over (02, S-7). The word runs downward while the climb goes up, so the first state goes through the climb's moves from the last to
 -- the first (replayOn, crate tables): of each map one entry is read. Both readings ask the same checks and make the same climb.
--- Assumes nothing.
 use Prim.Native.Nat.{ℕ, zero, suc}
 use mathlib.Core.Bool.{Bool, true, false, cond, _&&_}
 use mathlib.Core.List.{List, [], _∷_}

@@ -1,7 +1,6 @@
 -- The first record in place of the other seven, byte by byte.
 --     Copied o b n     the bytes of b below n are those of the first record of o, one time after the other
 --     copied-first, copied-on, copied-all   before the first, one more, and all of them
--- Assumes nothing.
 use Prim.Native.Nat.{ℕ, _+_, _-_, _*_, _%_, _≤_, _<_}
 use mathlib.Core.Path.{_≡_, sym, _∙_, ap}
 use mathlib.Core.List.{List}

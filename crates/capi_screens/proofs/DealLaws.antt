@@ -2,7 +2,6 @@
 --     deal-refused    a refusal before any screen
 --     deal-beyond, deal-none    25 and 1
 --     turn-refused, turn-taken    the one-record advance on the bytes of the screen found, by its number
--- Assumes nothing.
 use Prim.Native.Nat.{ℕ, zero, suc, _<_, _≤_}
 use mathlib.Core.Path.{_≡_, refl, sym, _∙_, ap, subst}
 use mathlib.Core.Bool.{Bool, true, false, cond}

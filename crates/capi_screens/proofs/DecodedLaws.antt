@@ -1,6 +1,5 @@
 -- What is decoded of a call of the screens is its answer: number and values tell it whole.
 --     decoded-load-all, decoded-start-on, decoded-cancel-on, decoded-read-on, decoded-deal   of the model's calls
--- Assumes nothing.
 use Prim.Native.Nat.{ℕ, zero, suc}
 use mathlib.Core.Path.{_≡_, refl, sym, _∙_, ap, subst}
 use mathlib.Core.Bool.{Bool, true, false, cond}

@@ -3,7 +3,6 @@
 --     screen-exported, turn-exported  the one-record call on the bytes of one screen, written where they stood
 --     beyond, on-screen               the same by the numbers that the code has, of a call that names a screen
 -- Starts, Reads and deals, which tell values besides: StartReadLaws, DealLaws.
--- Assumes nothing.
 use Prim.Native.Nat.{ℕ, _+_, _-_, _*_, _<_, _≤_}
 use mathlib.Core.Path.{_≡_, refl, sym, _∙_, ap, subst}
 use mathlib.Core.Bool.{true, false}

@@ -4,7 +4,6 @@
 --     told-is               what a call on the run tells is what the model tells
 --     left-held             the run that a call leaves holds the model's records
 --     read-held             a Read leaves the run as it is
--- Assumes nothing.
 use Prim.Native.Nat.{ℕ, zero, suc, _<_}
 use mathlib.Core.Path.{_≡_, refl, sym, _∙_, ap, subst}
 use mathlib.Core.Bool.{Bool, true, false, cond, not, _||_}

@@ -3,7 +3,6 @@
 --     busy-load        a screen runs or its bytes are no record: 1
 --     refused-load     none does, and the first one's own Load is refused: nothing is altered
 --     cleared-load     none does, and the first one's own Load is accepted: all eight are as it is then
--- Assumes nothing.
 use Prim.Native.Nat.{ℕ, zero, suc, _<_}
 use mathlib.Core.Path.{_≡_, refl, sym, _∙_, ap, subst}
 use mathlib.Core.Bool.{Bool, true, false, cond, not}

@@ -5,7 +5,6 @@
 --                          of a run of k elements; part-stored, part-other: of parts
 --     parts-ext            two lists with the same parts are the same
 --     part-rows, rows-parts  parts of lists in a row, and back
--- Assumes nothing.
 use Prim.Native.Nat.{ℕ, zero, suc, _+_, _-_, _*_, _≤_, _<_}
 use mathlib.Core.Path.{_≡_, refl, sym, ap, _∙_}
 use mathlib.Core.Logic.{_⊎_, inl, inr}

@@ -2,7 +2,6 @@
 --     not-valid, valid-runs, valid-some    whether a screen is busy; busy-part: of a part of the run
 --     number-told, load-number     a Load of a record at rest goes by what is lent alone
 --     struct-after, bytes-after, one-loaded    where nothing fails
--- Assumes nothing.
 use Prim.Native.Nat.{ℕ, zero, suc, _+_, _-_, _<_}
 use mathlib.Core.Path.{_≡_, refl, sym, _∙_, ap, subst}
 use mathlib.Core.Bool.{Bool, true, false, cond, not, _||_}

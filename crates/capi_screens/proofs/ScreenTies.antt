@@ -2,7 +2,6 @@
 -- (`Reads.Post`), is what the theorem over lists of screen calls takes (`ScreensExports`). A contract that promises
 -- less is refused here.
 --     load-tied, start-tied, cancel-tied, read-tied, deal-tied
--- Assumes nothing.
 use contract.Lifetimes.{Lfts}
 use borrow.Fn.World.{ArgsD, ResD}
 use borrow.Fn.Kinds.{endedOf}

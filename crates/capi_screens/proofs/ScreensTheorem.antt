@@ -3,7 +3,6 @@
 --     screens-refine     a call on the run is one on the records
 --     fresh-run-held     8 x 983 zeros are eight fresh records
 --     bytes-hold         all statements about every list of screen calls (crate screens), from 8 x 983 zeros
--- Assumes nothing.
 use Prim.Native.Nat.{ℕ, _+_, _*_, _<_}
 use mathlib.Core.Path.{_≡_, refl, sym, _∙_, ap, subst}
 use mathlib.Core.List.{List}

@@ -1,7 +1,6 @@
 -- Start and Read of one screen: what the places hold, besides the promise of the call.
 --     start-refused, start-on    a refusal before any screen, and the one-record Start on the bytes of the screen
 --     read-refused, read-on      the same of Read
--- Assumes nothing.
 use Prim.Native.Nat.{ℕ, _≤_}
 use mathlib.Core.Path.{_≡_, sym, _∙_, ap}
 use mathlib.Core.List.{List}

@@ -5,8 +5,6 @@
 -- ScreensExports b c a b′ == call c was made on the run of records b, was decoded as a and left b′: the promise of its
 --   exported function, as the function has it, holds
 -- freshRun == the run of eight fresh records: 8 x 983 zeros
---
--- Assumes nothing.
 use Prim.Native.Nat.{ℕ, zero, suc}
 use mathlib.Core.List.{List}
 use lib.ListN.{replicate}

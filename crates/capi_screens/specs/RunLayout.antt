@@ -6,7 +6,6 @@
 -- busy b == which screens may not be loaded: one that runs, or whose bytes are no record
 --
 -- "The sessions are handed in as a run of eight records." The record's layout: crate records, Layout.
--- Assumes nothing.
 use Prim.Native.Nat.{ℕ, _*_}
 use mathlib.Core.Bool.{not, _||_}
 use mathlib.Core.List.{List, _++_}

@@ -8,8 +8,6 @@
 -- numberFor b c == the answer's number, 0 where it is accepted
 -- ScreensCallExported, ScreensStartExported, ScreensDealExported, ScreensReadExported, ScreensLoadExported == the
 --   promises. What is told goes through places, which keep what they held where the call is refused
---
--- Assumes nothing.
 use Prim.Native.Nat.{ℕ, _<_}
 use mathlib.Core.Path.{_≡_}
 use mathlib.Core.Bool.{cond}

@@ -1,6 +1,5 @@
 -- What is decoded of a call is its answer: number and values tell it whole.
 --     decoded-load .. decoded-read   of the model's calls (crate model)
--- Assumes nothing.
 use Prim.Native.Nat.{ℕ, zero, suc}
 use mathlib.Core.Path.{_≡_, refl}
 use mathlib.Core.Bool.{Bool, true, false, cond}

@@ -7,7 +7,6 @@
 --     held-after         and its bytes after the call are those of the model's record
 --     fresh-held         983 zeros are the fresh record
 --     record-stays       every record that a call leaves is one again
--- Assumes nothing.
 use Prim.Native.Nat.{ℕ, zero, suc}
 use mathlib.Core.Path.{_≡_, refl, sym, ap, ap₂, _∙_, subst}
 use mathlib.Core.Bool.{Bool, true, false, cond}

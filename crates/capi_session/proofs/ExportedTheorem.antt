@@ -2,7 +2,6 @@
 -- panel book says.
 --     exported-demand-3    the theorem, over the very promises of the five exported functions, decoded from numbers and values
 --     exported-questions   a question: an accepted Start had sound inputs; undisturbed: parts, advances, what Reads tell, ceilings
--- Assumes nothing.
 use lib.ListN.{replicate}
 use Rattle.reference.specs.Demand3.{Demand3}
 use Rattle.model.specs.Model.{freshRecord, Does}

@@ -1,7 +1,6 @@
 -- An answer of a known case, told as its number, values and record bytes; and the exported calls from the promises of the session's.
 --     done-stored .. read-refused    what is stored and told of each answer
 --     not-laid, laid ..              the exported calls: bytes that are no record, and bytes that are laid out as one
--- Assumes nothing.
 use Prim.Native.Nat.{ℕ}
 use mathlib.Core.Path.{_≡_, refl, sym, ap, ap₂, _∙_, subst}
 use mathlib.Core.Bool.{Bool, true, false, not, cond, _&&_}

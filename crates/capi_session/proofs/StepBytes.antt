@@ -1,7 +1,6 @@
 -- An advance alters of a record's bytes the head, one state and the last finished answer.
 --     step-is         with these the bytes are those of the record that it leaves
 --     advance-made    so the exported advance does what the call on the struct does
--- Assumes nothing.
 use Prim.Native.Nat.{ℕ, _+_}
 use mathlib.Core.Path.{_≡_, refl, sym, ap, _∙_, subst}
 use mathlib.Core.Bool.{Bool, true, cond}

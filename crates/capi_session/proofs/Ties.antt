@@ -1,7 +1,6 @@
 -- What the contracts of the five exported session calls claim, as the prover itself reads them off the sources (`Reads.Post`), is what the
 -- theorem over lists of calls takes (`Exports`). A contract that promises less is refused here.
 --     load-tied, start-tied, advance-tied, cancel-tied, read-tied
--- Assumes nothing.
 use contract.Lifetimes.{Lfts}
 use borrow.Fn.World.{ArgsD, ResD}
 use borrow.Fn.Kinds.{endedOf}

@@ -3,8 +3,6 @@
 -- decodedDone r, decodedStart r p, decodedAdvance r f, decodedRead r q == the answer: 0 with its values, or the refusal's number
 -- Exports b c a b′ == call c was made on record bytes b, was decoded as a and left b′: the promise of its exported function, as the
 -- function has it, holds
---
--- Assumes nothing.
 use Prim.Native.Nat.{ℕ, zero, suc}
 use mathlib.Core.Bool.{cond}
 use mathlib.Core.List.{List}

@@ -5,8 +5,6 @@
 -- recordFor b c == the bytes after it: as they were where it is refused, else those of the struct after the call
 -- partsOf a old, finishedOf a old, answeredPlaces a old == what a place holds afterwards: the answer's value, or what it held
 -- CallExported, StartExported, AdvanceExported, ReadExported, LoadExported == the promises
---
--- Assumes nothing.
 use Prim.Native.Nat.{ℕ}
 use mathlib.Core.Path.{_≡_}
 use mathlib.Core.Bool.{Bool, true, cond}

@@ -4,8 +4,6 @@
 -- Stored a new b r b′ == the answer's number, and the bytes new unless it is refused
 -- DoneStored, StartStored, AdvanceStored, ReadStored == an answer as a number, values and record bytes
 -- AdvanceArgs t i b == what is asked where the step t of part i is stored in the record bytes b
---
--- Assumes nothing.
 use Prim.Native.Nat.{ℕ, _<_}
 use mathlib.Core.Path.{_≡_}
 use mathlib.Core.Bool.{true}

@@ -6,7 +6,6 @@
 --     holds-superseded     the nodes listed are those of the superseded form; holds-laid: those of both lists
 --     same-count           lists that name the same nodes have as many after superseding
 --     superseded-passes, laid-passes   what passes 13 and 14 does so superseded, and laid one over the other
--- Assumes nothing.
 use Prim.Native.Nat.{ℕ, zero, suc, _+_, _≤_, _<_}
 use mathlib.Core.Path.{_≡_, refl, sym, ap, ap₂, _∙_}
 use mathlib.Core.Bool.{Bool, true, false, cond, _&&_, _||_}

@@ -6,7 +6,6 @@
 --     differing-listed    what is left was listed
 --     differing-same, differing-superseded   only last labels count
 --     differing-below, differing-most        what is left passes 13 and is no longer than the list
--- Assumes nothing.
 use Prim.Native.Nat.{ℕ, zero, suc, _≤_, _<_}
 use mathlib.Core.Path.{_≡_, refl, sym, ap, ap₂, _∙_}
 use mathlib.Core.Bool.{Bool, true, false, cond, not, _&&_, _||_}

@@ -6,7 +6,6 @@
 --     lastLabel-append           the last entry of two lists, one behind the other: that of the second, else that of the first
 --     lastLabel-hit, lastLabel-miss   the first entry of a list
 --     listed-holds               a node is listed exactly where it has a last label
--- Assumes nothing.
 use Prim.Native.Nat.{ℕ, zero, suc, _<_}
 use mathlib.Core.Path.{_≡_, refl, sym, ap, ap₂, _∙_}
 use mathlib.Core.Bool.{Bool, true, false, cond, _||_}

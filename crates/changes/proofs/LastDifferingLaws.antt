@@ -6,7 +6,6 @@
 --     KeepLoop, keep-start, keep-again, keep-done   the loop over the list
 --     kept-all, none-done, all-done   what is returned
 --     left-wide, left-taken   what a caller takes of it
--- Assumes nothing.
 use Prim.Native.Nat.{ℕ, zero, suc, _+_, _-_, _≤_, _<_}
 use mathlib.Core.Path.{_≡_, refl, sym, ap, ap₂, _∙_, subst}
 use mathlib.Core.Bool.{Bool, true, false, cond, not, _&&_, _||_}

@@ -1,7 +1,6 @@
 -- A list's last places (specs/inner/LastPlaces).
 --     PlacesLoop, places-start, places-next, places-done   the loop of `put_places`
 --     last-of-all   the first way out of `is_superseded`
--- Assumes nothing.
 use Prim.Native.Nat.{ℕ, _+_, _%_, _≤_, _<_}
 use mathlib.Core.Path.{_≡_, sym, ap, _∙_, subst}
 use mathlib.Core.Bool.{false}

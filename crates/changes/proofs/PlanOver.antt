@@ -3,7 +3,6 @@
 --     plan-over      changing a plan by one list and then by another is changing it by the second laid over the first
 --     plan-passes    the changed plan passes 2 to 10 where the plan does and the list passes 12 to 14
 --     laid-list      of lists that pass 12 to 14 and meet no 22 the laid list passes 12 to 14
--- Assumes nothing.
 use Prim.Native.Nat.{ℕ, zero, suc, _+_, _*_, _≤_, _<_}
 use mathlib.Core.Path.{_≡_, refl, sym, ap, ap₂, _∙_, subst}
 use mathlib.Core.Bool.{Bool, true, _&&_}

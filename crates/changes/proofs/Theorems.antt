@@ -4,7 +4,6 @@
 --     lay-empty, lay-self     the empty list on either side, and a list over itself: the superseded form, and no 22
 --     lay-swap                lists that share no node may be swapped, refused or not
 -- The same of lists of entries, with no number, is in LaidLaws: over-assoc, over-empty, over-self, over-swap.
--- Assumes nothing.
 use Prim.Native.Nat.{ℕ, suc, _+_, _≤_, _<_}
 use mathlib.Core.Path.{_≡_, refl, sym, ap, ap₂, _∙_, subst}
 use mathlib.Core.Bool.{Bool, true, false, cond, _&&_}

@@ -1,8 +1,6 @@
 -- A plan changed by a list (document 02, S-12).
 --
 -- changedPlan p vs bs == the plan p with the labels as the list changes them: header and kinds as they are
---
--- Assumes nothing.
 use Prim.Native.Nat.{ℕ}
 use mathlib.Core.List.{List, _++_}
 use lib.ListN.{take}

@@ -8,7 +8,6 @@
 --
 -- Nodes are left out, not entries: a node whose last entry gives it its own label is no change, whatever comes before.
 -- That `differing` lists exactly what `differs` tells is differing-is (proofs/DifferingLaws).
--- Assumes nothing.
 use Prim.Native.Nat.{ℕ}
 use mathlib.Core.Bool.{Bool, cond, not, _&&_}
 use mathlib.Core.List.{List, [], _∷_}

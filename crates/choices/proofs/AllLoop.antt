@@ -1,6 +1,5 @@
 -- What all_parts promises, one part at a time: the rest still to do gives what all of them give.
 --     going-start, next-args, going-lost, going-next, going-done
--- Assumes nothing.
 use Prim.Native.Nat.{ℕ, zero, suc, _+_, _-_, _*_, _≤_, _<_}
 use mathlib.Core.Path.{_≡_, refl, sym, ap, ap₂, _∙_, subst}
 use mathlib.Core.Bool.{Bool, true, false, _&&_}

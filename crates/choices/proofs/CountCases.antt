@@ -2,7 +2,6 @@
 --     all-args, parts-lost, last-args, parts-done        for given roots
 --     rooted-none, rooted-some, rooted-list               the roots that were found
 --     leaves-lost, inner-lost, roots-lost, root-args, on-done
--- Assumes nothing.
 use Prim.Native.Nat.{ℕ, zero, suc, _+_, _-_, _*_, _≤_, _<_}
 use mathlib.Core.Path.{_≡_, refl, sym, ap, ap₂, _∙_, subst}
 use mathlib.Core.Bool.{Bool, true, false, cond, _&&_}

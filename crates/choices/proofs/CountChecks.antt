@@ -1,7 +1,6 @@
 -- The checks of a count, one by one.
 --     no-17, no-12, no-13, no-15, no-26, all-pass   the number where a check fails and those before it pass
 --     count-refused, run-args, count-run            the answer by that number
--- Assumes nothing.
 use Prim.Native.Nat.{ℕ, _+_, _-_, _*_, _≤_, _<_, _^_}
 use mathlib.Core.Path.{_≡_, refl, sym, ap, _∙_, subst}
 use mathlib.Core.Bool.{Bool, true, false, cond}

@@ -2,7 +2,6 @@
 --     part-none, parts-none    a part, and all of them
 --     states-none              a leaf or inner state of the rules
 --     count-none               the whole count
--- Assumes nothing.
 use Prim.Native.Nat.{ℕ, zero, suc, _+_, _-_, _*_, _≤_, _<_}
 use mathlib.Core.Path.{_≡_, refl, sym, ap, _∙_, subst}
 use mathlib.Core.Bool.{Bool, true, false, cond, _&&_}

@@ -1,6 +1,5 @@
 -- Where every leaf and inner state of the rules is below S, no choice ends in a state from S on.
 --     part-above, rows-above
--- Assumes nothing.
 use Prim.Native.Nat.{ℕ, zero, suc, _+_, _-_, _*_, _≤_, _<_}
 use mathlib.Core.Path.{_≡_, refl, sym, ap, _∙_}
 use mathlib.Core.Bool.{Bool, true, false, cond}

@@ -1,7 +1,6 @@
 -- What part_row and next_part need and promise.
 --     row-needs, by-open                   one part, by whether its root is listed
 --     row-args, next-lost, put-args, next-done
--- Assumes nothing.
 use Prim.Native.Nat.{ℕ, zero, suc, _+_, _-_, _*_, _≤_, _<_}
 use mathlib.Core.Path.{_≡_, refl, sym, ap, _∙_, subst}
 use mathlib.Core.Bool.{Bool, true, false}

@@ -1,7 +1,6 @@
 -- What places_below and part_counts promise, at each way out.
 --     leaf-places, first-places, outside-places, inner-places    the children and the roots below them
 --     no-label, no-places, placed-args, placed-done              the part
--- Assumes nothing.
 use Prim.Native.Nat.{ℕ, zero, suc, _+_, _-_, _*_, _≤_, _<_}
 use mathlib.Core.Path.{_≡_, refl, sym, ap, _∙_, subst}
 use mathlib.Core.Bool.{Bool, true, false, cond, _&&_}

@@ -1,7 +1,6 @@
 -- What put_row promises, one store at a time, and what the table begins with after it.
 --     put-start, put-next, put-done
 --     put-rows     the rows before and the row written
--- Assumes nothing.
 use Prim.Native.Nat.{ℕ, zero, suc, _+_, _-_, _*_, _≤_, _<_}
 use mathlib.Core.Path.{_≡_, refl, sym, ap, _∙_}
 use mathlib.Core.List.{List, _++_}

@@ -2,7 +2,6 @@
 --     Fit, fit-by     all that both tests say
 --     on-args         so every read is inside its run
 --     on-answer       the count on the runs is that on what is lent
--- Assumes nothing.
 use Prim.Native.Nat.{ℕ, _+_, _-_, _*_, _≤_}
 use mathlib.Core.Path.{_≡_, sym, ap, _∙_}
 use mathlib.Core.Bool.{true}

@@ -1,6 +1,5 @@
 -- The counts of a root read only a part of what is lent: on that part they are those on the whole.
 --     root-ok-same, root-links-same, root-count-same
--- Assumes nothing.
 use Prim.Native.Nat.{ℕ, zero, suc, _+_, _-_, _*_}
 use mathlib.Core.Path.{_≡_, refl, sym, ap, ap₂, _∙_}
 use mathlib.Core.Bool.{Bool, true, cond, _&&_}

@@ -4,7 +4,6 @@
 --     count-sum          "and their sum is K to the power m"
 --     count-parts        "the parts and links told are those of a question whose W is these nodes and the root"
 --     count-none-open    "With no open node the run's own state has count 1", in one part
--- Assumes nothing.
 use Prim.Native.Nat.{ℕ, _^_, _≤_, _<_}
 use mathlib.Core.Path.{_≡_, refl, sym, ap, _∙_}
 use mathlib.Core.List.{List, []}

@@ -7,7 +7,6 @@
 --
 -- "Given a list of different nodes, count the assignments of any of the K labels to them, for each of the S root
 -- states."
--- Assumes nothing.
 use Prim.Native.Nat.{ℕ, _+_, _-_, _*_, _≤_, _<_, _^_}
 use mathlib.Core.Path.{_≡_}
 use mathlib.Core.Bool.{Bool, cond}

@@ -1,7 +1,6 @@
 -- "bytes that break it get 1": a call on record bytes that are no record is refused with 1, and the bytes stay.
 --     broken-answer, broken-record   what is named as its answer, and as the bytes after it
 --     broken-refused                 so each of the five exported calls is refused with 1, and leaves the bytes as they were
--- Assumes nothing.
 use mathlib.Core.Path.{_≡_, refl, ap, _∙_}
 use mathlib.Core.Bool.{Bool, true, false, cond, _&&_}
 use mathlib.Core.List.{List}

@@ -9,7 +9,6 @@
 --     sets-short-asked, sets-27-asked   17 where the tables of colours are too short for a question, then 27
 -- Colours of any count of states, words and the next drop: Colours. The promises of the calls themselves, on every
 -- input, are their contracts (capi_colours/rule_calls).
--- Assumes nothing.
 use Prim.Native.Nat.{ℕ, _+_, _≤_, _<_}
 use mathlib.Core.Path.{_≡_, refl, sym, ap, _∙_}
 use mathlib.Core.Bool.{Bool, true, false}

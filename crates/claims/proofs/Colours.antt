@@ -12,7 +12,6 @@
 --     words-short-asked, never-18 17 where it is too short for a question; on tables as built 18 never comes
 -- Sets of states and rule questions: ColourSets. The promises of the calls themselves, on every input, are their
 -- contracts (crate capi_colours).
--- Assumes nothing.
 use Prim.Native.Nat.{ℕ, suc, _+_, _-_, _*_, _≤_, _<_}
 use mathlib.Core.Path.{_≡_, refl, sym, ap, _∙_}
 use mathlib.Core.Bool.{Bool, false}

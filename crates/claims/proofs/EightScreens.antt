@@ -8,7 +8,6 @@
 --     load-waits-.., load-clears-..        Load
 --     refused-..                           a refused call alters nothing
 -- Where each word of a statement is defined: screens/specs; the two forms: screens/specs/in_place, capi_screens/specs.
--- Assumes nothing.
 use Prim.Native.Nat.{ℕ, _<_}
 use mathlib.Core.Path.{_≡_}
 use mathlib.Core.Bool.{true}

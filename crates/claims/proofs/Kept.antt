@@ -4,7 +4,6 @@
 --     anew-by-value, anew-in-place, anew-on-bytes             after a Cancel every call is answered as in a new session, earlier Reads apart
 --     cancel-leaves                                           the record after a Cancel: as after a first Load, in all but that answer
 -- Where each word of a statement is defined: reference/specs/Lasting. An unclean finish: demand 3 (Main), by reference/specs/Reference.
--- Assumes nothing.
 use Prim.Native.Nat.{ℕ, zero, suc}
 use mathlib.Core.Path.{_≡_, sym, ap, _∙_}
 use mathlib.Core.Bool.{Bool, true, false, cond}

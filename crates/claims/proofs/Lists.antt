@@ -5,7 +5,6 @@
 --     associative, empty, itself, swapped       the laws of laying over; associative-call .. swapped-call with the call's numbers
 --     twice-changed, still-a-plan, on-a-changed-plan    plans and questions
 -- Where each word of a statement is defined: README, *Reading order*; docs/NAMES.md.
--- Assumes nothing.
 use Prim.Native.Nat.{ℕ, _≤_, _<_}
 use mathlib.Core.Path.{_≡_, sym, _∙_}
 use mathlib.Core.Bool.{Bool, true, false}

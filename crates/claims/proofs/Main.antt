@@ -4,7 +4,6 @@
 --     by-value, in-place, on-record-bytes           demand 3, in its three forms; start-is-settled, undisturbed-.., order: its further statements
 --     sample                                        the sample clearance
 -- Where each word of a statement is defined: README, *Reading order*; docs/NAMES.md. What 01 wants proved besides: ProvedToo.
--- Assumes nothing.
 use Prim.Native.Nat.{ℕ, suc, _<_}
 use mathlib.Core.Path.{_≡_}
 use mathlib.Core.Bool.{true, false}

@@ -5,7 +5,6 @@
 --     stays-valid        whatever is lent, the record after a call keeps its conditions: links ≤ passed ≤ 65,535 for each part handled
 --     gap                in the sample they equal the links; here they do not: 2 parts, 3 links, 5 nodes passed over
 -- That Read tells the sum over the parts' climbs is demand 2 and 3 (Main), by freshAnswer (reference/specs/Reference).
--- Assumes nothing.
 use Prim.Native.Nat.{ℕ, _-_, _*_, _≤_, _<_}
 use mathlib.Core.Path.{_≡_}
 use mathlib.Core.Bool.{Bool, true, false}

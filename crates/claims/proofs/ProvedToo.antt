@@ -8,7 +8,6 @@
 --     answered-by-value, answered-in-place, answered-on-bytes   a question that Start accepted is answered to its end: nothing is refused
 --     part-links                            the ceiling for each part: an advance adds at most 3 links for each digit of the plan's height
 --     broken-bytes                          "bytes that break it get 1", and stay
--- Assumes nothing.
 use Prim.Native.Nat.{ℕ, _+_, _-_, _*_, _≤_, _<_}
 use mathlib.Core.Path.{_≡_, refl, ap, _∙_}
 use mathlib.Core.Bool.{Bool, true, false}

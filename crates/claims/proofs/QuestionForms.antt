@@ -1,7 +1,6 @@
 -- A question that is answered to its end, in the three forms of the calls; the ceiling for each part, of the call that handles it.
 --     finishes-by-value, finishes-in-place, finishes-on-bytes   no advance given the same is refused, and the Read after the last is told
 --     part-ceiling                                              an advance adds at most 3 links for each binary digit of the plan's height
--- Assumes nothing.
 use Prim.Native.Nat.{ℕ, _+_, _*_, _≤_}
 use mathlib.Core.Path.{_≡_, ap, _∙_, subst}
 use mathlib.Core.Bool.{Bool, true, cond}

@@ -2,7 +2,6 @@
 --     refused-in-order    each of the five calls by value refuses by its first failing check, and a refusal alters nothing
 --     start-refused-18    Start's 18, exactly where its other checks pass and the inputs are not sound
 --     build-refused       a build's number is its first failing check's, and where one fails both buffers stay
--- Assumes nothing.
 use Prim.Native.Nat.{ℕ, zero, suc}
 use mathlib.Core.Path.{_≡_, refl, sym, ap, _∙_, subst}
 use mathlib.Core.Bool.{Bool, true, false, cond}

@@ -1,7 +1,6 @@
 -- With repeats every answer is that of the lists after superseding: of the calls by value, in place and on record bytes.
 --     history-answers     the answers of a history of the model are those that it computes
 --     superseded-..       two histories of a form, of the same calls as given and with each question's list superseded, have the same answers
--- Assumes nothing.
 use mathlib.Core.Path.{_≡_, refl, sym, ap, ap₂, _∙_}
 use mathlib.Core.List.{List, [], _∷_}
 use lib.ListN.{replicate}

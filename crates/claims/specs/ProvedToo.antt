@@ -4,8 +4,6 @@
 -- ClimbTakes t w to n == it makes n moves
 -- RootsReady t vs l == the list l is the ready set of the listed nodes vs and the root: exactly its members, each once and rising
 -- PartOf w t x == the member that roots the part of node x, and no other does
---
--- Assumes nothing.
 use Prim.Native.Nat.{ℕ, _-_, _*_, _≤_, _<_}
 use mathlib.Core.Path.{_≡_}
 use mathlib.Core.Bool.{Bool}

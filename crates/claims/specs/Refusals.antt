@@ -3,7 +3,6 @@
 -- RefusedInOrder s c a s′ == the answer a and the session s′ of call c on session s are those of its first failing check, if one fails
 --
 -- Which checks a call asks, and in which order, is `refusalOn` (crate session, Promises), by `refusal` (crate model, Refusals).
--- Assumes nothing.
 use Prim.Native.Nat.{ℕ, suc}
 use mathlib.Core.Path.{_≡_}
 use mathlib.Core.Bool.{true}

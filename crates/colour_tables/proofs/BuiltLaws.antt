@@ -1,6 +1,5 @@
 -- On numbers as built a descent is the one by the tree's own colours.
 --     descend-built   so from any copy, for any number of drops
--- Assumes nothing.
 use Prim.Native.Nat.{ℕ, _<_}
 use mathlib.Core.Path.{_≡_, refl}
 use mathlib.Core.List.{List}

@@ -1,7 +1,6 @@
 -- Numbers as built lead nowhere outside.
 --     up-marked, jump-marked   a link among marked nodes leads to a marked one
 --     built-in-range           so nothing of numbers as built stops a descent
--- Assumes nothing.
 use Prim.Native.Nat.{ℕ, suc, _+_, _-_, _≤_, _<_}
 use mathlib.Core.Path.{_≡_, refl, sym, ap, _∙_}
 use mathlib.Core.Bool.{Bool, true}

@@ -3,7 +3,6 @@
 --     part-at                         a number of a colour's table among all
 --     numbers-over, copies-over       a buffer with these cells, and the rest as before, is the table and the excess
 --     numbers-cells, copies-cells     and back: a buffer that begins with the table has its cells
--- Assumes nothing.
 use Prim.Native.Nat.{ℕ, zero, suc, _+_, _*_, _≤_, _<_}
 use mathlib.Core.Path.{_≡_, refl, sym, ap, _∙_}
 use mathlib.Core.List.{List, _++_}

@@ -1,7 +1,6 @@
 -- Where a descent gives nothing, on whatever tables.
 --     descend-cause   a value of the tables leads outside, or not upward, or to no fall
 --     descend-low     where it ends, the colour is not above the first
--- Assumes nothing.
 use Prim.Native.Nat.{ℕ, zero, suc, _+_, _≤_, _<_}
 use mathlib.Core.Path.{_≡_, refl, sym, ap, _∙_}
 use mathlib.Core.Bool.{Bool, true, false, cond}

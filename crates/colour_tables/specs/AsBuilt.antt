@@ -1,11 +1,8 @@
 -- What the colours' numbers say of a tree, cell by cell.
 --
 -- ColourRow n step t part c v == node v's four numbers in colour c's table: parent, jump and depth among the nodes
---   where
---   the colour falls, and the colour it lands on
+--   where the colour falls, and the colour it lands on
 -- ColourCells n step t nums == so for each colour above the lowest and each node of t
---
--- Assumes nothing.
 use Prim.Native.Nat.{ℕ, _<_}
 use mathlib.Core.Path.{_≡_}
 use mathlib.Core.List.{List}

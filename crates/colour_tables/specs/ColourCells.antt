@@ -7,7 +7,6 @@
 -- copyRow m copies v == the states of node v's copy, m of them, in the order of their colours
 --
 -- The lowest colour never falls: its table is the plan's own node table, and no question reads it.
--- Assumes nothing.
 use Prim.Native.Nat.{ℕ, _*_}
 use mathlib.Core.List.{List}
 use lib.ListN.{take, drop}

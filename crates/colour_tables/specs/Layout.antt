@@ -8,7 +8,7 @@
 -- copiesOf n step t == the bytes: for each node its n states, in the order of their colours
 -- colourNumbersLength m n, copiesLength m n == how many these are, of m nodes and n colours
 --
--- n states and any steps: words and sets of states are instances. Assumes nothing.
+-- n states and any steps: words and sets of states are instances.
 use Prim.Native.Nat.{ℕ, zero, suc, _*_}
 use mathlib.Core.List.{List, [], _∷_}
 use Rattle.list_laws.specs.Rows.{rows}

@@ -1,11 +1,9 @@
 -- Values of the tables of colours that lead outside the plan, or not upward, or to no fall.
 --
 -- ColourOutOfRange n k T == such a value of the tables T of n nodes and k colours: what stops a descent. Tables as
---   built have
---   none: on them every descent ends (proofs/Theorems of colour_questions/path_drops)
+--   built have none: on them every descent ends (proofs/Theorems of colour_questions/path_drops)
 --
 -- "18 means that a value read leads outside the plan, the states or the labels, or a climb doesn't rise."
--- Assumes nothing.
 use Prim.Native.Nat.{ℕ, _≤_, _<_}
 use mathlib.Core.Path.{_≡_}
 use mathlib.Core.Logic.{_⊎_}

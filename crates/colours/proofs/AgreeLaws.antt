@@ -3,7 +3,6 @@
 --     SameColour        two forests agree on n nodes, and so does what the colour lands on
 --     next-same         the next drop is the same
 --     descend-agree     and so is the whole descent
--- Assumes nothing.
 use Prim.Native.Nat.{ℕ, zero, suc, _+_, _<_}
 use mathlib.Core.Path.{_≡_, refl, sym, ap, ap₂, _∙_}
 use mathlib.Core.Bool.{Bool, true, false, cond}

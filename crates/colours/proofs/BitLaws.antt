@@ -2,7 +2,6 @@
 --     setOf-below     n states give a number below 2 ^ n
 --     member-setOf    the members are those that the test says
 --     member-single   2 ^ x is the set of x alone
--- Assumes nothing.
 use Prim.Native.Nat.{ℕ, zero, suc, _+_, _*_, _/_, _%_, _^_, _<_}
 use mathlib.Core.Path.{_≡_, refl, sym, ap, _∙_}
 use mathlib.Core.Bool.{Bool, true, false}

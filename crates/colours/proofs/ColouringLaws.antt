@@ -8,7 +8,6 @@
 --
 -- "every copy of Q has one vertex of each of the |Q| colors; when i.q has color c and there is an edge to (i + 1).q',
 -- which is colored with color c', then c ≥ c'" (source document 002, section 2.2.3)
--- Assumes nothing.
 use Prim.Native.Nat.{ℕ, zero, suc, _+_, _≤_, _<_}
 use mathlib.Core.Path.{_≡_, refl, sym, ap, _∙_}
 use mathlib.Core.Bool.{Bool, true, false, cond, _||_}

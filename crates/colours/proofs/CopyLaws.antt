@@ -4,7 +4,6 @@
 --     copyAbove-root, copyAbove-down        the copy above a node: the top copy, or its parent's
 --     copy-recolour                         a copy from the one above
 --     landsAt-state, landsAt-le a colour's state leads to the state of the colour it lands on, which is no higher
--- Assumes nothing.
 use Prim.Native.Nat.{ℕ, zero, suc, _+_, _≤_, _<_}
 use mathlib.Core.Path.{_≡_, refl, sym, ap, _∙_}
 use native.Mathlib.Omega.{arith}

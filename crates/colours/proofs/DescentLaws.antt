@@ -5,7 +5,6 @@
 --                                  way leads to, its drops are the places where the colour falls, and each search is
 --                                  a climb of few moves
 --     descent-drops                fewer drops than colours
--- Assumes nothing.
 use Prim.Native.Nat.{ℕ, zero, suc, _+_, _-_, _*_, _≤_, _<_}
 use mathlib.Core.Path.{_≡_, refl, sym, ap, ap₂, _∙_, subst}
 use mathlib.Core.Bool.{Bool, true, false, cond}

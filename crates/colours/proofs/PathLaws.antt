@@ -5,7 +5,6 @@
 --     colour-kept             where the colour falls nowhere it stays, with no drop
 --     next-drop               at the highest place where it falls it lands on a lower colour, and from there the way
 --                             goes on
--- Assumes nothing.
 use Prim.Native.Nat.{ℕ, zero, suc, _+_, _-_, _≤_, _<_}
 use mathlib.Core.Path.{_≡_, refl, ap, ap₂, _∙_}
 use mathlib.Core.Bool.{Bool, true, false}

@@ -2,7 +2,6 @@
 --     cover   a list that holds every number below m has at least m elements
 --     room    a list of different numbers below m has at most m elements
 --     full    so, where it has m, it holds every number below m
--- Assumes nothing.
 use Prim.Native.Nat.{ℕ, zero, suc, _≤_, _<_}
 use mathlib.Core.Path.{_≡_, refl, sym, ap, _∙_}
 use mathlib.Core.Bool.{Bool, true, false, cond, _||_}

@@ -1,7 +1,6 @@
 -- A root whose step changes nothing has the top copy as its own.
 --     root-copy   so for any number of states
 --     set-root    sets of states: "the root's own"
--- Assumes nothing.
 use Prim.Native.Nat.{ℕ, zero, suc, _+_, _≤_, _<_}
 use mathlib.Core.Path.{_≡_, refl, sym, ap, _∙_}
 use native.Mathlib.Omega.{arith}

@@ -1,7 +1,6 @@
 -- Computed samples of the definitions.
 --     recolour-sample   colours take states in turn
 --     tight             a branch whose colour falls S - 1 times: the bound is met
--- Assumes nothing.
 use Prim.Native.Nat.{_+_, _*_}
 use mathlib.Core.Path.{_≡_, refl}
 use mathlib.Core.Bool.{true}

@@ -5,7 +5,6 @@
 --     try-uncoloured, try-lost, try-found, try-on   one trial, by what comes of it
 --     targets                trying target states in rising order up to it finds the walk's state, with few drops
 --     targets-sixty          at most 60 drops for up to four states
--- Assumes nothing.
 use Prim.Native.Nat.{ℕ, zero, suc, _+_, _-_, _*_, _^_, _≤_, _<_}
 use mathlib.Core.Path.{_≡_, refl, sym, ap, ap₂, _∙_, subst}
 use mathlib.Core.Bool.{Bool, true, false, cond}

@@ -6,7 +6,6 @@
 --     most
 --     set-targets           the state of a part's climb, by trying target states in rising order: 60 drops at most
 --     links-limit           each search takes at most 45 links
--- Assumes nothing.
 use Prim.Native.Nat.{ℕ, suc, _-_, _*_, _≤_, _<_}
 use mathlib.Core.Path.{_≡_, ap, _∙_}
 use mathlib.Core.List.{List}

@@ -5,7 +5,6 @@
 --     lands-turn, lands-place what colour c lands on is known in its turn: the lower colour that has the state, or
 --     itself
 --     map-at, recolour-map, lands-map   a step's copy from the states that it leads to
--- Assumes nothing.
 use Prim.Native.Nat.{ℕ, zero, suc, _+_, _<_}
 use mathlib.Core.Path.{_≡_, refl, sym, ap, ap₂, _∙_}
 use mathlib.Core.Bool.{Bool, true, false, cond}

@@ -3,7 +3,6 @@
 --     upper-answer     with the upper node: the run on the word from u down to l
 --     below-answer     without it: the run on the labels below u
 --     upper-drops, below-drops   their drops are the places on the path where the colour falls
--- Assumes nothing.
 use Prim.Native.Nat.{ℕ, zero, suc, _+_, _-_, _*_, _≤_, _<_}
 use mathlib.Core.Path.{_≡_, refl, sym, ap, ap₂, _∙_}
 use mathlib.Core.Bool.{true}

@@ -11,7 +11,6 @@
 -- Colouring n xs == each of n states has exactly one of n colours
 --
 -- Any number of states and any f: words and sets of states are instances (Words, StateSets).
--- Assumes nothing.
 use Prim.Native.Nat.{ℕ, zero, suc, _<_}
 use mathlib.Core.Path.{_≡_}
 use mathlib.Core.Bool.{true, cond}

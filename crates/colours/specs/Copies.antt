@@ -10,7 +10,6 @@
 -- dropsDown .. l k c == document 02's drops: the places on that way where the colour falls
 --
 -- For sets of states the top copy is the root's own: their step into the root's copy changes nothing (StateSets).
--- Assumes nothing.
 use Prim.Native.Nat.{ℕ, zero, suc, _+_}
 use mathlib.Core.Bool.{Bool}
 use mathlib.Core.List.{List}

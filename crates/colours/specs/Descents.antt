@@ -16,7 +16,6 @@
 --
 -- "A next drop is found by 01's jumps and climb among the nodes where that colour falls, depth being their number
 -- above, from the lowest left on the path to the highest; the moves are the links".
--- Assumes nothing.
 use Prim.Native.Nat.{ℕ, zero, suc, _+_}
 use mathlib.Core.Bool.{cond}
 use mathlib.Core.List.{List, [], _∷_}

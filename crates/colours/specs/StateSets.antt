@@ -11,8 +11,6 @@
 --   set that one leads down to at w holds q; none (18) where no colour has the set {x}, a descent has none, or no set
 --   holds q
 -- tryTargets A t c w q == the same by the tree's own colours, all target states in rising order
---
--- Assumes nothing.
 use Prim.Native.Nat.{ℕ, zero, suc, _+_, _*_, _/_, _%_, _^_}
 use mathlib.Core.Bool.{Bool, cond}
 use mathlib.Core.List.{List, _++_}

@@ -8,7 +8,6 @@
 --
 -- Both are put for a node l at u or below it. State 0 is the start; its colour is looked up in the copy where the
 -- word begins.
--- Assumes nothing.
 use Prim.Native.Nat.{ℕ, _+_}
 use mathlib.Core.Bool.{cond}
 use mathlib.Core.Option.{Option, none, some}

@@ -2,7 +2,6 @@
 -- every line, here they do not.
 --     gap-told         N 13, the list 1→0, 3→1: 2 parts, 3 links, 5 nodes passed over, which the reference model settles
 --     gap-turned-down  and turns down the links told in their place, one node less, and one more
--- Assumes nothing.
 use Prim.Native.Nat.{ℕ}
 use mathlib.Core.Path.{_≡_, refl}
 use mathlib.Core.Bool.{Bool, true, false}

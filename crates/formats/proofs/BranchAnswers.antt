@@ -2,7 +2,6 @@
 --     steps-off .. branch-end     check 8 by its parts
 --     values-steps, values-branch check 9 by its parts
 --     branch-6 .. branch-good     the answers
--- Assumes nothing.
 use Prim.Native.Nat.{ℕ, _+_, _-_, _*_, _≤_, _<_}
 use mathlib.Core.Path.{_≡_, sym, ap, ap₂, _∙_}
 use mathlib.Core.Bool.{Bool, true, false, not, _&&_}

@@ -7,7 +7,6 @@
 --                                 every state and mark in its limit, at every place: past the end it is 0
 --     steps-part, branch-marks-part
 --                                 what `&branch[16..16 + s * k]` and `&branch[16 + s * k..]` are to a proof
--- Assumes nothing.
 use Prim.Native.Nat.{ℕ, _+_, _-_, _*_, _≤_, _<_}
 use mathlib.Core.Path.{_≡_, sym, ap₂, _∙_}
 use mathlib.Core.Bool.{Bool, true, _&&_}

@@ -7,7 +7,6 @@
 --     Headers, headers-are
 --     headers-no, headed-end, headed-by        headedBuffersFit by its two halves
 --     Headed, headed-are, are-headed           what it says, by name
--- Assumes nothing.
 use Prim.Native.Nat.{ℕ, _+_, _*_, _≤_, _<_}
 use mathlib.Core.Path.{_≡_, sym, ap, ap₂, _∙_}
 use mathlib.Core.Bool.{Bool, true, false, _&&_}

@@ -2,7 +2,6 @@
 --     bytes-number        the four bytes of a number below 2 to the power 32 make the number again
 --     number-bytes        the number that four bytes make has those bytes
 --     read-bytes          a number that is read from bytes has the bytes that were read
--- Assumes nothing.
 use Prim.Native.Nat.{ℕ, _+_, _*_, _/_, _%_, _≤_, _<_}
 use mathlib.Core.Path.{_≡_, refl, sym, _∙_}
 use mathlib.Core.List.{List, [], _∷_}

@@ -4,7 +4,6 @@
 --     Numbered cs                   no check has the number 0, so that 0 says that none fails
 --     firstNo-append-zero, -suc     the first no of two lists in a row, from that of the first list; -no the same with no number
 --     firstNo-append-left, -right   where nothing of both fails, nothing of either fails
--- Assumes nothing.
 use Prim.Native.Nat.{ℕ, suc, _<_}
 use mathlib.Core.Path.{_≡_, refl, sym, _∙_}
 use mathlib.Core.Bool.{Bool, true, false, cond, _&&_}

@@ -3,7 +3,6 @@
 --     high-clear    the mask's test is that no byte is 128 or more
 --     Eight, eight  what after_eight needs of the kinds that it reads
 --     after-short, after-all   its two answers
--- Assumes nothing.
 use Prim.Native.Nat.{ℕ, zero, suc, _+_, _-_, _*_, _/_, _%_, _^_, _≤_, _<_}
 use mathlib.Core.Path.{_≡_, refl, sym, ap, ap₂, _∙_, subst}
 use mathlib.Core.Bool.{Bool, true, false, cond, not, _&&_}

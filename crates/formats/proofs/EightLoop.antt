@@ -1,7 +1,6 @@
 -- The loop over eight kinds at a time: what is known after i kinds.
 --     Blocks           w trees wait, and the test of the rest is that of all
 --     blocks-start, blocks-iteration; no-kinds, blocks-stop where the answer is no
--- Assumes nothing.
 use Prim.Native.Nat.{ℕ, zero, suc, _+_, _-_, _*_, _/_, _%_, _^_, _≤_, _<_}
 use mathlib.Core.Path.{_≡_, refl, sym, ap, _∙_, subst}
 use mathlib.Core.Bool.{Bool, true, false}

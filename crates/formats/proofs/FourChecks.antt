@@ -2,7 +2,6 @@
 --     four-pass, pass-four        where no number is given all four pass, and back
 --     four-1 .. four-4            the first no of four
 --     three-pass, pass-three, three-1 .. three-3    the same of three
--- Assumes nothing.
 use Prim.Native.Nat.{ℕ, suc, _+_, _-_, _≤_}
 use mathlib.Core.Path.{_≡_, refl, ap}
 use mathlib.Core.Bool.{Bool, true, false}

@@ -4,7 +4,6 @@
 --                                 plan, table (of either kind, with checks ts) and labels
 --     room-no, room-good          room after checks ts
 --     then-list                   a list after checks ts
--- Assumes nothing.
 use Prim.Native.Nat.{ℕ, _+_, _*_, _≤_, _<_}
 use mathlib.Core.Path.{_≡_, sym, ap, ap₂, _∙_}
 use mathlib.Core.Bool.{Bool, true, false, not}

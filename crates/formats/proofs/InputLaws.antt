@@ -6,7 +6,6 @@
 --     label-below                 every label of the plan is below K, at every place: past the end it is 0
 --     build-table, branch-build-table, fresh-run-table
 --                                 where 2 to 11, or 2 to 14, pass, 2 to 10 do
--- Assumes nothing.
 use Prim.Native.Nat.{ℕ, _+_, _≤_, _<_}
 use mathlib.Core.Path.{_≡_, _∙_}
 use mathlib.Core.Bool.{true}

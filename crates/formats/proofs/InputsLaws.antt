@@ -6,7 +6,6 @@
 --     same-node-inputs, node-inputs-same  exactly where sameNodeInputs says so; same-inputs-nodes: where sameInputs does
 --     same-state-table                    and where sameInputs does, the state tables are the same
 --     same-excess                         longer tables are the same inputs
--- Assumes nothing.
 use Prim.Native.Nat.{ℕ, zero, suc, _≤_}
 use mathlib.Core.Path.{_≡_, refl, ap}
 use mathlib.Core.Bool.{Bool, true, _&&_}

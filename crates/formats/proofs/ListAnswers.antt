@@ -1,5 +1,4 @@
 -- The number that each refusal of a list of changes gives: 12 to 14, by the answers of its three tests.
--- Assumes nothing.
 use Prim.Native.Nat.{ℕ}
 use mathlib.Core.Path.{_≡_, sym, _∙_}
 use mathlib.Core.Bool.{Bool, true, false, not}

@@ -1,5 +1,4 @@
 -- The number that each refusal of a plan gives: 2 to 5, by what the code finds.
--- Assumes nothing.
 use Prim.Native.Nat.{ℕ, _+_, _≤_, _<_}
 use mathlib.Core.Path.{_≡_, sym}
 use mathlib.Core.Bool.{Bool, true, false, _&&_}

@@ -6,7 +6,6 @@
 --                                  the two runs of such a plan and its tree
 --     labels-part, kinds-part      what `&plan[12..12 + n]` and `&plan[12 + n..]` are to a proof
 -- Not here: the numbers that a refusal gives (proofs/plan/check_plan), the way from trees to plans (PlanTheorems).
--- Assumes nothing.
 use Prim.Native.Nat.{ℕ, _+_, _-_, _*_, _≤_, _<_}
 use mathlib.Core.Path.{_≡_, sym, ap, _∙_}
 use mathlib.Core.Bool.{Bool, true, false, _&&_}

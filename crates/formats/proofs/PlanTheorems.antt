@@ -3,7 +3,6 @@
 --     one-tree, only-tree two trees have no plan in common, so it is the tree that is read
 --     one-node            N 1 is accepted with 14 bytes
 --     two-nodes           N 2 gets 5, whatever the kinds; two-nodes-any: there are such bytes
--- Assumes nothing.
 use Prim.Native.Nat.{ℕ, zero, suc, _+_, _≤_}
 use mathlib.Core.Path.{_≡_, refl, sym, ap, _∙_, subst}
 use mathlib.Core.Bool.{true, false}

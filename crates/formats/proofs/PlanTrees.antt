@@ -4,7 +4,6 @@
 --     planBytes-passes    the plan of a tree of at most 65,535 nodes passes
 --     tree-plan           planTree (planBytes t) is t again
 -- Not here: the theorems (PlanTheorems).
--- Assumes nothing.
 use Prim.Native.Nat.{ℕ, _+_, _*_, _≤_, _<_}
 use mathlib.Core.Path.{_≡_, refl, sym, ap, ap₂, _∙_}
 use mathlib.Core.Bool.{true}

@@ -4,7 +4,6 @@
 --     shape-leaves .. shape-end   check 8 by its parts
 --     values-leaves .. values-end check 9 by its parts
 --     rules-6 .. rules-good       the answers
--- Assumes nothing.
 use Prim.Native.Nat.{ℕ, _+_, _-_, _*_, _≤_, _<_}
 use mathlib.Core.Path.{_≡_, sym, ap, ap₂, _∙_}
 use mathlib.Core.Bool.{Bool, true, false, not, _&&_}

@@ -7,7 +7,6 @@
 --     rule-in                     the place of a rule is inside the inner states
 --     leaves-part, inner-part, marks-part
 --                                 what `&rules[20..20 + k]`, `&rules[20 + k..20 + k + s * k * s]` and the rest are to a proof
--- Assumes nothing.
 use Prim.Native.Nat.{ℕ, _+_, _-_, _*_, _≤_, _<_}
 use mathlib.Core.Path.{_≡_, sym, ap, ap₂, _∙_}
 use mathlib.Core.Bool.{Bool, true, _&&_}

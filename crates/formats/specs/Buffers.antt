@@ -9,8 +9,6 @@
 -- headedBuffersFit kind p r nodeTable bytes == check 17 where N, S and K are those of the headers; nodeTable and bytes are the lengths of the
 --   table buffers
 -- LimitArgs n s k == n, s and k are not above their limits
---
--- Assumes nothing.
 use Prim.Native.Nat.{ℕ, _≤_}
 use mathlib.Core.Bool.{Bool, _&&_}
 use mathlib.Core.List.{List}

@@ -5,8 +5,6 @@
 -- NodeTableBuilt p nodeTable == p is a plan and the numbers are its own
 -- AsBuilt p r nodeTable bytes == plan and rules pass 2 to 10 and both buffers begin with what the build writes; BranchBuilt the same
 --   for a branch table
---
--- Assumes nothing.
 use Prim.Native.Nat.{ℕ}
 use mathlib.Core.Path.{_≡_}
 use mathlib.Core.List.{List}

@@ -5,7 +5,6 @@
 -- le16 b at, le16Bytes n == the same for 16 bits
 --
 -- "Numbers of more than one byte are unsigned and little-endian"
--- Assumes nothing.
 use Prim.Native.Nat.{ℕ, _+_, _*_, _/_, _%_}
 use mathlib.Core.Bool.{Bool, true, false, not, _&&_, _||_}
 use mathlib.Core.List.{List, [], _∷_}

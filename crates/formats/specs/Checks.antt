@@ -9,7 +9,6 @@
 -- nodeTableLength n, stateTableLength n s == what n nodes and s states need of the two table buffers
 --
 -- Not here: 1 (the session), 16 and 18 (the branch question and the questions layer), 17 (Buffers).
--- Assumes nothing.
 use Prim.Native.Nat.{ℕ, _+_, _*_}
 use mathlib.Core.Bool.{Bool, cond, _&&_}
 use mathlib.Core.List.{List, [], _∷_, _++_}

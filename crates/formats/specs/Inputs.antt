@@ -11,7 +11,7 @@
 -- stateTableBuilt z x == the state table is too; sound z x == both
 -- statesBelow z x == every byte of the state table in use is below S
 --
--- Laws: proofs/InputsLaws. Assumes nothing.
+-- Laws: proofs/InputsLaws.
 use Prim.Native.Nat.{ℕ}
 use mathlib.Core.Bool.{Bool, _&&_}
 use mathlib.Core.List.{List}

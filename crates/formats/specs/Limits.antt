@@ -3,7 +3,6 @@
 -- "N 1 to 65,535; S 1 to 16; K 1 to 64; m, the changes in a list, 0 to 64."
 --
 -- within low high n == whether low ≤ n ≤ high
--- Assumes nothing.
 use Prim.Native.Nat.{ℕ}
 use mathlib.Core.Bool.{Bool, _&&_}
 use lib.Dec.{leb}

@@ -5,8 +5,6 @@
 -- labelsIn p, kindsIn p == the run of labels and the run of kinds
 -- planTree p == the tree of a plan; leaf 0 where the kinds are no tree's
 -- planBytes t == the plan of a tree
---
--- Assumes nothing.
 use Prim.Native.Nat.{ℕ, _+_, _*_}
 use mathlib.Core.List.{List, _++_}
 use lib.ListN.{take, drop}

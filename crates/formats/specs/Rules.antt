@@ -5,8 +5,6 @@
 -- leafStates, innerStates, ruleMarks == the three runs of a rule table; branchSteps, branchMarks == the two of a branch table
 -- treeAutomaton s k lv inn mk, wordAutomaton s k st mk == the automaton of such runs; past a run's end the state is 0
 -- ruleAutomaton r, branchAutomaton r == that of the bytes
---
--- Assumes nothing.
 use Prim.Native.Nat.{ℕ, _+_, _*_}
 use mathlib.Core.List.{List}
 use lib.Dec.{eqb}

@@ -1,7 +1,6 @@
 -- What lists in a row have at a place.
 --     at-left, at-middle, at-right   three lists, one after the other
 --     getD-past                      a list put in front of the rest of another: past it, the other as it was
--- Assumes nothing.
 use Prim.Native.Nat.{ℕ, _+_, _-_, _≤_, _<_}
 use mathlib.Core.Path.{_≡_, ap, _∙_}
 use mathlib.Core.List.{List, _++_}

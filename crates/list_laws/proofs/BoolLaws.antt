@@ -4,7 +4,6 @@
 --     and-next                       a test that passes leaves the next to decide
 --     and-assoc, and-yes             a conjunction regrouped, and with true; or-assoc, or-no for a disjunction
 --     or-cases, or-first, or-second  what a disjunction says, and back
--- Assumes nothing.
 use Prim.Native.Nat.{ℕ}
 use mathlib.Core.Path.{_≡_, refl, sym}
 use mathlib.Core.Bool.{Bool, true, false, _&&_, _||_}

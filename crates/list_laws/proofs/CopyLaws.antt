@@ -1,6 +1,5 @@
 -- A copy of w numbers at most to the front of a buffer.
 --     CopyLoop, copy-start, copy-next, copy-done    its loop: i numbers are copied
--- Assumes nothing.
 use Prim.Native.Nat.{ℕ, suc, _+_, _≤_, _<_}
 use mathlib.Core.Path.{_≡_, refl, sym, ap, ap₂, _∙_}
 use mathlib.Core.List.{List, [], _∷_, _++_}

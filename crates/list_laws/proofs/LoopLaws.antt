@@ -3,7 +3,6 @@
 --     holds-iteration, holds-end       holds with a running answer
 --     distinct-no, distinct-yes, distinct-end
 --                                 distinct from a place on
--- Assumes nothing.
 use Prim.Native.Nat.{ℕ, _+_, _-_, _≤_, _<_}
 use mathlib.Core.Path.{_≡_, refl, sym, ap, _∙_}
 use mathlib.Core.Bool.{Bool, true, false, not, _&&_, _||_}

@@ -3,8 +3,6 @@
 --     length-tabulate ..        a list by its entries
 --     length-rows, getD-rows    a table by its cells
 --     rows-of-cells .. take-over  a buffer whose cells are a table's begins with the table, and back
---
--- Assumes nothing.
 use Prim.Native.Nat.{ℕ, zero, suc, _+_, _-_, _*_, _≤_, _<_}
 use mathlib.Core.Path.{_≡_, refl, sym, ap, _∙_, subst}
 use mathlib.Core.List.{List, [], _∷_, _++_}

@@ -2,7 +2,6 @@
 --     rest-part, end-part    the rest of the list, and the rest where n elements follow
 --     run-part, length-part  n elements from place a on
 --     rest-cut               the rest of the list is a run and the rest behind it; append-both: two equal runs joined
--- Assumes nothing.
 use Prim.Native.Nat.{ℕ, _+_, _-_, _≤_}
 use mathlib.Core.Path.{_≡_, sym, ap, ap₂, _∙_}
 use mathlib.Core.List.{List, _++_}

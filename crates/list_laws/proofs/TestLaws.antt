@@ -4,7 +4,6 @@
 --     allBelow-cons, allBelow-le  one element more; a greater bound
 --     sameList-true, sameList-refl, sameList-false
 --     holds-at, distinct-at       an element that is held has a place; two places of a distinct list differ; at-distinct back
--- Assumes nothing.
 use Prim.Native.Nat.{ℕ, zero, suc, _≤_, _<_}
 use mathlib.Core.Path.{_≡_, refl, sym, ap, ap₂, _∙_}
 use mathlib.Core.Bool.{Bool, true, false, not, _&&_, _||_}

@@ -2,8 +2,6 @@
 --
 -- overBuffer n a d == the buffer d with the first n numbers of a at its front; behind them what was there
 -- CopyArgs w a n d == a has w numbers, and d has room for the first n of them
---
--- Assumes nothing.
 use Prim.Native.Nat.{ℕ, _≤_}
 use mathlib.Core.Path.{_≡_}
 use mathlib.Core.List.{List, _++_}

@@ -2,8 +2,6 @@
 --
 -- tabulate n f == f 0, f 1, .. f (n - 1)
 -- rows n f == the lists f 0, f 1, .. f (n - 1), one after the other
---
--- Assumes nothing.
 use Prim.Native.Nat.{ℕ, zero, suc}
 use mathlib.Core.List.{List, [], _∷_, _++_}
 

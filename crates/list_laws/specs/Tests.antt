@@ -4,8 +4,6 @@
 -- holds x l == whether x is an element of l
 -- distinct l == whether no element stands twice in l
 -- sameList l m == whether l and m are the same list
---
--- Assumes nothing.
 use Prim.Native.Nat.{ℕ}
 use mathlib.Core.Bool.{Bool, true, false, not, _&&_, _||_}
 use mathlib.Core.List.{List, [], _∷_}

@@ -6,7 +6,6 @@
 --     Layers                       the facts
 -- They are stated with what the questions layer defines (partOn) and what document 01 means (roots, partOf), and ask no more
 -- than the calls' checks and the reference model give: the states before may be any below S, those of the state table too.
--- Assumes nothing.
 use Prim.Native.Nat.{ℕ, _<_}
 use mathlib.Core.Path.{_≡_}
 use mathlib.Core.Bool.{true}

@@ -1,7 +1,6 @@
 -- The facts that the model takes from the questions layer hold: proved from that layer's theorems roots-built, rootsOn-are, part-built.
 --     tree-size, cells    on inputs as built the tree has N nodes, and the node table's cells are the tree's
 --     layers              the facts
--- Assumes nothing.
 use Prim.Native.Nat.{ℕ, zero, suc, _+_, _*_, _≤_, _<_}
 use mathlib.Core.Path.{_≡_, refl, sym, ap, ap₂, _∙_, subst}
 use mathlib.Core.Bool.{Bool, true, false, cond, _&&_}

@@ -3,7 +3,6 @@
 --     start-usable         positive control: what an advance asks of usable tables holds after an accepted Start
 --     advance-numbers      18 is no number of an advance's checks: it is left to the program
 --     advance-properties   advance
--- Assumes nothing.
 use Prim.Native.Nat.{ℕ, zero, suc, _+_, _≤_, _<_}
 use mathlib.Core.Path.{_≡_, refl, sym, ap, ap₂, _∙_, subst}
 use mathlib.Core.Bool.{Bool, true, false, cond}

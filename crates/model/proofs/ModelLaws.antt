@@ -6,7 +6,6 @@
 --     left-below, left-most    of a list that passes 12 to 14 what is left in W does
 --     some-root        there is always a part: the plan's root
 --     marks-built      the accept marks by the record's S and K are the rule table's
--- Assumes nothing.
 use Prim.Native.Nat.{ℕ, _+_, _-_, _*_, _≤_, _<_}
 use mathlib.Core.Path.{_≡_, refl, sym, ap, ap₂, _∙_}
 use mathlib.Core.Bool.{Bool, true}

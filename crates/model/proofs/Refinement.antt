@@ -1,7 +1,6 @@
 -- Forms of the calls that refine another form: by value, in place, and as bytes.
 --     Refines     each step of the first form, seen as one of the second
 --     refines     so histories of the first are histories of the second
--- Assumes nothing.
 use mathlib.Core.List.{List, [], _∷_}
 use Rattle.model.specs.History.{History, done, call}
 

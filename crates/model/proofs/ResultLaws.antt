@@ -4,7 +4,6 @@
 --     below-more            one more state
 --     from-more             the parts of one more root
 --     from-nodes, from-links    parts worked out one after the other: their roots, and their links in all
--- Assumes nothing.
 use Prim.Native.Nat.{ℕ, suc, _+_, _<_}
 use mathlib.Core.Path.{_≡_, refl, ap, _∙_}
 use mathlib.Core.Bool.{true}

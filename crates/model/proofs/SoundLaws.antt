@@ -1,7 +1,6 @@
 -- Start's 18.
 --     sound-yes, yes-sound, not-sound, sound-is    the test says what the statement says
 --     start-18                          Start answers 18 exactly where no check before it fails and the inputs are not sound
--- Assumes nothing.
 use Prim.Native.Nat.{ℕ, zero, suc}
 use mathlib.Core.Path.{_≡_, refl, sym, ap, ap₂, _∙_, subst}
 use mathlib.Core.Bool.{Bool, true, false}

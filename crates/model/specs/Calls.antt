@@ -10,8 +10,6 @@
 -- Phase == which of the four states a session is in
 -- mayLoad, mayStart, isRunning == in which states a call may be made; Read goes by whether an answer is there
 -- isSome o == whether an option holds something
---
--- Assumes nothing.
 use Prim.Native.Nat.{ℕ}
 use mathlib.Core.Bool.{Bool, true, false}
 use mathlib.Core.List.{List}

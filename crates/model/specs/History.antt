@@ -2,7 +2,7 @@
 --
 -- History Step r cs xs == records and answers linked by the calls' contracts, from record r on: the calls cs with the answers xs
 --
--- The contracts come in as `Step`, over any calls and answers. Assumes nothing.
+-- The contracts come in as `Step`, over any calls and answers.
 use mathlib.Core.List.{List, [], _∷_}
 
 -- "Only the record passes from call to call, and nobody else writes it."

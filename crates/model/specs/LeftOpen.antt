@@ -7,8 +7,6 @@
 --   more, at most the greatest depth lent; 18 only where a value leads out of
 --   range; on usable tables the rule's, never 18
 -- LeftOpen r c a r′ == of a call's; the others leave nothing to the program
---
--- Assumes nothing.
 use Prim.Native.Nat.{ℕ, _+_, _≤_, _<_}
 use mathlib.Core.Path.{_≡_}
 use mathlib.Core.Bool.{true, false}

@@ -11,7 +11,6 @@
 -- Does r c a r′ == the same as a relation
 --
 -- What an advance leaves to the program goes by a definition of the questions layer: partOn; 18 where it gives none.
--- Assumes nothing.
 use Prim.Native.Nat.{ℕ, zero, suc, _+_, _*_}
 use mathlib.Core.Path.{_≡_}
 use mathlib.Core.Bool.{Bool, true, false, cond}

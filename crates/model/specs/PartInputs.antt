@@ -2,8 +2,6 @@
 --
 -- givenOf z y x vs bs == plan and rules of the inputs y, the list's labels laid over the plan's, and the run states and maps in the
 --   state table of the inputs x, by the sizes z. y is what a question's Start was given, x what an advance is given
---
--- Assumes nothing.
 use Prim.Native.Nat.{ℕ}
 use mathlib.Core.List.{List}
 use Rattle.trees.specs.Changes.{changed}

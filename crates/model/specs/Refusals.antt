@@ -5,8 +5,6 @@
 -- checksBefore18 t x vs bs == Start's checks but the last; startChecks t x vs bs == all of them
 -- refusal t c == the number of the first failing check of call c at stage t; 0 where none fails. It looks at the stage and the inputs
 --   alone, so the reference model and the calls share it
---
--- Assumes nothing.
 use Prim.Native.Nat.{ℕ}
 use mathlib.Core.Bool.{Bool}
 use mathlib.Core.List.{List, [], _∷_, _++_}

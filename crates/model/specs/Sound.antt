@@ -2,8 +2,6 @@
 --
 -- Sound z x == "plan and rules pass 2 to 10 with that N, S and K and the tables, excess aside, are what Load writes from them"; the
 --   test is `sound` (crate formats, Inputs). The plan need not be the one that was loaded
---
--- Assumes nothing.
 use mathlib.Core.Path.{_≡_}
 use Rattle.formats.specs.Plan.{nodeCount}
 use Rattle.formats.specs.Rules.{stateCount, labelCount}

@@ -2,7 +2,6 @@
 --     out-19, out-20, out-21, out-good         going out: one law for each number
 --     OutPasses, out-passes                    what is known where nothing fails
 --     home-19, home-21, home-good              going home
--- Assumes nothing.
 use Prim.Native.Nat.{ℕ, _+_, _*_, _≤_}
 use mathlib.Core.Path.{_≡_, sym, ap, _∙_}
 use mathlib.Core.Bool.{Bool, true, false, _&&_}

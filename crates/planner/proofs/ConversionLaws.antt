@@ -1,7 +1,6 @@
 -- S-2: out and home.
 --     out-goes-home    what goes out is our plan of an acceptable tree, and comes home as the file that it was
 --     home-exactly     a plan goes home exactly where it is the image of an acceptable tree
--- Assumes nothing.
 use Prim.Native.Nat.{ℕ, _+_, _*_, _≤_, _<_}
 use mathlib.Core.Path.{_≡_, refl, sym, ap, ap₂, _∙_, subst}
 use mathlib.Core.Bool.{Bool, true, false, _&&_}

@@ -2,7 +2,6 @@
 --     file-tree       a well-formed file is the file of the tree that is read from it, which is one tree
 --     tree-file       the file of an acceptable tree is well formed, and that tree is read from it
 -- Not here: the theorems (Theorems).
--- Assumes nothing.
 use Prim.Native.Nat.{ℕ, _+_, _*_, _≤_, _<_}
 use mathlib.Core.Path.{_≡_, refl, sym, ap, ap₂, _∙_}
 use mathlib.Core.Bool.{Bool, true, false, _&&_}

@@ -3,7 +3,6 @@
 --     homeward-rest        later siblings are written, and the node above gets the count of its list
 --     homeward-children    a children's list is written, and then its node with all that this completes
 --     homeward-tree        so a whole image gives its file
--- Assumes nothing.
 use Prim.Native.Nat.{ℕ, zero, suc, _+_, _-_, _≤_, _<_}
 use mathlib.Core.Path.{_≡_, refl, sym, ap, ap₂, _∙_, subst}
 use mathlib.Core.Bool.{Bool, true, false, not}

@@ -5,7 +5,6 @@
 --       there
 --     length-items       as many items as nodes
 --     place-item         the place given for planner node v is where it stands; item-place: and back
--- Assumes nothing.
 use Prim.Native.Nat.{ℕ, zero, suc, _+_, _*_, _-_, _≤_, _<_}
 use mathlib.Core.Path.{_≡_, refl, sym, ap, ap₂, _∙_}
 use mathlib.Core.Bool.{true, _&&_}

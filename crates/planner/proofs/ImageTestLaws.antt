@@ -3,7 +3,6 @@
 --     runs-counts       no list of siblings has m or more
 --     top-width        one tree at the top
 --     tests-image      so together they are isImage
--- Assumes nothing.
 use Prim.Native.Nat.{ℕ, zero, suc, _+_, _-_, _≤_, _<_}
 use mathlib.Core.Path.{_≡_, refl, sym, ap, ap₂, _∙_, subst}
 use mathlib.Core.Bool.{Bool, true, false, _&&_}

@@ -2,7 +2,6 @@
 --     label-item, kind-item   node j's label and kind are those of item j
 --     readBack-siblings       the nodes of an image, read from the right, are what the loop going home expects
 --       (fromRight)
--- Assumes nothing.
 use Prim.Native.Nat.{ℕ, zero, suc, _+_, _-_, _≤_, _<_}
 use mathlib.Core.Path.{_≡_, refl, sym, ap, ap₂, _∙_}
 use mathlib.Core.List.{List, [], _∷_, _++_, append-assoc, append-nil}

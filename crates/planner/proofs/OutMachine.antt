@@ -3,7 +3,6 @@
 --     outward-tree        so a whole file gives the items of its image
 --     placed-items        how many items there are; placed-siblings: the items of a list of siblings write its places
 --     placed-tree         so a whole file gives its places, and what stands behind them stays
--- Assumes nothing.
 use Prim.Native.Nat.{ℕ, zero, suc, _+_, _-_, _≤_, _<_}
 use mathlib.Core.Path.{_≡_, refl, sym, ap, ap₂, _∙_, subst}
 use mathlib.Core.Bool.{Bool, true, false, not}

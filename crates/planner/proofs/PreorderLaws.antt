@@ -3,7 +3,6 @@
 --     pending-siblings    the counts of a list of siblings are read as that list
 --     siblings-of         counts that make one tree are a tree's counts; siblingsOf gives it
 --     siblings-unique     and no other
--- Assumes nothing.
 use Prim.Native.Nat.{ℕ, zero, suc, _+_, _≤_, _<_}
 use mathlib.Core.Path.{_≡_, refl, sym, ap, ap₂, _∙_, subst}
 use mathlib.Core.Bool.{Bool, true, false, _&&_}

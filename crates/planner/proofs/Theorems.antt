@@ -6,7 +6,6 @@
 --     plan-passes-2-to-5    what goes out is a plan
 --     place-of-node         the place given for a node is where it stands, with its label, as an inner node
 --     tests-are-image       check 19 going home, by tests of labels and kinds
--- Assumes nothing.
 use Prim.Native.Nat.{ℕ, zero, suc, _+_, _*_, _-_, _≤_, _<_}
 use mathlib.Core.Path.{_≡_, refl, sym, ap, _∙_}
 use mathlib.Core.Bool.{Bool, true, false, _&&_}

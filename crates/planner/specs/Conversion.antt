@@ -3,12 +3,10 @@
 -- planOf b == our plan of a planner's file; placesOf b == the places of its nodes, in pre-order
 -- fileOf p == the planner's file of our plan
 -- Acceptable f == f is a tree that a planner's file can hold and that goes out: one tree, counts that are bytes, labels
---   below 63, at most
---   32,767 nodes
+--   below 63, at most 32,767 nodes
 -- GoesHome p == the bytes p are our plan of such a file's tree
 --
 -- "only plans that come from such a file may go home"
--- Assumes nothing.
 use Prim.Native.Nat.{ℕ, _≤_}
 use mathlib.Core.Path.{_≡_}
 use mathlib.Core.Bool.{true}

@@ -3,8 +3,7 @@
 -- fileCount b == n of the header; labelRun b, countRun b == the two runs
 -- fileBytes f == the file of a list of siblings
 -- pending cs w == how many nodes are still to come after the counts cs, where w were to come before; none where a node
---   comes that
---   nobody waits for
+--   comes that nobody waits for
 -- isPreorder cs == whether cs are the child counts of one tree in pre-order
 -- front c f, rest c f == the first c siblings, and those after them
 -- siblingsOf cs ls == the list of siblings of these counts and labels
@@ -14,8 +13,6 @@
 -- isImage t == whether t is the image of a tree that a file can hold; comesFromFile p == whether p is the plan of such
 --   a tree
 -- homeChecks p file == 19, 21 going home; file is the length of the output
---
--- Assumes nothing.
 use Prim.Native.Nat.{ℕ, zero, suc, _+_, _*_}
 use mathlib.Core.Bool.{Bool, true, false, cond, _&&_}
 use mathlib.Core.List.{List, [], _∷_, _++_}
@@ -43,8 +40,7 @@ abbrev pub countRun : List ℕ → List ℕ
 countRun b = take (fileCount b) (drop (12 + fileCount b) b)
 
 -- "a header of count n, offset of labels (12) and offset of child counts (12+n), each 32-bit, then n labels and n
--- counts in pre-order of
--- one tree"
+-- counts in pre-order of one tree"
 unfoldable pub fileBytes : Siblings → List ℕ
 fileBytes f = le32Bytes (count f) ++ (le32Bytes 12 ++ (le32Bytes (12 + count f) ++ (preLabels f ++ preCounts f)))
 

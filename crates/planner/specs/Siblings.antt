@@ -12,9 +12,7 @@
 -- places f lo == for each planner node in pre-order its place in our plan, where the image begins at place lo
 --
 -- "A list of siblings becomes an inner node with the first one's label, its children's list at the left and the rest at
--- the right; an
--- empty list becomes a leaf with label 63. So n nodes become 2n+1."
--- Assumes nothing.
+-- the right; an empty list becomes a leaf with label 63. So n nodes become 2n+1."
 use Prim.Native.Nat.{ℕ, zero, suc, _+_, _-_}
 use mathlib.Core.List.{List, [], _∷_, _++_}
 use mathlib.Core.Option.{Option, none, some}

@@ -4,7 +4,6 @@
 --     clauses          what is promised: P of the arguments, the result and the arguments at exit
 --     Post             what a walk has to end in.   exits   it does, with a result of which P holds
 --     met              a function that is walked to Post meets the promise
--- Assumes nothing.
 use mathlib.Core.Path.{refl}
 use Prim.Native.Nat.{ℕ}
 use mathlib.Core.List.{List, [], _∷_}

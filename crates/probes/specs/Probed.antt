@@ -12,8 +12,6 @@
 -- questionIn x vs bs s == what Read tells after Start and as many advances as it told parts
 -- callNumber a == the number of an answer to Load or Cancel: 0 for one that is no refusal
 -- lifeIn x y vs bs == what a life of a session tells, Load lent x and the later calls y: from fresh, Load, Start, Cancel and a question
---
--- Assumes nothing.
 use Prim.Native.Nat.{ℕ, zero, suc}
 use mathlib.Core.Path.{_≡_}
 use mathlib.Core.Bool.{false}

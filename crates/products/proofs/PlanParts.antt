@@ -1,7 +1,6 @@
 -- A plan's parts are plans.
 --     plan-parts, parts-plan    of an inner node
 --     one-below, below-one      of a leaf
--- Assumes nothing.
 use Prim.Native.Nat.{ℕ, _<_}
 use mathlib.Core.Path.{_≡_, refl}
 use mathlib.Core.Bool.{Bool, true, false, _&&_}

@@ -3,7 +3,6 @@
 --     product-run        at every node: the whole run
 --     product-accepts    so its answer is the joined answers
 --     product-below      and its states are below the product of the counts
--- Assumes nothing.
 use Prim.Native.Nat.{ℕ, _+_, _*_, _/_, _%_, _<_}
 use mathlib.Core.Path.{_≡_, refl, sym, ap, ap₂, _∙_}
 use mathlib.Core.Bool.{Bool}

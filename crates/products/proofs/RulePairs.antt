@@ -4,7 +4,6 @@
 --     pair-step-below          so are its inner states, and with them every state of its run
 --     pair-run, pair-accepts   the product's run is the pair of runs; its answer is that of the two
 --     pair-count, pair-most    there is 1 state at least, and at most 256
--- Assumes nothing.
 use Prim.Native.Nat.{ℕ, _+_, _*_, _≤_, _<_}
 use mathlib.Core.Path.{_≡_}
 use mathlib.Core.Bool.{Bool}

@@ -2,7 +2,6 @@
 --     run-of-pair       the product's run is the pair of runs, at every node of every tree
 --     answer-of-pair    its answer is the operation on the two answers
 --     tables-run, tables-answer    so for two rule tables that pass 6 to 9
--- Assumes nothing.
 use Prim.Native.Nat.{ℕ, _<_}
 use mathlib.Core.Path.{_≡_}
 use mathlib.Core.Bool.{Bool}

@@ -4,7 +4,6 @@
 --
 -- Merging and agreement are about plans only. The automaton of a table's bytes has values at labels from k on too (it reads another
 -- cell, or 0 past the run), and there nothing is said: two tables that agree on every plan may differ on them.
--- Assumes nothing.
 use Prim.Native.Nat.{ℕ}
 use mathlib.Core.Path.{_≡_}
 use mathlib.Core.Bool.{true}

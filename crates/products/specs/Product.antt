@@ -8,7 +8,6 @@
 -- "State p of the first and q of the second become p×S2+q, where S2 is the second's count of states"
 -- Merging (S-6) takes "and" for f, agreement (S-13) takes `differ`: one product, one law of its run.
 -- In which trees a rule table's automaton means anything is in Plans; the laws are in proofs/.
--- Assumes nothing.
 use Prim.Native.Nat.{ℕ, _+_, _*_, _/_, _%_}
 use mathlib.Core.Bool.{Bool, true, false, not}
 use Rattle.trees.specs.Tree.{Tree, leaf, node}

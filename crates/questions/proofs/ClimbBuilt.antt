@@ -1,7 +1,6 @@
 -- On numbers as built and bytes below S: what one move and one climb read is in range, and they give what the rule gives.
 --     move-built     a move from a node below the root
 --     climb-built    a climb to the depth of a node above: its state, its links, and the difference of the depths passed over
--- Assumes nothing.
 use Prim.Native.Nat.{ℕ, zero, suc, _+_, _-_, _*_, _≤_, _<_}
 use mathlib.Core.Path.{_≡_, refl, sym, ap, ap₂, _∙_, subst}
 use mathlib.Core.Bool.{Bool, true, false, cond}

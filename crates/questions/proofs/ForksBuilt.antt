@@ -2,7 +2,6 @@
 --     Added t a bs l k     k is l with the nodes bs and, for neighbours whose lowest common ancestor is not the second, that ancestor
 --                          and its two children; nothing else
 --     forks-built          forksOn gives such a list
--- Assumes nothing.
 use Prim.Native.Nat.{ℕ, zero, suc, _+_, _-_, _≤_, _<_}
 use mathlib.Core.Path.{_≡_, refl, sym, ap, _∙_, subst}
 use mathlib.Core.Bool.{Bool, true, false, cond, _&&_}

@@ -2,7 +2,6 @@
 --     fork-keeps, meet-keeps    what a fork and a meeting are added to stays
 --     forks-keep                all turns keep what is there, and add every wanted node
 --     given-listed              so the roots that are given have every listed node
--- Assumes nothing.
 use Prim.Native.Nat.{ℕ, _-_, _<_}
 use mathlib.Core.Path.{_≡_, refl, sym, _∙_, subst}
 use mathlib.Core.Bool.{Bool, true, false, cond, _&&_}

@@ -3,7 +3,6 @@
 --     meet-past     the lowest common ancestor is that of a node further up which does not have u below it
 --     meet-built    what meetOn tells on numbers as built
 --     meet-unique   two nodes have one lowest common ancestor
--- Assumes nothing.
 use Prim.Native.Nat.{ℕ, zero, suc, _+_, _-_, _≤_, _<_}
 use mathlib.Core.Path.{_≡_, refl, sym, ap, _∙_, subst}
 use mathlib.Core.Bool.{Bool, true, false, cond, _&&_}

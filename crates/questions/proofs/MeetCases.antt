@@ -2,7 +2,6 @@
 --     rising-outside, rising-flat, rising-up   if_rising
 --     jump-outside, parent-taken, jump-taken   next_unless, by what the code has read: j the jump, p the parent
 --     Searching, searching-iteration, ..     the loop of meet: node x has still what is looked for from node v on
--- Assumes nothing.
 use Prim.Native.Nat.{ℕ, _+_, _-_, _≤_, _<_}
 use mathlib.Core.Path.{_≡_, refl, sym, ap, _∙_}
 use mathlib.Core.Bool.{Bool, true, false, cond, _&&_}

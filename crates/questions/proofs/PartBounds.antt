@@ -4,7 +4,6 @@
 --     part-bounded                      of every part
 --     partGiven-below                   "every state below S": of the part that a caller asks for
 --     part-links, part-passed           its links fit, and the nodes passed over: it makes one climb at most
--- Assumes nothing.
 use Prim.Native.Nat.{ℕ, zero, suc, _+_, _-_, _*_, _≤_, _<_}
 use mathlib.Core.Path.{_≡_, refl, subst}
 use mathlib.Core.Bool.{Bool, true, false, cond, _&&_}

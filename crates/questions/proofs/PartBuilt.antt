@@ -1,7 +1,6 @@
 -- On numbers as built and bytes below S a part is what the rule of "Parts of a question" gives on those bytes.
 --     found-built           the root found below a child is the highest member below it
 --     part-built            partOn gives the rule's state and links and the nodes passed over, and never 18
--- Assumes nothing.
 use Prim.Native.Nat.{ℕ, zero, suc, _+_, _-_, _≤_, _<_}
 use mathlib.Core.Path.{_≡_, refl, sym, ap, ap₂, _∙_, subst}
 use mathlib.Core.Bool.{Bool, true, false, cond, _&&_, _||_}

@@ -2,7 +2,6 @@
 --     roots-short .. asked-end                         askedFits by its tests; the last decides where the others pass
 --     Asked, asked-are                                 what it says, by name, where it says yes
 --     given-limits, given-lengths, given-asked, given-yes   partGiven by the three
--- Assumes nothing.
 use Prim.Native.Nat.{ℕ, _≤_, _<_}
 use mathlib.Core.Path.{_≡_, _∙_}
 use mathlib.Core.Bool.{Bool, true, false, _&&_}

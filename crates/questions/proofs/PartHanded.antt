@@ -2,7 +2,6 @@
 --     Fit, fit-by      all that the three tests say
 --     part-args        so every read is inside its run
 --     part-answer        the part on the runs is the part that the caller asks for
--- Assumes nothing.
 use Prim.Native.Nat.{ℕ, _+_, _-_, _*_, _≤_}
 use mathlib.Core.Path.{_≡_, sym, ap, _∙_}
 use mathlib.Core.Bool.{true}

@@ -7,7 +7,6 @@
 --     side-run, side-own, side-lost, side-climb   the state at a child
 --     reached-answer                         what is told is heard
 --     answer-reached, answer-outside         what was meant, from what is told
--- Assumes nothing.
 use Prim.Native.Nat.{ℕ, _+_, _-_, _≤_, _<_}
 use mathlib.Core.Path.{_≡_, refl, sym, ap, _∙_}
 use mathlib.Core.List.{List}

@@ -1,7 +1,6 @@
 -- A part by the tests of the code.
 --     side-args, join-few, fork-answer              an inner node: its searches, its two sides, its rule
 --     part-leaf, part-first, part-outside, part-fork   by the root's kind and children
--- Assumes nothing.
 use Prim.Native.Nat.{ℕ, _+_, _-_, _≤_, _<_}
 use mathlib.Core.Path.{_≡_, sym, ap, ap₂, _∙_}
 use mathlib.Core.List.{List}

@@ -3,7 +3,6 @@
 --     found-inside                       a root that is found is a node, with a state
 --     side-none, join-none               at a child, and by the rule
 --     part-out-of-range                        a part
--- Assumes nothing.
 use Prim.Native.Nat.{ℕ, _+_, _-_, _*_, _≤_, _<_}
 use mathlib.Core.Path.{_≡_, refl, sym, _∙_, subst}
 use mathlib.Core.Bool.{Bool, true, false, cond, _&&_}

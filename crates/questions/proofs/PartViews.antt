@@ -1,6 +1,5 @@
 -- A climb reads only a part of what is lent: the parts of a question on that part are those on the whole.
 --     climb-same, side-same, fork-same    on labels, inner states and tables alone
--- Assumes nothing.
 use Prim.Native.Nat.{ℕ, _+_, _-_}
 use mathlib.Core.Path.{_≡_, refl, sym, ap, ap₂, _∙_}
 use mathlib.Core.List.{List, [], _∷_}

@@ -1,6 +1,5 @@
 -- The control of questions/ready's PassedSample on tables as built: what `part` gives for its two parts. Computed.
 --     gap-first, gap-root   node 3, a leaf; the root, by a climb of 3 links that passes over 5 nodes
--- Assumes nothing.
 use Prim.Native.Nat.{ℕ}
 use mathlib.Core.Path.{_≡_, refl}
 use mathlib.Core.List.{List, [], _∷_}

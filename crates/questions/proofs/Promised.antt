@@ -2,7 +2,6 @@
 --     all-small      numbers below n, one by one
 --     roots-done     roots
 --     part-done      part
--- Assumes nothing.
 use Prim.Native.Nat.{ℕ, suc, _≤_, _<_}
 use mathlib.Core.Path.{_≡_, refl, sym, ap, ap₂, _∙_}
 use mathlib.Core.Bool.{Bool, true, false, _&&_}

@@ -1,7 +1,6 @@
 -- On numbers as built the computed roots are exactly the ready set.
 --     holds-yes, yes-holds    the test whether a list holds a number
 --     roots-built             rootsOn gives the rising list of the ready set
--- Assumes nothing.
 use Prim.Native.Nat.{ℕ, zero, suc, _+_, _-_, _≤_, _<_}
 use mathlib.Core.Path.{_≡_, refl, sym, ap, _∙_, subst}
 use mathlib.Core.Bool.{Bool, true, false, cond, _||_}

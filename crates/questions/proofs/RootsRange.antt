@@ -3,7 +3,6 @@
 --     LedTo, search-reached  what a search finds is where it starts, or a link leads there
 --     fork-none, meet-none, forks-none   one fork, one meeting, all of them
 --     roots-out-of-range           the roots
--- Assumes nothing.
 use Prim.Native.Nat.{ℕ, zero, suc, _+_, _-_, _≤_, _<_}
 use mathlib.Core.Path.{_≡_, refl, sym, ap, subst}
 use mathlib.Core.Bool.{Bool, true, false, cond, _&&_}

@@ -1,6 +1,5 @@
 -- What "Parts of a question" lends leads nowhere outside the plan, the states or the labels: there 18 has no cause.
 --     reads-in-range
--- Assumes nothing.
 use Prim.Native.Nat.{ℕ, _<_}
 use mathlib.Core.Path.{_≡_, sym, ap, _∙_, subst}
 use mathlib.Core.Bool.{true}

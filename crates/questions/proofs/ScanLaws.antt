@@ -7,7 +7,6 @@
 --     last-ind, last-bound, last-covers         the place found is inside the list, and its entry not above c
 --     found-scan                                the last root below c is the one at the place found
 --     label-scan                                the label as changed is the one at the place found
--- Assumes nothing.
 use Prim.Native.Nat.{ℕ, suc, _+_, _-_, _%_, _^_, _≤_, _<_}
 use mathlib.Core.Path.{_≡_, refl, sym, ap, _∙_, subst}
 use mathlib.Core.Bool.{Bool, true, false, cond, _&&_, _||_}

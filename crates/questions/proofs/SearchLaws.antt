@@ -3,7 +3,6 @@
 --     search-here, search-onward        the equations without a count
 --     search-move, search-stuck         the same by the next move
 --     search-stops, search-inside       what is found passes the test and is inside the forest
--- Assumes nothing.
 use Prim.Native.Nat.{ℕ, zero, suc, _≤_, _<_}
 use mathlib.Core.Path.{_≡_, refl, sym, ap, _∙_, subst}
 use mathlib.Core.Bool.{Bool, true, false, cond, _&&_}

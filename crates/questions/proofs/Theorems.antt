@@ -9,7 +9,6 @@
 --     roots-in-range, part-in-range   18 only where a value leads outside the plan, the states or the labels, or a link does not rise
 --     rule-in-range     .. and where the rule holds no value does
 -- That answer, parts and links do not depend on the list's order, and each part's links: crate reference (OrderLaws, Ceilings).
--- Assumes nothing.
 use Prim.Native.Nat.{ℕ, _+_, _-_, _*_, _≤_, _<_}
 use mathlib.Core.Path.{_≡_}
 use mathlib.Core.Bool.{Bool, true}

@@ -4,7 +4,6 @@
 --   means. What "Parts of a question" lends has none (proofs/RuleRange).
 --
 -- "18 means that a value read leads outside the plan, the states or the labels, or a climb doesn't rise."
--- Assumes nothing.
 use Prim.Native.Nat.{ℕ, _+_, _*_, _≤_, _<_}
 use mathlib.Core.Path.{_≡_}
 use mathlib.Core.Bool.{false}

@@ -7,8 +7,6 @@
 -- innerOn X t l r a == the part of an inner node at depth t - 1 with children l and r and label a
 -- partOn X es qs vs bs v == the part of root v, where the roots es, of states qs, were handled before; none (18) where a value read
 --   leads outside the plan, the states or the labels, or a climb does not rise
---
--- Assumes nothing.
 use Prim.Native.Nat.{ℕ, _+_, _-_}
 use mathlib.Core.Bool.{Bool, cond, _&&_}
 use mathlib.Core.List.{List, [], _∷_}

@@ -7,7 +7,6 @@
 --   not fit
 --
 -- Of the earlier roots nothing is asked: one that is found below a child is a node.
--- Assumes nothing.
 use Prim.Native.Nat.{ℕ}
 use mathlib.Core.Bool.{Bool, cond, _&&_}
 use mathlib.Core.List.{List}

@@ -6,8 +6,6 @@
 -- Reads X G == what is lent, X, is as G has it: the 16-bit numbers those of the tree, run states and maps any bytes below S
 -- Asked .. G ps == a part asked for as "Parts of a question" has it: the roots are the ready set's of any W, ps the parts before
 -- PartDone .. r == the promise of part
---
--- Assumes nothing.
 use Prim.Native.Nat.{ℕ, _+_, _-_, _*_, _≤_, _<_}
 use mathlib.Core.Path.{_≡_}
 use mathlib.Core.Bool.{true, cond}

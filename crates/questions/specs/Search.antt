@@ -6,7 +6,6 @@
 -- meetOn n nodeTable u v == the lowest node above v, v included, that has u below it
 --
 -- Counts down the depth, which falls at each move. Looking for an ancestor counts no link.
--- Assumes nothing.
 use Prim.Native.Nat.{ℕ, zero, suc}
 use mathlib.Core.Bool.{Bool, cond}
 use mathlib.Core.List.{List}

@@ -8,7 +8,6 @@
 --     step-other, step-done       the same of what an advance alters
 --     head-read, last-read, record-read
 --                                 the fields as the code reads them
--- Assumes nothing.
 use Prim.Native.Nat.{ℕ, _+_, _*_}
 use mathlib.Core.Path.{_≡_, refl, sym, ap, _∙_}
 use mathlib.Core.Bool.{Bool, true, false, not, cond, _&&_}

@@ -4,7 +4,6 @@
 --     records                     they are records
 --     layout-broken, value-broken, kept-broken, passed-broken
 --                                 with one byte changed, or one byte more or less, they are none
--- Assumes nothing.
 use Prim.Native.Nat.{ℕ}
 use mathlib.Core.Path.{_≡_, refl}
 use mathlib.Core.Bool.{true, false}

@@ -7,7 +7,6 @@
 --     bytes-numbers               the bytes of the numbers of an even run of bytes are those bytes
 --     bytes16-fit, numbers16-fit  bytes are below 256, and numbers of bytes below 65,536
 -- Not here: the loops that read and write such runs (NumberLoop).
--- Assumes nothing.
 use Prim.Native.Nat.{ℕ, zero, suc, _+_, _*_, _/_, _%_, _<_}
 use mathlib.Core.Path.{_≡_, refl, ap, _∙_}
 use mathlib.Core.List.{List, [], _∷_, _++_}

@@ -3,7 +3,6 @@
 --     put-iteration, put-end
 --     get-iteration, get-end
 -- Each keeps: the part that is done as the definition has it, and behind it what was there.
--- Assumes nothing.
 use Prim.Native.Nat.{ℕ, suc, _+_, _*_, _/_, _%_, _≤_, _<_}
 use mathlib.Core.Path.{_≡_, refl, ap, _∙_}
 use mathlib.Core.List.{List, [], _∷_, _++_, append-assoc, append-nil}

@@ -8,7 +8,6 @@
 --     cons-fits, append-fits, run-fits, le32-fit
 --                             lists of bytes below 256
 --     phase-again, yes-again  the state of its number, the yes or no of its number; phase-number, yes-number: and back
--- Assumes nothing.
 use Prim.Native.Nat.{ℕ, zero, suc, _+_, _≤_, _<_}
 use mathlib.Core.Path.{_≡_, refl, sym, ap, _∙_}
 use mathlib.Core.Bool.{Bool, true, false}

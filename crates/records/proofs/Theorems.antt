@@ -6,7 +6,6 @@
 --     encoded-valid       the bytes of a valid struct are a record
 --     decoded-valid       the struct of a record is valid
 --     decoded-types       what types say holds of the struct of bytes
--- Assumes nothing.
 use Prim.Native.Nat.{ℕ, _+_, _*_, _/_, _%_, _≤_, _<_}
 use mathlib.Core.Path.{_≡_, refl, sym, ap, _∙_}
 use mathlib.Core.Bool.{true, _&&_}

@@ -1,5 +1,4 @@
 -- What a struct's types say, from what the prover knows of every struct that code holds.
--- Assumes nothing.
 use native.Mathlib.Omega.{arith}
 use lib.ListN.{length, getD}
 use denote.Laws.{Is}

@@ -1,7 +1,6 @@
 -- A struct that passes its conditions is within its types.
 --     record-types   of the struct of a record that a session can have
 --     valid-types    of a struct with its arrays' lengths that passes its conditions
--- Assumes nothing.
 use Prim.Native.Nat.{ℕ, _-_, _≤_, _<_}
 use mathlib.Core.Path.{_≡_, refl, sym, subst}
 use mathlib.Core.Bool.{true}

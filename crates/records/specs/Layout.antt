@@ -37,7 +37,6 @@
 -- "the record crosses as bytes, whose layout stands in docs/, and bytes that break it get 1": the table above is that
 -- of docs/LAYOUT.md, "The record".
 -- Order: numbers, states, the struct's bytes, the bytes' struct, tests. The laws stand in proofs/.
--- Assumes nothing.
 use Prim.Native.Nat.{ℕ, _+_, _*_, _/_, _%_, _<_}
 use mathlib.Core.Path.{_≡_}
 use mathlib.Core.Bool.{Bool, true, false, cond, _&&_}

@@ -1,7 +1,6 @@
 -- Advance on record and reference model.
 --     parted-more      one more part, whatever its state below S
 --     on-advance       what advance tells conforms, and record and reference model stay related
--- Assumes nothing.
 use Prim.Native.Nat.{ℕ, suc, _+_, _-_, _<_}
 use mathlib.Core.Path.{_≡_, refl, sym, ap, ap₂, _∙_, subst}
 use mathlib.Core.Bool.{Bool, true, false, cond, not, _&&_}

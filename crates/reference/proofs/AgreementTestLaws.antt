@@ -1,7 +1,6 @@
 -- The computed test of demand 3 says what the statement says.
 --     agreed-is      where agreed says yes, Agrees holds
 --     history-of     the model's answers to any list of calls are a history
--- Assumes nothing.
 use Prim.Native.Nat.{ℕ, zero, suc}
 use mathlib.Core.Path.{_≡_, refl, sym, ap, _∙_}
 use mathlib.Core.Bool.{Bool, true, false}

@@ -3,7 +3,6 @@
 --     kept-as-anew      so lists of calls, from two such records
 --     as-anew           after an accepted Cancel, and after a first Load with the same N, S and K
 --     anew-of           it passes on to every form of the calls
--- Assumes nothing.
 use Prim.Native.Nat.{ℕ, zero, suc}
 use mathlib.Core.Path.{_≡_, refl, sym, ap, ap₂, _∙_, subst}
 use mathlib.Core.Bool.{Bool, true, false, cond}

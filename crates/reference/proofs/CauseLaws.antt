@@ -1,7 +1,6 @@
 -- A value that leads out of range is a cause for 18, as the reference model asks for one.
 --     links-cause, view-cause      of the node table, and of all that an advance reads
 --     advance-cause                so 18 is an answer to an advance that the reference model allows
--- Assumes nothing.
 use Prim.Native.Nat.{ℕ, _+_, _-_, _*_, _<_}
 use mathlib.Core.Path.{_≡_, refl, sym, ap, _∙_, subst}
 use mathlib.Core.Bool.{Bool, true, not, _&&_, _||_}

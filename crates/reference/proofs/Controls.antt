@@ -2,7 +2,6 @@
 -- program, and wrong answers that it turns down. A premise that is too strong (excess compared, the plan tied to
 -- Load's) shows here: an answer that should be settled is left.
 -- The answers are the model's (act): so that partOn is run too.
--- Assumes nothing.
 use Prim.Native.Nat.{ℕ}
 use mathlib.Core.Path.{_≡_, refl}
 use mathlib.Core.Bool.{Bool, true, false}

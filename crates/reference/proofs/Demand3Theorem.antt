@@ -2,7 +2,6 @@
 -- reference model says.
 --     demand-3     the theorem, from the facts of the questions layer
 --     demand-3-of  it passes on to every form of the calls that refines this one: by value, in place, and as bytes
--- Assumes nothing.
 use mathlib.Core.Path.{refl}
 use mathlib.Core.List.{List, [], _∷_}
 use Rattle.model.specs.Calls.{Call, load, start, advance, cancel, read, Answer}

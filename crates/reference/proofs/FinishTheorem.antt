@@ -3,7 +3,6 @@
 --     to-the-end          of a question that runs: what its advances and its Read tell
 --     questions-finish    so a question's advances and Read answer more .., finished and the fresh run's answer
 --     finish-of           and passes on to every form of the calls
--- Assumes nothing.
 use Prim.Native.Nat.{ℕ, zero, suc, _+_, _-_, _*_, _≤_, _<_}
 use mathlib.Core.Path.{_≡_, refl, sym, ap, ap₂, _∙_, subst}
 use mathlib.Core.Bool.{Bool, true, false, cond, _&&_}

@@ -7,7 +7,6 @@
 --     whole-before     so had the last of the parts of all listed nodes: "On tables as built the answer is as before" (document 02, S-5)
 --     whole-links      the links in all are the moves of the parts' climbs
 --     whole-over       the nodes passed over in all are those of the parts' climbs
--- Assumes nothing.
 use Prim.Native.Nat.{ℕ, zero, suc, _+_, _-_, _*_, _<_}
 use mathlib.Core.Path.{_≡_, refl, sym, ap, _∙_, subst}
 use mathlib.Core.Bool.{Bool, true, false, cond}

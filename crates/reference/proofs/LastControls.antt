@@ -5,7 +5,6 @@
 --     by-rule-over    a finish on other bytes below S replaces it, and stays settled by the rule
 --     load-empties, refused-load-keeps
 --     last-turned-down
--- Assumes nothing.
 use mathlib.Core.Path.{_≡_, refl}
 use mathlib.Core.Bool.{Bool, true, false}
 use mathlib.Core.List.{List, [], _∷_, _++_}

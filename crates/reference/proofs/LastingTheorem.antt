@@ -4,7 +4,6 @@
 --     answer-lasts      the answer of a question that was undisturbed to its finish lasts
 --     no-answer-yet     before the first finish every Read is refused with 1, and after every accepted Load again
 --     lasts-of, none-of both pass on to every form of the calls
--- Assumes nothing.
 use Prim.Native.Nat.{ℕ, zero, suc, _<_}
 use mathlib.Core.Path.{_≡_, refl, sym, ap, _∙_, subst}
 use mathlib.Core.Bool.{Bool, true, false, cond, not}

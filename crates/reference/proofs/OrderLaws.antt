@@ -4,7 +4,6 @@
 --     start-order      nor does the refusal of a Start
 --     parts-order, fresh-order    the number of parts, and the answer of a clean question
 -- A permutation is mathlib's `List·Permᴰ`, of the list of entries (node, label).
--- Assumes nothing.
 use Prim.Native.Nat.{ℕ, zero, suc, _<_}
 use mathlib.Core.Path.{_≡_, refl, sym, ap, ap₂, _∙_, fun-ext}
 use mathlib.Core.Bool.{Bool, true, false, cond}

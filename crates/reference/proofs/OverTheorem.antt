@@ -3,7 +3,6 @@
 --                             first on the plan itself
 --     question-over           so are the state and the yes or no that Reads tell of the two questions
 -- Nothing is said of parts, links and nodes passed over: they may differ (parts-differ, Controls).
--- Assumes nothing.
 use Prim.Native.Nat.{ℕ}
 use mathlib.Core.Path.{_≡_, ap, ap₂, _∙_, subst}
 use mathlib.Core.Bool.{Bool, false}

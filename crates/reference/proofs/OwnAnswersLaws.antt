@@ -2,7 +2,6 @@
 --     own-answers      of every state, call and answer
 --     read-outcome     a Read once a question has finished is told an outcome, and no refusal, whatever the state
 --     wrong-kinds      on plan A, computed: Start told more, an advance told parts, a Read refused are turned down
--- Assumes nothing.
 use Prim.Native.Nat.{ℕ, zero, suc}
 use mathlib.Core.Path.{_≡_, refl, sym, subst}
 use mathlib.Core.Bool.{Bool, true, false, cond}

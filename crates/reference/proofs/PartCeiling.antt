@@ -1,7 +1,6 @@
 -- The ceiling for each part, of the call that handles it.
 --     advance-few    an advance that no check refuses, on usable tables, counts at most three links for each binary digit of the plan's height
 -- It follows from what every form of the call promises: AdvanceProperties (crate model, LeftOpen).
--- Assumes nothing.
 use Prim.Native.Nat.{ℕ, zero, suc, _+_, _*_, _≤_, _<_}
 use mathlib.Core.Path.{_≡_, refl, sym, ap, _∙_, subst}
 use mathlib.Core.Bool.{Bool, true, false, cond}

@@ -6,7 +6,6 @@
 --     questions-of        and passes on to every form of the calls
 --     outcome-order       and does not depend on the order of the list
 -- Refused calls may come between; a Cancel may not.
--- Assumes nothing.
 use Prim.Native.Nat.{ℕ, zero, suc, _+_, _*_, _≤_, _<_}
 use mathlib.Core.Path.{_≡_, refl, sym, ap, _∙_, subst}
 use mathlib.Core.Bool.{true}

@@ -2,7 +2,6 @@
 --     outcome-only       an answer that it takes from the program is an outcome
 --     reading-outcome    what a Read of a finished question is told is an outcome, however it is settled
 --     reading-stays      and it leaves the reference model as it is
--- Assumes nothing.
 use mathlib.Core.Path.{_≡_, refl, sym}
 use mathlib.Core.Bool.{true}
 use Rattle.list_laws.proofs.BoolLaws.{true-false}

@@ -10,7 +10,6 @@
 --     Rel r b            record and reference model agree
 -- Of a question left to the program SettledAs has only that some parts are handled: enough for "never 18" on other bytes, and for 18
 -- only with a cause.
--- Assumes nothing.
 use Prim.Native.Nat.{_<_}
 use mathlib.Core.Path.{_≡_}
 use mathlib.Core.Bool.{true}

@@ -3,7 +3,6 @@
 --     planA, tableA, inputsA    plan A, table A and their tables; loadA: buffers with other contents, before Load
 --     seen cs          what the reference model settles of the calls cs, and whether the model's answers agree
 --     sample-rows      the nine rows
--- Assumes nothing.
 use Prim.Native.Nat.{ℕ, zero, suc}
 use mathlib.Core.Path.{_≡_, refl}
 use mathlib.Core.Bool.{Bool, true, false}

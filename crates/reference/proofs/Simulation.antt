@@ -4,7 +4,6 @@
 --     on-load, on-cancel, on-read     these three
 --     outcome-same, rule-fresh        what a question's outcome is at its finish
 -- Not here: Start (StartSimulation) and advance (AdvanceSimulation).
--- Assumes nothing.
 use Prim.Native.Nat.{ℕ, zero, suc}
 use mathlib.Core.Path.{_≡_, refl, sym, ap, ap₂, _∙_}
 use mathlib.Core.Bool.{Bool}

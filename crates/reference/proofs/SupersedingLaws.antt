@@ -4,7 +4,6 @@
 --     refusal-superseded  a Start whose list passes 12 to 14 is refused as with its list superseded
 --     act-superseded      one call
 --     superseding-tells   every answer of every list of calls, whatever is lent
--- Assumes nothing.
 use Prim.Native.Nat.{ℕ, zero, suc}
 use mathlib.Core.Path.{_≡_, refl, sym, ap, ap₂, _∙_}
 use mathlib.Core.Bool.{Bool, true, false, cond}

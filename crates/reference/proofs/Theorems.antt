@@ -6,7 +6,6 @@
 --     model-agrees      so the model's own answers agree with the reference model
 -- The order of a list is outcome-order and start-order (QuestionTheorem, OrderLaws); that the premises can be met is
 -- written-sound and start-written (WrittenSound), and Controls.
--- Assumes nothing.
 use Prim.Native.Nat.{ℕ, zero, suc}
 use mathlib.Core.Path.{_≡_, refl}
 use mathlib.Core.List.{List}

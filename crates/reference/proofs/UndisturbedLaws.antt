@@ -6,7 +6,6 @@
 --     agrees-split         a list of calls in two parts
 --     UndisturbedFrom, undisturbed    a whole list: the advances it takes to finish, and what Reads tell after that
 --     every-map, after-map      what holds of every outcome
--- Assumes nothing.
 use Prim.Native.Nat.{ℕ, zero, suc, _+_, _≤_, _<_}
 use mathlib.Core.Path.{_≡_, refl, sym, ap, _∙_, subst}
 use mathlib.Core.Bool.{Bool, true, false, cond}

@@ -3,7 +3,6 @@
 --     loaded x          the inputs after an accepted Load
 --     written-sound, written-fits     they are sound, and long enough
 --     start-written     so a Start on them is accepted with any list that passes 12 to 14
--- Assumes nothing.
 use Prim.Native.Nat.{ℕ, _+_, _≤_}
 use mathlib.Core.Path.{_≡_, refl, ap, _∙_}
 use mathlib.Core.Bool.{true, _&&_}

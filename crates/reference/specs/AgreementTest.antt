@@ -5,8 +5,6 @@
 -- agreed b cs xs == whether the answers xs agree with the reference model; it says what Agrees says: proofs/AgreementTestLaws
 -- settledAnswers b cs xs == what the reference model settles of each call; none where it is left to the program: only there are the
 --   answers xs looked at
---
--- Assumes nothing.
 use Prim.Native.Nat.{ℕ}
 use mathlib.Core.Bool.{Bool, true, false, _&&_}
 use mathlib.Core.List.{List, [], _∷_}

@@ -12,7 +12,6 @@
 -- advanceCause z x vs bs == of the inputs, excess aside
 --
 -- The same as data, with the value's place: NodeTableOutOfRange (crate tables) and PartOutOfRange (crate questions); proofs/CauseLaws.
--- Assumes nothing.
 use Prim.Native.Nat.{ℕ, _+_, _-_, _*_}
 use mathlib.Core.Bool.{Bool, not, _&&_, _||_}
 use mathlib.Core.List.{List}

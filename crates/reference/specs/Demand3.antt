@@ -5,7 +5,6 @@
 -- Demand3 fresh Step == every history from the fresh record agrees with the new reference model
 --
 -- The contracts come in as `Step`; the session puts its calls' very promises there (History: crate model).
--- Assumes nothing.
 use mathlib.Core.Path.{_≡_}
 use mathlib.Core.Bool.{Bool, true}
 use mathlib.Core.List.{List, [], _∷_}

@@ -5,8 +5,6 @@
 -- toTheEnd n a == the answers of n advances and a Read that tells a: more until the last, which tells finished
 -- QuestionsFinish fresh Step == in every history from the fresh record: a Start that was accepted and told n parts, then n advances given
 --   the same as it and a Read, are all accepted and answered so, the Read with the fresh run's answer
---
--- Assumes nothing.
 use Prim.Native.Nat.{ℕ, _-_}
 use mathlib.Core.Path.{_≡_}
 use mathlib.Core.Bool.{true}

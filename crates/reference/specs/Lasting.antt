@@ -7,8 +7,6 @@
 -- NoAnswerYet cs zs == every Read is refused with 1, until an advance finishes
 -- SameButReads cs xs ys == the answers xs and ys to the calls cs are the same, but for Reads before the first call that replaces
 -- AnswersLast, NoAnswersYet, AsAnew == these of every history from the fresh record, for any form of the calls
---
--- Assumes nothing.
 use Prim.Native.Nat.{ℕ}
 use mathlib.Core.Path.{_≡_}
 use mathlib.Core.Bool.{Bool, true, false, not}

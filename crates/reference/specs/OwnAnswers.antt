@@ -2,8 +2,6 @@
 --
 -- Own c a == a is a refusal, or what call c tells when it is accepted: Load and Cancel that alone, Start its parts, an advance more or
 --   finished, Read an outcome
---
--- Assumes nothing.
 use Prim.Native.Nat.{ℕ}
 use mathlib.Core.List.{List}
 use Rattle.formats.specs.Inputs.{Inputs}

@@ -10,7 +10,6 @@
 -- step b c == the lines of "The panel book"
 --
 -- A settled answer cannot see the program's: it is the constructor's argument.
--- Assumes nothing.
 use Prim.Native.Nat.{ℕ, zero, suc}
 use mathlib.Core.Bool.{Bool, true, false, cond, not, _&&_}
 use mathlib.Core.List.{List, [], _∷_, _++_}

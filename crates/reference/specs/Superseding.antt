@@ -4,8 +4,6 @@
 -- supersede t c == the call c with its list superseded, where it is a Start whose list passes 12 to 14 at stage t
 -- supersededCalls r cs == the calls cs, from record r on, each so
 -- supersededRecord r == the record r with its list superseded
---
--- Assumes nothing.
 use Prim.Native.Nat.{ℕ}
 use mathlib.Core.Bool.{cond}
 use mathlib.Core.List.{List, [], _∷_}

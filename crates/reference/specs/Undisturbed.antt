@@ -7,8 +7,6 @@
 -- OutcomeHas P a == where a is what a Read tells, that has P; EveryOutcome P xs == of all answers xs; OnlyOutcome a xs == each is a
 -- EveryOutcomeAfter P xs, OnlyOutcomeAfter a xs == the same of the answers after the first that tells finished: a Read before it tells of an
 --   earlier question
---
--- Assumes nothing.
 use Prim.Native.Nat.{ℕ, suc}
 use mathlib.Core.Path.{_≡_}
 use mathlib.Core.Bool.{Bool, true, false}

@@ -3,7 +3,6 @@
 --     label-changed   labelFor is the label that `changed` holds
 --     label-last, label-unlisted   it is the last entry's for the node, or the node's own where none is for it
 --     length-changed, label-below  as many labels as before, and all in their range
--- Assumes nothing.
 use Prim.Native.Nat.{ℕ, suc, _+_, _≤_, _<_}
 use mathlib.Core.Path.{_≡_, refl, sym, ap, _∙_}
 use mathlib.Core.Bool.{Bool, true, false, cond, _||_}

@@ -5,7 +5,6 @@
 --     list-order         nor does the first no of checks 12 to 14, listed twice or not
 --     freshRun-order     nor, where no node is listed twice, does the answer of a fresh run, a run or a refusal
 -- A permutation is mathlib's `List·Permᴰ`, here of the list of entries (node, label).
--- Assumes nothing.
 use Prim.Native.Nat.{ℕ, zero, suc}
 use mathlib.Core.Path.{_≡_, refl, sym, ap, ap₂, _∙_}
 use mathlib.Core.Bool.{Bool, true, false, cond, not, _&&_, _||_}

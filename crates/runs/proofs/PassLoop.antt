@@ -6,7 +6,6 @@
 --     Passed, span-start, span-step, span-end   the nodes whose changes are marked
 --     pass-start, pass-end   the whole pass: what holds before its first node, and what its last tells
 -- Not here: the marks (ChangeLaws).
--- Assumes nothing.
 use Prim.Native.Nat.{ℕ, _+_, _-_, _*_, _≤_, _<_}
 use mathlib.Core.Path.{_≡_, refl, sym, ap, ap₂, _∙_}
 use mathlib.Core.Bool.{true}

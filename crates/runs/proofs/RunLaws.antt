@@ -6,7 +6,6 @@
 --     run-args         the counts of the headers, with bounds of their products
 --     parts-args, root-is, root-in, result-is   of the parts handed on: what the pass asks, and what its answer is
 --     done-answer, done-refused   the promise of an answer, and of a refusal
--- Assumes nothing.
 use Prim.Native.Nat.{ℕ, zero, suc, _+_, _-_, _*_, _≤_, _<_}
 use mathlib.Core.Path.{_≡_, refl, sym, ap, ap₂, _∙_}
 use mathlib.Core.Bool.{Bool, true}

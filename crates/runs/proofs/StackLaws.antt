@@ -2,7 +2,6 @@
 --     stack-push, stack-two, stack-join   a tree more, the two on top, and one in their place
 --     waiting-most            no more trees wait than can still be joined
 --     read-leaf, read-inner   the reading of Postorder at a leaf and at an inner node
--- Assumes nothing.
 use Prim.Native.Nat.{ℕ, zero, suc, _+_, _≤_, _<_}
 use mathlib.Core.Path.{_≡_, refl, ap, ap₂}
 use mathlib.Core.List.{List, [], _∷_}

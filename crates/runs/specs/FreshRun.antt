@@ -9,7 +9,6 @@
 --
 -- The run is source document 002's (crate trees, Automaton): no table and no stack is in it. That the answer does not
 -- depend on the order of the list is freshRun-order (proofs/OrderLaws).
--- Assumes nothing.
 use Prim.Native.Nat.{ℕ, zero, suc}
 use mathlib.Core.Path.{_≡_, refl}
 use mathlib.Core.Bool.{Bool}

@@ -1,6 +1,5 @@
 -- The search for a screen of a kind, as a loop goes through the eight from the last down.
 --     any-here, any-on, any-end    found, not this one, none left
--- Assumes nothing.
 use Prim.Native.Nat.{ℕ, zero, suc, _-_, _<_, _≤_}
 use mathlib.Core.Path.{_≡_, sym, _∙_, ap}
 use mathlib.Core.Bool.{Bool, true, false, _||_}

@@ -4,7 +4,6 @@
 --                    it as it was
 --     stays-eight    the records stay eight
 --     follows        who runs is followed by calls and answers alone
--- Assumes nothing.
 use Prim.Native.Nat.{ℕ, _<_}
 use mathlib.Core.Path.{_≡_, refl, sym, ap, ap₂, _∙_, subst}
 use mathlib.Core.Bool.{Bool, true, false, cond}

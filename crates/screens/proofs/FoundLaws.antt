@@ -2,7 +2,6 @@
 --     found-beyond, found-here, found-on, found-nothing    its ways out, and one iteration
 --     found-next    what is found from a number up to 7 on
 --     found-none, found-turn    whose a deal is, from what was found: nobody's, or that screen's turn
--- Assumes nothing.
 use Prim.Native.Nat.{ℕ, zero, suc, _-_, _<_, _≤_}
 use mathlib.Core.Path.{_≡_, refl, sym, _∙_, ap}
 use mathlib.Core.Bool.{true, false, cond}

@@ -3,7 +3,6 @@
 --     Kept x b        its N, S and K are that Load's; a question that runs is clean, and was lent what the Load left
 --     kept-load, kept-start, kept-advance, kept-cancel, kept-read    the calls keep it
 --     advance-taken   while a question runs an advance is accepted
--- Assumes nothing.
 use Prim.Native.Nat.{ℕ, zero, suc}
 use mathlib.Core.Path.{_≡_, refl, sym, ap, _∙_, subst}
 use mathlib.Core.Bool.{Bool, true, false, cond}

@@ -3,7 +3,6 @@
 --     load-empties     no finished answer is left
 --     load-waits       a Load is refused with 1 while any screen runs
 --     refused-alike    a refused call alters nothing, and a refused deal tells no number
--- Assumes nothing.
 use Prim.Native.Nat.{ℕ, zero, suc, _<_}
 use mathlib.Core.Path.{_≡_, refl, sym, ap, _∙_, subst}
 use mathlib.Core.Bool.{Bool, true, false, cond, not}

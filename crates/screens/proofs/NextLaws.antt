@@ -2,7 +2,6 @@
 --     next-is       what the search finds within f steps: the first screen that runs, or none
 --     deal-serves   a deal with a number up to 7 is the turn of the first screen that runs from there on, or gives 1
 --                   where none runs
--- Assumes nothing.
 use Prim.Native.Nat.{ℕ, zero, suc, _+_, _%_, _<_}
 use mathlib.Core.Path.{_≡_, refl, sym, ap, _∙_, subst}
 use mathlib.Core.Bool.{Bool, true, false, cond}

@@ -4,7 +4,6 @@
 --     screens-references   with demand 3 of a single session, for each screen
 --     isolation-from       of two runs of eight records that agree on one screen
 --     isolation            from fresh records
--- Assumes nothing.
 use Prim.Native.Nat.{ℕ, _<_}
 use mathlib.Core.Path.{_≡_, refl, sym, ap, ap₂, _∙_, subst}
 use mathlib.Core.Bool.{false}

@@ -4,7 +4,6 @@
 --     load-refusal, load-accepted
 --                     a Load where no question runs goes by what is lent alone
 --     refused-same    a refusal leaves the record as it is
--- Assumes nothing.
 use Prim.Native.Nat.{ℕ, zero, suc}
 use mathlib.Core.Path.{_≡_, refl, sym, ap, _∙_}
 use mathlib.Core.Bool.{Bool, true, false, cond}

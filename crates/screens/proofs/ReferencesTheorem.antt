@@ -4,7 +4,6 @@
 --     tied-runs          they agree on whether a question runs: a Cancel tells it
 --     screens-demand-3   the statement
 -- Tied asks nothing of a record but its answers, so demand 3 of a single session is all that is used here.
--- Assumes nothing.
 use Prim.Native.Nat.{ℕ, zero, suc, _<_}
 use mathlib.Core.Path.{_≡_, refl, sym, ap, _∙_, subst}
 use mathlib.Core.Bool.{Bool, true, false, cond}

@@ -8,7 +8,6 @@
 --                         answers
 --     sample-left         what is lent is what the Load left
 --     sample-refused      25 before everything else; 1 where no screen runs; a run of seven records
--- Assumes nothing.
 use Prim.Native.Nat.{ℕ, zero, suc}
 use mathlib.Core.Path.{_≡_, refl}
 use mathlib.Core.Bool.{Bool, true, false}

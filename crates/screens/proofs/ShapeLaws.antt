@@ -3,7 +3,6 @@
 --     Shaped run cs xs   of all answers; who runs is followed on the way
 --     history-shaped     so are those of a history
 --     shaped-split       and those from any place of it on
--- Assumes nothing.
 use Prim.Native.Nat.{ℕ, _<_}
 use mathlib.Core.Path.{_≡_, refl, sym, ap, subst}
 use mathlib.Core.List.{List, [], _∷_, _++_}

@@ -3,7 +3,6 @@
 --     isolation-since-load   "Between two accepted Loads, for the same own calls and turns with the same lent bytes in
 --                            the same order, what a screen reads, and each of its refusals except Load's, must
 --                            be the same"
--- Assumes nothing.
 use Prim.Native.Nat.{ℕ, zero, suc, _<_}
 use mathlib.Core.Path.{_≡_, refl, sym, ap, _∙_, subst}
 use mathlib.Core.Bool.{Bool, true, false}

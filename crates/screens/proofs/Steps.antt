@@ -6,7 +6,6 @@
 --     Nearing k lo D l   the screens l lie on the way from k, each farther than the one before, all nearer than D
 --     nearing-few, nearing-distinct    so they are few, and no one is among them twice
 --     until-holds        a list of n screens of which less than n stand before i has i among its first n
--- Assumes nothing.
 use Prim.Native.Nat.{ℕ, zero, suc, _+_, _-_, _≤_, _<_}
 use mathlib.Core.Path.{_≡_, refl, sym, ap, _∙_, subst}
 use mathlib.Core.Bool.{Bool, true, false, cond, not, _&&_, _||_}

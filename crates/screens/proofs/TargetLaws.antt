@@ -6,7 +6,6 @@
 --     Rightly, rightly what holds of a call's target: a Load's screens are at rest, and what it lends passes 2 to 11;
 --                      a screen is one of the eight; a turn is a screen's that runs
 --     target-same      a target goes by who of the eight runs
--- Assumes nothing.
 use Prim.Native.Nat.{ℕ, zero, suc, _<_}
 use mathlib.Core.Path.{_≡_, refl, sym, ap, ap₂, _∙_, subst}
 use mathlib.Core.Bool.{Bool, true, false, cond, not, _||_}

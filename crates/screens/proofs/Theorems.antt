@@ -18,7 +18,6 @@
 --
 --     screens-hold      those about every list of calls, together
 --     screens-hold-of   they pass on to every form of the calls that refines this one
--- Assumes nothing.
 use mathlib.Core.List.{List}
 use Rattle.model.proofs.Refinement.{Refines, refines}
 use Rattle.screens.specs.ScreenCalls.{ScreenCall, ScreenAnswer}

@@ -2,7 +2,7 @@
 -- successive turns of it in one question": whatever is lent, and whatever the others start or cancel.
 --     nearing          the screens served before screen i lie on the way to it, each farther than the one before
 --     served-soon, turns-apart, between-turns    the sentences, from any place of a history on
--- Only the shape of answers is used (ShapeLaws). Assumes nothing.
+-- Only the shape of answers is used (ShapeLaws).
 use Prim.Native.Nat.{ℕ, zero, suc, _+_, _-_, _≤_, _<_}
 use mathlib.Core.Path.{_≡_, refl, sym, ap, _∙_, subst}
 use mathlib.Core.Bool.{Bool, true, false, cond}

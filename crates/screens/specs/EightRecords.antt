@@ -4,8 +4,6 @@
 -- actOn rs t == a call on the records rs that is t's: what it tells, and the records then
 -- actAll rs c == a call of the screens; DoesAll rs c a rs′ == the same as a relation
 -- eightFresh == the records of eight fresh screens
---
--- Assumes nothing.
 use Prim.Native.Nat.{ℕ}
 use mathlib.Core.Path.{_≡_}
 use mathlib.Core.Bool.{cond}

@@ -8,8 +8,6 @@
 -- ScreensAgree bs cs xs == the whole list of answers xs to the calls cs against bs: who is served, the number told, 25,
 --   Load's and the deal's 1 too
 -- ScreensDemand3 fresh Step == every history from the fresh run of records agrees with eight new reference models
---
--- Assumes nothing.
 use Prim.Native.Nat.{ℕ, _<_}
 use mathlib.Core.Path.{_≡_}
 use mathlib.Core.Bool.{cond}

@@ -10,7 +10,7 @@
 -- ownCalls i run cs xs, ownAnswers i run cs xs == its calls, its answers
 -- runningAfter run cs xs == who runs after them
 --
--- Who runs is followed by calls and answers alone, never from the records. Assumes nothing.
+-- Who runs is followed by calls and answers alone, never from the records.
 use Prim.Native.Nat.{ℕ}
 use mathlib.Core.Bool.{Bool, true, false, cond}
 use mathlib.Core.List.{List, [], _∷_}

@@ -16,7 +16,7 @@
 -- Another t j == a call that is t's is not screen j's
 -- turnAnswer i a == what a deal tells that served screen i, whose advance told a
 --
--- Not here: 25 for a run of another length (EightRecords). Assumes nothing.
+-- Not here: 25 for a run of another length (EightRecords).
 use Prim.Native.Nat.{ℕ, zero, suc, _-_}
 use mathlib.Core.Path.{_≡_}
 use mathlib.Core.Bool.{Bool, true, false, cond, not, _||_}

@@ -15,7 +15,7 @@
 --   search
 -- Screens fresh Step == those of them that are about every list of calls
 --
--- One statement about every list of screen calls: ScreensDemand3 (EightReferences). Assumes nothing.
+-- One statement about every list of screen calls: ScreensDemand3 (EightReferences).
 use Prim.Native.Nat.{ℕ, _+_, _%_, _≤_, _<_}
 use mathlib.Core.Path.{_≡_}
 use mathlib.Core.Bool.{true, false}

@@ -5,8 +5,6 @@
 -- HandedOn k cs xs == "records and number are handed on as told": each deal is handed the number told last, k at first
 -- Uncancelled i cs xs == no Cancel of screen i is accepted
 -- until i l == the list l up to the first i
---
--- Assumes nothing.
 use Prim.Native.Nat.{ℕ}
 use mathlib.Core.Path.{_≡_}
 use mathlib.Core.Bool.{Bool, true, false, cond}

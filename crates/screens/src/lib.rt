@@ -1,6 +1,6 @@
 // Eight screens on one machine (document 02, S-8): their calls, records and reference models as definitions (specs/),
-// and the
-// theorems (proofs/). Of the code only the order of the screens is here, for the calls in place and on record bytes.
+// and the theorems (proofs/). Of the code only the order of the screens is here, for the calls in place and on record
+// bytes.
 //     in_place  deal, start, cancel and read over &mut [Session]
 pub mod in_place;
 

@@ -4,7 +4,6 @@
 --     act-holds                  what holds of a record holds of the record after such a call
 --     act-valid                  so the struct after it passes
 --     act-shaped, act-record     and after every call it has the layout's lengths, and that record
--- Assumes nothing.
 use Prim.Native.Nat.{ℕ, zero, suc, _+_, _-_, _*_, _≤_, _<_}
 use mathlib.Core.Path.{_≡_, refl, sym, ap, _∙_, subst}
 use mathlib.Core.Bool.{Bool, true, false, not, cond, _&&_}

@@ -1,7 +1,6 @@
 -- Advance, by what the code has found: one law for each answer.
 --     advance-1, advance-17, advance-18, step-found
 --     advance-limits, next-args, handle-args       what the calls below ask
--- Assumes nothing.
 use Prim.Native.Nat.{ℕ, suc, _+_, _-_, _*_, _≤_, _<_}
 use mathlib.Core.Path.{_≡_, refl, sym, ap, _∙_}
 use mathlib.Core.Bool.{Bool, true, false, not, cond, _&&_}

@@ -3,7 +3,6 @@
 --     proceeds-done                               no check fails
 --     by-state, allowed-no, allowed-yes, allowed-by   check 1
 --     kept-of                                     what is left to the program has its properties
--- Assumes nothing.
 use Prim.Native.Nat.{ℕ, suc, _-_, _<_}
 use mathlib.Core.Path.{_≡_, refl, sym, ap, _∙_, subst}
 use mathlib.Core.Bool.{Bool, true, false, not, _&&_}

@@ -7,7 +7,6 @@
 --     last-fits            that answer, if there is one, is of some question on S states
 --     holds-of             a struct that passes its conditions has such a record
 --     tails-of, struct-is  and is the struct of that record
--- Assumes nothing.
 use Prim.Native.Nat.{ℕ, _-_, _*_, _≤_, _<_}
 use mathlib.Core.Path.{_≡_, refl, sym, ap, _∙_, subst}
 use mathlib.Core.Bool.{true, false, _&&_}

@@ -4,7 +4,6 @@
 --     AnswerFits s o, LastFits s o   what is true of an answer on S states; last-of, last-yes: and the test of it
 --     Own s, own-of, own-yes     an answered struct's own
 --     last-is, last-append, last-below   the last of a list of states
--- Assumes nothing.
 use Prim.Native.Nat.{ℕ, zero, suc, _+_, _-_, _*_, _≤_, _<_}
 use mathlib.Core.Path.{_≡_, refl, sym, ap, _∙_}
 use mathlib.Core.Bool.{Bool, true, false, cond, not, _&&_}

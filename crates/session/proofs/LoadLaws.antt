@@ -2,7 +2,6 @@
 --     load-1           check 1 says no
 --     load-built       the tables were built; load-headers: then both headers are whole
 --     load-refused     the build refused
--- Assumes nothing.
 use Prim.Native.Nat.{ℕ, zero, suc}
 use mathlib.Core.Path.{_≡_, refl, sym, ap, _∙_}
 use mathlib.Core.Bool.{Bool, true, false, not, cond, _&&_}

@@ -1,6 +1,5 @@
 -- On a node table as built every advance passes over few nodes: a plan has at most 65,535, and no node is that deep.
 --     built-narrow    so what an advance finds on such a table is narrow, and the record after it a session's
--- Assumes nothing.
 use Prim.Native.Nat.{ℕ, _+_, _*_, _≤_, _<_}
 use mathlib.Core.Path.{_≡_, refl, sym, ap, _∙_, subst}
 use mathlib.Core.Bool.{Bool, true, false}

@@ -6,7 +6,6 @@
 --     take-long                  the length of the first entries of an array
 --     copy-iteration, copy-end        a list copied into an array of zeros, entry by entry
 --     padded-more                one entry more
--- Assumes nothing.
 use Prim.Native.Nat.{ℕ, zero, suc, _+_, _-_, _≤_, _<_}
 use mathlib.Core.Path.{_≡_, refl, sym, ap, _∙_}
 use mathlib.Core.Bool.{true}

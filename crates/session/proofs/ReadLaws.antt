@@ -1,6 +1,5 @@
 -- Read, by what the code has found.
 --     read-no, read-yes     check 1 says no, and yes
--- Assumes nothing.
 use mathlib.Core.Path.{_≡_, refl, sym, ap, _∙_}
 use mathlib.Core.Bool.{Bool, true, false, not, _&&_}
 use mathlib.Core.List.{[]}

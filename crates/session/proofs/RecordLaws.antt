@@ -4,7 +4,6 @@
 --     Listed r             lists that fit the arrays
 --     record-of-struct     the record of the struct of a record with such lists is that record
 --     struct-shaped        and that struct has the layout's lengths
--- Assumes nothing.
 use Prim.Native.Nat.{_≤_}
 use mathlib.Core.Path.{_≡_, refl}
 use mathlib.Core.Bool.{true}

@@ -6,7 +6,6 @@
 --     narrow-seen      it does where what is found passed over few nodes
 --     read-keeps       Read alters nothing
 --     by-value-refines each of the five
--- Assumes nothing.
 use Prim.Native.Nat.{ℕ, zero, suc}
 use mathlib.Core.Path.{_≡_, refl, sym, ap, _∙_, subst}
 use mathlib.Core.Bool.{true}

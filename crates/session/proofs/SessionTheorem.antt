@@ -3,7 +3,6 @@
 --     by-value-demand-3     the theorem, over the very promises of load, start, advance, cancel and read
 --     by-value-questions    a question: an accepted Start had sound inputs; undisturbed: parts, advances, what Reads tell, ceilings
 --     by-value-history      a history of these calls is one of the model's, so what is proved of those holds of it
--- Assumes nothing.
 use mathlib.Core.List.{List}
 use Rattle.model.specs.Calls.{Call, Answer}
 use Rattle.model.specs.History.{History}

@@ -1,5 +1,4 @@
 -- A struct of the code has the layout's lengths.
--- Assumes nothing.
 use denote.Laws.{Is}
 use denote.Struct.Laws as S
 use borrow.Author.Needs.{needs}

@@ -1,7 +1,6 @@
 -- Start, by what the code has found: one law for each answer.
 --     start-1, start-17, start-list, start-18, start-yes
 --     start-limits, start-headers, start-room, start-listed, start-count     what the calls below ask
--- Assumes nothing.
 use Prim.Native.Nat.{ℕ, zero, suc, _+_, _*_, _≤_}
 use mathlib.Core.Path.{_≡_, refl, sym, ap, _∙_}
 use mathlib.Core.Bool.{Bool, true, false, cond, not, _&&_}

@@ -4,7 +4,6 @@
 --     step-stores                      it stores a state
 --     chosen, not-chosen               the states that a branch left
 --     refused-found, step-done         the promise of a refusal, and of the record made
--- Assumes nothing.
 use Prim.Native.Nat.{ℕ, _+_, _*_, _<_}
 use mathlib.Core.Path.{_≡_, refl, sym, subst}
 use mathlib.Core.Bool.{Bool, true, false, cond}

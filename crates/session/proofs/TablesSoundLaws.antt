@@ -2,7 +2,6 @@
 --     other-n, other-s, other-k    a header that names another N, S or K: not sound
 --     checked-yes                  the full check says yes, where the headers name N, S and K: sound
 --     checked-no, checked-refused  it says no, or refuses: not sound
--- Assumes nothing.
 use Prim.Native.Nat.{ℕ}
 use mathlib.Core.Path.{_≡_, sym, _∙_}
 use mathlib.Core.Bool.{Bool, true, false}

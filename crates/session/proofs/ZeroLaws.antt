@@ -1,7 +1,6 @@
 -- The loops that or all elements of a list: their number is 0 exactly where every element is.
 --     zero-iteration, zero-end     one list
 --     pairs-iteration, pairs-end   two lists of one length
--- Assumes nothing.
 use Prim.Native.Nat.{ℕ, zero, suc, _+_, _≤_, _<_}
 use mathlib.Core.Path.{_≡_, refl, sym, ap, ap₂, _∙_}
 use mathlib.Core.Bool.{Bool, true, false, _&&_}

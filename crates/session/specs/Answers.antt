@@ -2,8 +2,6 @@
 --
 -- callAnswer, startAnswer, advanceAnswer, readAnswer == the answer of each case of a call's enum: its number and values.
 --   Load and Cancel, Start, advance, Read
---
--- Assumes nothing.
 use Rattle.model.specs.Calls.{Answer, refused, accepted, parts, more, finished, outcomeAnswer}
 use Rattle.session.specs.declared.answers.CallAnswer.{CallAnswer}
 use Rattle.session.specs.declared.answers.CallAnswer.the-variants.{Accepted, Refused as NotDone}

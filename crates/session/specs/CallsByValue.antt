@@ -3,7 +3,6 @@
 -- CallByValue s c a s′ == call c was made on struct s, told a and left s′: its promise, as its function has it, holds of what it returned
 --
 -- Read returns no record: the panel keeps the one that it has.
--- Assumes nothing.
 use Prim.Native.Nat.{ℕ}
 use mathlib.Core.Path.{_≡_}
 use mathlib.Core.List.{List}

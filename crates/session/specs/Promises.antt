@@ -3,8 +3,6 @@
 -- answerOn s c, recordOn s c, refusalOn s c == the answer of call c on struct s, the struct after it, and its refusal's number, 18 apart.
 --   A struct that breaks the layout's conditions gets 1; on any other the answer and the whole record are those of `act` (crate model, Model)
 -- CallDone, LoadDone == the promises
---
--- Assumes nothing.
 use Prim.Native.Nat.{ℕ}
 use mathlib.Core.Path.{_≡_}
 use mathlib.Core.Bool.{true, cond}

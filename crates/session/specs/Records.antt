@@ -9,8 +9,6 @@
 -- stageIn s == what the checks ask of a struct
 -- LimitsAre n s k m == the session's constants have the limits' values
 -- freshSession == "a fresh session is made with nothing given": all zero
---
--- Assumes nothing.
 use Prim.Native.Nat.{ℕ, _-_, _*_}
 use mathlib.Core.Path.{_≡_}
 use mathlib.Core.Bool.{Bool, true, false, cond, not, _&&_}

@@ -5,7 +5,6 @@
 --     row-bytes-below, below-row-bytes every byte of the rows is a state; so it is in a built table
 --     below-no, root-node-is-no, root-row-no, nodes-tell   what the comparison of both tables tells, by its ways out
 --     room-of                          what the tests of all nodes need
--- Assumes nothing.
 use Prim.Native.Nat.{ℕ, _+_, _-_, _*_, _≤_, _<_}
 use mathlib.Core.Path.{_≡_, refl, sym, ap, _∙_, subst}
 use mathlib.Core.Bool.{Bool, true, false, _&&_}

@@ -3,7 +3,6 @@
 --     xor-zero, xor-none             a difference is 0 exactly where both numbers are the same
 --     or-test, xor-test, more-test   the same, as tests; or-more: one test more
 --     every-both                     two tests of the same numbers are one
--- Assumes nothing.
 use Prim.Native.Nat.{ℕ, zero, suc, _+_}
 use mathlib.Core.Path.{_≡_, refl, sym, ap, _∙_}
 use mathlib.Core.Bool.{Bool, true, false, _&&_}

@@ -1,6 +1,5 @@
 -- Two maps made one.
 --     joined-step                    one entry more
--- Assumes nothing.
 use Prim.Native.Nat.{ℕ, _+_, _<_}
 use mathlib.Core.Path.{_∙_}
 use mathlib.Core.List.{List}

@@ -3,7 +3,6 @@
 --     step-local, near-local, far-local  a map by its equation, where the maps above are those to the jumps
 --     local-unique                 a table that satisfies the equations node by node is the built one
 --     built-local-states, built-local-maps  and the built one satisfies them
--- Assumes nothing.
 use Prim.Native.Nat.{ℕ, zero, suc, _+_, _-_, _*_, _≤_, _<_}
 use mathlib.Core.Path.{_≡_, sym, ap, ap₂, _∙_}
 use mathlib.Core.List.{List}

@@ -2,7 +2,6 @@
 --     packed-same                    three packed numbers are the same exactly where each is
 --     pair-jump-less                 the jump by pairs is a 16-bit number where all entries are
 --     pair-packed                    the differences, or-ed, are 0 exactly where the test of the pair holds
--- Assumes nothing.
 use Prim.Native.Nat.{ℕ, _+_, _-_, _*_, _%_, _<_}
 use mathlib.Core.Path.{_≡_, refl, sym, ap, _∙_}
 use mathlib.Core.Bool.{Bool, true, false, cond}

@@ -2,7 +2,6 @@
 --     right-step, left-step          the entries that a pair reads are the steps to the parent
 --     tabled-states, tabled-maps, local-tabled   the tests of states and maps are the equations between neighbours
 --     both-built, built-both         all tests pass exactly where both tables are the built ones
--- Assumes nothing.
 use Prim.Native.Nat.{ℕ, _+_, _-_, _*_, _≤_, _<_}
 use mathlib.Core.Path.{_≡_, sym, ap, ap₂, _∙_, subst}
 use mathlib.Core.List.{List}

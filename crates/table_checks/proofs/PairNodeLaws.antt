@@ -4,7 +4,6 @@
 --     pair-jump                     on a right table the jump by pairs is childJump of the node table's passes
 --     pair-told, tells-pair         what the test of a pair tells, as seven equations
 --     pairs-cells, cells-pairs      every leaf, pair and the root pass exactly where the table is the tree's
--- Assumes nothing.
 use Prim.Native.Nat.{ℕ, zero, suc, _+_, _-_, _≤_, _<_}
 use mathlib.Core.Path.{_≡_, sym, ap, ap₂, _∙_, subst}
 use mathlib.Core.Bool.{Bool, true, cond, _&&_}

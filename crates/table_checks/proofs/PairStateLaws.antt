@@ -5,7 +5,6 @@
 --     placed, pair-is                the places of a pair, and the test at its node, as the code goes
 --     rows-near, rows-far            the test of both maps, as the code goes; rows-joined: through the joined map
 --     Rows, rows-told, tells-rows    what the test of both children's maps tells
--- Assumes nothing.
 use Prim.Native.Nat.{ℕ, _+_, _-_, _*_, _≤_, _<_}
 use mathlib.Core.Path.{_≡_, refl, _∙_}
 use mathlib.Core.Bool.{Bool, true, false, cond, _&&_}

@@ -6,7 +6,6 @@
 --     build-refused, build-done  a build's two answers
 --     built-lists              what an accepted build leaves
 --     written-as-built, built-as-built  the buffers afterwards are as built, whatever their excess is
--- Assumes nothing.
 use Prim.Native.Nat.{ℕ, zero, suc, _+_, _-_, _*_, _≤_}
 use mathlib.Core.Path.{_≡_, refl, sym, ap, _∙_}
 use mathlib.Core.Bool.{true}

@@ -3,7 +3,6 @@
 --     begins-room                            a buffer that begins with a table has room for it
 --     same-begins, begins-same               the test for both tables, by the lists
 --     done-yes, yes-done, done-no, no-done   what a full check's yes and no mean, by the lists
--- Assumes nothing.
 use Prim.Native.Nat.{ℕ, zero, suc, _≤_}
 use mathlib.Core.Path.{_≡_, refl, sym, ap, _∙_}
 use mathlib.Core.Bool.{Bool, true, false}

@@ -4,7 +4,6 @@
 --     check-no, no-check     it is no exactly where 2 to 11 pass and a buffer begins otherwise
 --     build-then-check       what an accepted build leaves is answered with yes
 -- Not here: that the equations between neighbouring nodes leave one table only (table_checks/proofs/LocalLaws).
--- Assumes nothing.
 use Prim.Native.Nat.{ℕ}
 use mathlib.Core.Path.{_≡_, sym, ap, _∙_}
 use mathlib.Core.List.{List}

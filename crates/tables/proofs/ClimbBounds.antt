@@ -4,7 +4,6 @@
 --     rule-state, move-state            what a rule or a move gives is a state
 --     Bounded, climb-bounded            the climb of a part gives a state, by no more links than there are nodes, and passes over no
 --                                       fewer nodes than it has links and no more than the lent depths allow
--- Assumes nothing.
 use Prim.Native.Nat.{ℕ, zero, suc, _+_, _*_, _≤_, _<_}
 use mathlib.Core.Path.{_≡_, refl, sym, ap, _∙_, subst}
 use mathlib.Core.Bool.{Bool, true, false, cond}

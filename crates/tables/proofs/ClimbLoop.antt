@@ -4,7 +4,6 @@
 --     Climbing                           the loop's state: that of the moves so far, and the same answer from here
 --     climbing-start, climbing-iteration      before the first move, and after one more
 --     climbing-done, climbing-lost       the answer where the climb has arrived, and where a move was not made
--- Assumes nothing.
 use Prim.Native.Nat.{ℕ, _+_, _-_, _≤_, _<_}
 use mathlib.Core.Path.{_≡_, refl, sym, ap, _∙_}
 use mathlib.Core.Logic.{inl, inr}

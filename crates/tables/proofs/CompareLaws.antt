@@ -2,7 +2,6 @@
 --     every-all, every-at   it holds exactly where each number's test does; every-not: not where one does not
 --     rowIs-map, map-rowIs  a row is a map exactly where its entries are
 --     every-same, every-other   one number more: what a loop that keeps a flag uses
--- Assumes nothing.
 use Prim.Native.Nat.{ℕ, zero, suc, _+_, _<_}
 use mathlib.Core.Path.{_≡_, refl, sym, ap, _∙_}
 use mathlib.Core.Bool.{Bool, true, false, _&&_}

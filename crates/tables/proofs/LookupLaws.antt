@@ -4,7 +4,6 @@
 --     map-place, state-place               the place of a node's map entry, and of its state, is inside the bytes
 --     rule-outside, rule-at                a rule for a number that is no label, and for a label
 --     sibling-left .. sibling-none         the other child, by the tests of the code
--- Assumes nothing.
 use Prim.Native.Nat.{ℕ, _+_, _-_, _*_, _≤_, _<_}
 use mathlib.Core.Path.{_≡_, sym}
 use mathlib.Core.Option.{Option, none, some, Option·some-injective}

@@ -3,7 +3,6 @@
 --     pairs-start, pairs-turn, pairs-lower, pairs-all   the root's map, one more inner node, leaves passed by, all of
 --   them
 --     pair-args               what one node's writer needs
--- Assumes nothing.
 use Prim.Native.Nat.{ℕ, _+_, _-_, _*_, _≤_, _<_}
 use mathlib.Core.Path.{_≡_, sym, ap, ap₂, _∙_, subst}
 use mathlib.Core.List.{List, []}

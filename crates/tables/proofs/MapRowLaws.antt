@@ -3,7 +3,6 @@
 --     row-cell-in             a byte of a row is inside the buffer
 --     row-ahead               a byte of the row that is not written yet is as it was
 --     row-other, row-state    other rows, and every state byte, are as they were
--- Assumes nothing.
 use Prim.Native.Nat.{ℕ, _+_, _*_, _≤_, _<_}
 use mathlib.Core.Path.{_≡_, refl, _∙_}
 use mathlib.Core.List.{List}

@@ -5,7 +5,6 @@
 --     state-no-map             a state byte is in no map; excess-no-map: nor is the excess
 --     table-written            a buffer with every state byte and every map is the table, and the excess
 --     passes-written           the same, where one pass writes the state bytes and the next the maps
--- Assumes nothing.
 use Prim.Native.Nat.{ℕ, _+_, _*_, _≤_, _<_}
 use mathlib.Core.Path.{_≡_, refl, ap, _∙_}
 use mathlib.Core.Bool.{true}

@@ -3,7 +3,6 @@
 --     pair-other, cell-other       other maps are as they were, after both and after one store
 --     FarTurn, far-turn            what a turn of `far_pair` reads and writes
 --     line-iteration, line-entry   one more state read, and a state read as an entry of a row
--- Assumes nothing.
 use Prim.Native.Nat.{ℕ, _+_, _*_, _≤_, _<_}
 use mathlib.Core.Path.{_≡_, refl, ap, _∙_}
 use mathlib.Core.List.{List}

@@ -1,7 +1,6 @@
 -- Both children's maps, written at their parent's turn.
 --     pair-rowed .. pair-ext          two rows written one after the other
 --     near-pair-args, far-pair-args   what the writers of both rows need; near-values, far-values: what they write
--- Assumes nothing.
 use Prim.Native.Nat.{ℕ, _+_, _-_, _*_, _<_}
 use mathlib.Core.Path.{_≡_, _∙_}
 use mathlib.Core.List.{List}

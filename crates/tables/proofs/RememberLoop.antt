@@ -3,7 +3,6 @@
 --     Folding, folding-start .. folding-done  the loop that folds moves into a map
 --     Joined, joined-start .. joined-lost     the loop over parts
 --     part-done, part-lost, part-none         a climb that is one part
--- Assumes nothing.
 use Prim.Native.Nat.{ℕ, zero, suc, _+_, _-_, _*_, _/_, _≤_, _<_}
 use mathlib.Core.Path.{_≡_, refl, sym, ap, ap₂, _∙_, subst}
 use mathlib.Core.Bool.{Bool, true, false, cond}

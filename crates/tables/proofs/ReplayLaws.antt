@@ -4,7 +4,6 @@
 --     note-jump, note-parent, note-stuck   one move as it is remembered
 --     move-by-jump .. move-by-label        what a remembered move makes of a state
 --     Replaying, replaying-start .. -lost  the loop that carries a state down
--- Assumes nothing.
 use Prim.Native.Nat.{ℕ, zero, suc, _+_, _-_, _*_, _/_, _%_, _≤_, _<_}
 use mathlib.Core.Path.{_≡_, refl, sym, ap, _∙_}
 use mathlib.Core.Bool.{Bool, true, false, cond}

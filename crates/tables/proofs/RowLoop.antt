@@ -1,7 +1,6 @@
 -- What a turn of `far_pair` reads, to write a map by a table and two maps.
 --     placed                     a byte of a map, by its place as the code has it
 --     far-here-below .. far-is   the byte read in the table and in each of the two maps; the last is the byte to write
--- Assumes nothing.
 use Prim.Native.Nat.{ℕ, _+_, _*_, _<_}
 use mathlib.Core.Path.{_≡_, ap, _∙_}
 use mathlib.Core.List.{List}

@@ -5,7 +5,6 @@
 --     leaf-states, inner-states   a block's nodes as leaves, and one more inner node
 --     states-raise, states-end    leaves passed by, and the end of a block
 --     leaf-args, list-states, inner-args   what the writers need
--- Assumes nothing.
 use Prim.Native.Nat.{ℕ, _+_, _-_, _*_, _≤_, _<_}
 use mathlib.Core.Path.{_≡_, refl, sym, ap, _∙_, subst}
 use mathlib.Core.List.{List, []}

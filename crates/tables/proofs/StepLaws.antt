@@ -2,7 +2,6 @@
 --     parent-alone, parent-lost, parent-right, parent-left   what a move to the parent makes of a state
 --     step-jump, step-parent, step-stuck                     the node that the move leads to, with the state there
 --     Went, step-on, step-lost                               a step that was made, and one that was not
--- Assumes nothing.
 use Prim.Native.Nat.{ℕ, _+_, _≤_, _<_}
 use mathlib.Core.Path.{_≡_, refl, sym, ap, _∙_}
 use mathlib.Core.Bool.{cond}

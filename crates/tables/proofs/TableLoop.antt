@@ -2,7 +2,6 @@
 --     length-stateTableOf   S + 1 bytes a node
 --     map-args            after the first pass the second can be made
 --     states-over         both give the state table, and the excess as before
--- Assumes nothing.
 use Prim.Native.Nat.{ℕ, _+_, _*_}
 use mathlib.Core.Path.{_≡_}
 use mathlib.Core.List.{List, []}

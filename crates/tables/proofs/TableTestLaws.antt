@@ -2,7 +2,6 @@
 --     states-same-yes, -no, -told   all state bytes are g's; maps-same-yes, -no, -told  all maps are f's
 --     cells-table, table-states, table-maps   a buffer that begins with the table, by its cells
 --     table-test                    it begins with the table exactly where both tests say so
--- Assumes nothing.
 use Prim.Native.Nat.{ℕ, _+_, _*_, _≤_, _<_}
 use mathlib.Core.Path.{_≡_, refl, sym, ap, _∙_}
 use mathlib.Core.Bool.{Bool, true, false, _&&_}

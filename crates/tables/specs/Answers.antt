@@ -5,8 +5,6 @@
 -- written n table entry == what a lent buffer holds afterwards: the table and the entry's excess, or the entry where refused
 -- BuildDone == a build's promise: the answer, its number and both buffers, on every input
 -- CheckDone == a full check's promise
---
--- Assumes nothing.
 use Prim.Native.Nat.{ℕ, zero, suc}
 use mathlib.Core.Path.{_≡_}
 use mathlib.Core.Bool.{Bool, cond, _&&_}

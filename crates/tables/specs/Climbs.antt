@@ -11,7 +11,6 @@
 -- climbedOf o == that as an answer, OutOfRange for none; climbedNumber a == document 01's number of an answer: 18 for OutOfRange
 --
 -- Not here: which climbs a part makes (crate questions, Part). N, S and K are the caller's (in the session the record's); no header is read.
--- Assumes nothing.
 use Prim.Native.Nat.{ℕ, _+_, _-_, _*_}
 use mathlib.Core.Bool.{Bool, cond}
 use mathlib.Core.List.{List}

@@ -6,8 +6,6 @@
 -- replayOn .. l to q == the climb from node l to depth `to`, and what its moves make of q downwards: the state at l, with
 --   the links and, by the lent depths, the nodes passed over; none where a value read leads outside, or the climb does
 --   not rise
---
--- Assumes nothing.
 use Prim.Native.Nat.{ℕ, _+_, _*_}
 use mathlib.Core.Bool.{cond}
 use mathlib.Core.List.{List, [], _∷_}

@@ -2,8 +2,6 @@
 --
 -- stateCell s b v == the state byte of node v in table b of s states; 0 past its end
 -- mapCell s b v q == what node v's map says of state q
---
--- Assumes nothing.
 use Prim.Native.Nat.{ℕ, _+_, _*_}
 use mathlib.Core.List.{List}
 use lib.ListN.{getD}

@@ -1,7 +1,6 @@
 -- Climbs over any parents that ascend: never stuck, to the node at the target depth, in moveCount many moves.
 --     up-next-jump, up-next-parent   the next move
 --     climb-up                       there is a climb to each depth above; its end and its number of moves
--- Assumes nothing.
 use Prim.Native.Nat.{ℕ, zero, suc, _+_, _-_, _≤_, _<_}
 use mathlib.Core.Path.{_≡_, refl, sym, ap, _∙_}
 use mathlib.Core.List.{List, [], _∷_}

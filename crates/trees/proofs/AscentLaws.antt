@@ -4,7 +4,6 @@
 --     jumpBy-is                       to which node
 --     jumpBy-in                       among the nodes
 --     jumpBy-top, jumpBy-rule         the rule as document 01 has it, without a count: what a build writes
--- Assumes nothing.
 use Prim.Native.Nat.{ℕ, zero, suc, _+_, _-_, _≤_, _<_}
 use mathlib.Core.Path.{_≡_, refl, sym, ap, ap₂, _∙_}
 use mathlib.Core.Bool.{Bool, true, false, cond}

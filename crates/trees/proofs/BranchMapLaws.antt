@@ -4,8 +4,6 @@
 --     branchState-root, branchState-down a node's state from its parent's
 --     branchMap-root, -near, -far        document 01's map as Load composes it: the upper part is read first
 --     branchState-below, branchMap-below
---
--- Assumes nothing.
 use Prim.Native.Nat.{ℕ, zero, suc, _+_, _<_}
 use mathlib.Core.Path.{_≡_, refl, sym, ap, _∙_}
 use mathlib.Core.List.{List, [], _∷_, _++_, append-assoc, append-nil}

@@ -5,7 +5,6 @@
 --                   climb and carry together, move by move, in any forest
 --     counted-carry, counted-climb
 --                   moves that also count what they go over: the count is that of the moves
--- Assumes nothing.
 use Prim.Native.Nat.{ℕ, _+_, _-_, _≤_, _<_}
 use mathlib.Core.Path.{_≡_, refl, sym, ap, _∙_, subst}
 use mathlib.Core.List.{List, [], _∷_}

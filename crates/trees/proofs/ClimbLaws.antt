@@ -5,7 +5,6 @@
 --     climb-most                            at most as many moves as the depths are apart
 --     Agree, same-next, same-climb-of       forests that agree on their nodes climb alike
 --     same-climb, same-end                  so does a table that says what a tree says
--- Assumes nothing.
 use Prim.Native.Nat.{ℕ, zero, suc, _+_, _-_, _≤_, _<_}
 use mathlib.Core.Path.{_≡_, refl, sym, ap, _∙_}
 use mathlib.Core.List.{List, [], _∷_}

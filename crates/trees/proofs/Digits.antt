@@ -3,7 +3,6 @@
 --     digits-mono    a greater number has no fewer
 --     digits-limit   a number up to 32,767 has at most 15
 --     weight-digits  where 2 ^ k - 1 ≤ n, n has at least k
--- Assumes nothing.
 use Prim.Native.Nat.{ℕ, zero, suc, _*_, _/_, _^_, _≤_, _<_, suc-le-suc, max}
 use mathlib.Core.Path.{_≡_, refl}
 use native.Mathlib.Omega.{arith}

@@ -3,7 +3,6 @@
 --     height-reached  some node is as deep
 --     height-size     2 * height t + 1 ≤ size t
 --     height-limit, depth-limit   so with at most 65,535 nodes no depth is above 32,767
--- Assumes nothing.
 use Prim.Native.Nat.{ℕ, _+_, _*_, _≤_, _<_}
 use mathlib.Core.Path.{_≡_, refl}
 use native.Mathlib.Omega.{arith}

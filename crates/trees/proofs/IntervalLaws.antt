@@ -2,7 +2,6 @@
 --     ancestor-interval    an ancestor's run holds the node
 --     interval-ancestor    a node in u's run has the ancestor u
 --     above-at             u is then depth t l - depth t u parents above l
--- Assumes nothing.
 use Prim.Native.Nat.{ℕ, zero, suc, _+_, _-_, _≤_, _<_}
 use mathlib.Core.Path.{_≡_, sym, ap, _∙_, subst}
 use mathlib.Core.Logic.{inl, inr}

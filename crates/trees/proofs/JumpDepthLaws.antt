@@ -1,7 +1,6 @@
 -- The laws of the depths to which jumps lead.
 --     jumpDepth-zero, jumpDepth-suc   the two-distances rule by depths
 --     jumpDepth-le                    a jump leads to no greater depth
--- Assumes nothing.
 use Prim.Native.Nat.{ℕ, zero, suc, _-_, _≤_}
 use mathlib.Core.Path.{_≡_, refl}
 use mathlib.Core.Bool.{Bool, true, false, cond}

@@ -4,7 +4,6 @@
 --     jump-root, jump-rule        the two-distances rule by nodes, as document 01 has it
 --     depth-jump, jump-is         a jump leads to the ancestor of depth jumpDepth; jump-in, jump-above
 -- The laws of jumpDepth are passed on from proofs/JumpDepthLaws.
--- Assumes nothing.
 use Prim.Native.Nat.{ℕ, zero, suc, _+_, _-_, _≤_, _<_}
 use mathlib.Core.Path.{_≡_, refl, sym, ap, _∙_}
 use native.Mathlib.Omega.{arith}

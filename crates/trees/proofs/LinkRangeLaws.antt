@@ -2,7 +2,6 @@
 --     next-out-of-range            a move that is not made is a stray link
 --     Failed, carried-none  climb and carry together give nothing only by a stray link or by a move that makes nothing of its value
 --     tree-links-in-range        a tree has no stray link
--- Assumes nothing.
 use Prim.Native.Nat.{ℕ, zero, suc, _+_, _≤_, _<_}
 use mathlib.Core.Path.{_≡_, refl, sym, ap, _∙_, subst}
 use mathlib.Core.Bool.{Bool, true, false, cond, _&&_}

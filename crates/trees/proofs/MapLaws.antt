@@ -5,7 +5,6 @@
 --     stateMap-root, -near, -far   document 01's map as Load composes it; stateMap-state, stateMap-below
 --
 -- Not here: the maps of branch tables (BranchMapLaws).
--- Assumes nothing.
 use Prim.Native.Nat.{ℕ, zero, suc, _+_, _-_, _≤_, _<_}
 use mathlib.Core.Path.{_≡_, refl, sym, ap, ap₂, _∙_}
 use mathlib.Core.Bool.{Bool, true, false, cond}

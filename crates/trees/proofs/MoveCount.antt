@@ -3,7 +3,6 @@
 --     nextDepth-lt, -ge         it rises, and not past the target
 --     moveCount-done, -move     the equations without a count
 --     moveCount-bound           at most three moves for each binary digit of the greatest depth
--- Assumes nothing.
 use Prim.Native.Nat.{ℕ, zero, suc, pred, _+_, _-_, _*_, _≤_, _<_}
 use mathlib.Core.Path.{_≡_, refl, sym, ap}
 use mathlib.Core.List.{List, [], _∷_}

@@ -6,7 +6,6 @@
 --     next-jump, next-parent  when the jump is taken, and when the parent
 --     next-outside, next-jump-flat, next-parent-outside, next-parent-flat   when there is no move
 --     none-some, cond-some, both   what a result and a test of two say, for all who read such
--- Assumes nothing.
 use Prim.Native.Nat.{ℕ, _≤_, _<_}
 use mathlib.Core.Path.{_≡_, refl, sym, ap, subst}
 use mathlib.Core.Bool.{Bool, true, false, cond, _&&_}

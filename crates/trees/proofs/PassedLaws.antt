@@ -5,7 +5,6 @@
 --     same-passed                 so in a table that says what a tree says
 --     ended-carry, ended-climb    moves that count themselves and tell their end: the count is that of the moves, the
 --                                 end the climb's
--- Assumes nothing.
 use Prim.Native.Nat.{ℕ, _+_, _-_, _≤_, _<_}
 use mathlib.Core.Path.{_≡_, refl, sym, ap, ap₂, _∙_}
 use mathlib.Core.List.{List, [], _∷_}

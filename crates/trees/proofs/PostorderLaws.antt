@@ -7,7 +7,6 @@
 --     leaf-at .. end-at  the test, node by node: what a loop over the kinds uses
 --     size-of, kind-of   the size of a tree with given kinds, and the kind of one of its nodes
 --     some-tree, some-node  kinds that pass the test have a tree, and so a node
--- Assumes nothing.
 use Prim.Native.Nat.{ℕ, zero, suc, _+_, _-_, _≤_, _<_}
 use mathlib.Core.Path.{_≡_, refl, sym, ap, ap₂, _∙_, subst}
 use mathlib.Core.List.{List, [], _∷_, _++_, append-assoc, append-nil}

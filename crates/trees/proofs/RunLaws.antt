@@ -6,7 +6,6 @@
 --     changed-length           a change list changes no number of labels
 --
 -- An inner node v has the right child v - 1 and the left child v - 1 - size (sub t (v - 1)).
--- Assumes nothing.
 use Prim.Native.Nat.{ℕ, _+_, _-_, _<_}
 use mathlib.Core.Path.{_≡_, refl, sym, ap, _∙_}
 use mathlib.Core.List.{List, [], _∷_}

@@ -4,7 +4,6 @@
 --     moveCount-samples   a climb from depth 6 to 1 takes 3 moves, to 0 takes 2
 --     climb-samples       and these are they, in the comb
 --     digits-samples      32,767 has 15 binary digits, 0 none
--- Assumes nothing.
 use Prim.Native.Nat.{ℕ}
 use mathlib.Core.Path.{_≡_, refl}
 use mathlib.Core.List.{[], _∷_}

@@ -7,7 +7,6 @@
 --     jumpDepth-block  from the end of a block the jump leads to its start
 --     Canon, canon     the exponents of rep n rise strictly, save that the first two may be equal
 -- Not here: the number of moves (MoveCount).
--- Assumes nothing.
 use Prim.Native.Nat.{ℕ, zero, suc, _+_, _-_, _^_, _≤_, _<_}
 use mathlib.Core.Path.{_≡_, refl, sym, ap, _∙_}
 use mathlib.Core.Bool.{cond}

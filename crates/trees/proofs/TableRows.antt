@@ -2,8 +2,6 @@
 --     length-nodeRow ..         the widths and cells of the rows that Load writes
 --     nodeRow-cells, mapRow-cells  such a row, from its cells by name
 --     nodeTableOf-parent ..       what a buffer that begins with one of Load's tables has at a node
---
--- Assumes nothing.
 use Prim.Native.Nat.{ℕ, zero, suc, _+_, _-_, _*_, _≤_, _<_}
 use mathlib.Core.Path.{_≡_, refl, sym, ap, _∙_}
 use mathlib.Core.List.{List, [], _∷_, _++_}

@@ -3,7 +3,6 @@
 --     tree-ascends     a tree's parents and depths ascend
 --     ancestor-rise    an ancestor is the node so many parents above; jump-tree: a jump is that of these parents
 --     tree-forest      so is the forest of a tree
--- Assumes nothing.
 use Prim.Native.Nat.{ℕ, zero, suc, _+_, _<_}
 use mathlib.Core.Path.{_≡_, refl, ap, fun-ext}
 use native.Mathlib.Omega.{arith}

@@ -6,7 +6,6 @@
 --     climb-bound                        at most three moves for each binary digit of the tree's height
 --     climb-limit                        so at most 45 with at most 65,535 nodes
 --     climb-proper                       each move starts at a node other than the root
--- Assumes nothing.
 use Prim.Native.Nat.{ℕ, _+_, _-_, _*_, _≤_, _<_}
 use mathlib.Core.Path.{_≡_, sym, ap, _∙_}
 use mathlib.Core.List.{List, [], _∷_}

@@ -1,7 +1,6 @@
 -- The laws of a walk from parent to parent.
 --     walk-add    a walk of m + n steps is one of m steps and then one of n
 --     walk-keeps  what every step keeps, a walk keeps
--- Assumes nothing.
 use Prim.Native.Nat.{ℕ, zero, suc, _+_, _≤_, _<_}
 use mathlib.Core.Path.{_≡_, ap, _∙_}
 use native.Mathlib.Omega.{arith}

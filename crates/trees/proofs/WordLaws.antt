@@ -1,7 +1,6 @@
 -- The two words of a branch question: with the upper node's label and without it.
 --     word-below        they differ by the upper node's label, which comes first
 --     wordBelow-same    the same node twice is the empty word
--- Assumes nothing.
 use Prim.Native.Nat.{ℕ, _+_, _-_, _<_}
 use mathlib.Core.Path.{_≡_, ap, _∙_}
 use mathlib.Core.List.{List, [], _∷_, _++_}

@@ -7,7 +7,6 @@
 -- wordRun B q w == the state after state q reads the word w
 --
 -- States are the numbers below `states`, so 002's Q is that number; F is a test.
--- Assumes nothing.
 use Prim.Native.Nat.{ℕ}
 use mathlib.Core.Bool.{Bool}
 use mathlib.Core.List.{List, [], _∷_}

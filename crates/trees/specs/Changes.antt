@@ -2,8 +2,6 @@
 --
 -- changed ls vs bs == the labels ls with label bs[i] at node vs[i], entry after entry, so that of two entries for a node the
 --   last holds; an entry beyond the labels, or without a partner in the other list, changes nothing
---
--- Assumes nothing.
 use Prim.Native.Nat.{ℕ}
 use mathlib.Core.List.{List, [], _∷_}
 use lib.ListN.{set}

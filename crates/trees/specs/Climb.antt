@@ -11,7 +11,6 @@
 -- digits n == the number of binary digits; 0 has none
 --
 -- climb, moveCount and digits count down a number that is large enough; their equations without it are in proofs/ClimbLaws.
--- Assumes nothing.
 use Prim.Native.Nat.{ℕ, zero, suc, _+_, _-_, _/_}
 use mathlib.Core.Bool.{Bool, cond, _&&_}
 use mathlib.Core.List.{List, [], _∷_}

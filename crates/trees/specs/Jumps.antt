@@ -6,7 +6,6 @@
 --
 -- Both count down a number that is large enough; the equations without it are jump-root, jump-rule, jumpDepth-zero and
 -- jumpDepth-suc (proofs/JumpLaws), and nothing later looks at the count.
--- Assumes nothing.
 use Prim.Native.Nat.{ℕ, zero, suc, _-_}
 use mathlib.Core.Bool.{cond}
 use lib.Dec.{eqb}

@@ -2,8 +2,6 @@
 --
 -- LinkOutOfRange F == a parent or a jump of the forest F that leads outside it or, below the top, does not rise: of these values what "a value
 --   read leads outside the plan .. or a climb doesn't rise" means. A tree has none (proofs/LinkRangeLaws).
---
--- Assumes nothing.
 use Prim.Native.Nat.{ℕ, _≤_, _<_}
 use Rattle.trees.specs.Climb.{Forest}
 

@@ -12,7 +12,6 @@
 -- AtOrBelow t u l == node l is u or stands below it: some number of parents above l is u
 --
 -- Out of range (v not below size t) the values mean nothing.
--- Assumes nothing.
 use Prim.Native.Nat.{ℕ, zero, suc, _+_, _-_, _≤_, _<_}
 use mathlib.Core.Path.{_≡_}
 use mathlib.Core.Bool.{Bool, cond, _&&_}

@@ -5,7 +5,6 @@
 --
 -- "how many nodes it passed over, that is the depth of its start less the depth of its end": the end counts, the start
 -- does not, so a climb of links to the parent alone passes over as many as it has links.
--- Assumes nothing.
 use Prim.Native.Nat.{ℕ, _-_}
 use mathlib.Core.List.{List}
 use Rattle.trees.specs.Climb.{Forest, Move, climbEnd}

@@ -6,8 +6,6 @@
 -- read lf nd ks ls st == the values of the trees that wait after kinds ks and labels ls, the last completed first, where st waited
 --   before; a leaf of label a has the value lf a, an inner node of label a over values p, q the value nd p a q
 -- treeOf ks ls == the tree of these kinds and labels; leaf 0 where there is none
---
--- Assumes nothing.
 use Prim.Native.Nat.{ℕ, zero, suc}
 use mathlib.Core.Bool.{Bool, false}
 use mathlib.Core.List.{List, [], _∷_}

@@ -7,7 +7,6 @@
 --
 -- A map is defined by walking parents one at a time. That the build's composition of maps gives the same is a theorem
 -- (proofs/MapLaws).
--- Assumes nothing.
 use Prim.Native.Nat.{ℕ, zero, suc, _+_, _-_}
 use mathlib.Core.Bool.{Bool, cond}
 use mathlib.Core.List.{List, [], _∷_, _++_}

@@ -7,7 +7,6 @@
 -- labelAt t v, kindAt t v == those of node number v; 0 out of range
 --
 -- Not here: node numbers (Numbering), the way back from bytes (Postorder).
--- Assumes nothing.
 use Prim.Native.Nat.{ℕ, suc, _+_, max}
 use mathlib.Core.List.{List, [], _∷_, _++_}
 use lib.ListN.{getD}

@@ -1,7 +1,6 @@
 -- The turns of a question: what each answer of a call comes to.
 --     more-iteration, finished-iteration, refused-iteration      an advance
 --     started-on, start-refused                   a Start
--- Assumes nothing.
 use Prim.Native.Nat.{ℕ, suc}
 use mathlib.Core.Path.{_≡_, refl, ap, _∙_}
 use mathlib.Core.List.{List}

@@ -3,7 +3,6 @@
 --     load-number         a refusal of its Load is that of the first check that fails
 --     cleared-answer      on the session and the tables that an accepted Load left, what is told of a question is answerTo
 -- From the theorem over every list of calls: each call is answered as the reference model says, and that of a clean question says this.
--- Assumes nothing.
 use Prim.Native.Nat.{ℕ, zero, suc, _+_, _≤_, _<_}
 use mathlib.Core.Path.{_≡_, refl, sym, ap, _∙_, subst}
 use mathlib.Core.Bool.{Bool, true, false, cond}

@@ -1,7 +1,6 @@
 -- Reads.
 --     counted      what is within the first n bytes is within what bounds n, and within all
 --     counted-front      what is within the front of a list is within all of it, and within what bounds the front
--- Assumes nothing.
 use Prim.Native.Nat.{ℕ, _≤_}
 use mathlib.Core.Path.{_≡_, sym}
 use mathlib.Core.List.{List, _++_}

@@ -8,7 +8,6 @@
 --     room-enough        the program's tables are long enough for all that it takes: Load's refusal is one of 2 to 10
 --     loaded-said, refused-said      what is said where Load accepts, and where it refuses
 --     lines-over         the lines of one chunk after another are those of all at once
--- Assumes nothing.
 use Prim.Native.Nat.{ℕ, zero, suc, _+_, _*_, _≤_, _<_, min}
 use mathlib.Core.Path.{_≡_, refl, ap, sym, _∙_, subst}
 use mathlib.Core.Bool.{Bool, true, false, cond, _||_}

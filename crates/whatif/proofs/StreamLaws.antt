@@ -6,7 +6,6 @@
 --     kept-line       the line of a whole question
 --     open-chunks, lines-chunks       one chunk after another
 --     byte-kept-open, byte-answered, advances-none, advances-then     what taking bytes comes to
--- Assumes nothing.
 use Prim.Native.Nat.{ℕ, _+_, _-_, _*_, _/_, _≤_, _<_, min}
 use mathlib.Core.Path.{_≡_, refl, ap, sym, _∙_}
 use mathlib.Core.Bool.{Bool, true, false, _&&_}

@@ -4,7 +4,6 @@
 --     word-put      a word copied to where the text ends
 --     put-nothing, put-then      nothing appended; one text appended after another
 --     yes-or-no-short
--- Assumes nothing.
 use Prim.Native.Nat.{ℕ, zero, suc, _+_, _-_, _/_, _^_, _≤_, _<_}
 use mathlib.Core.Path.{_≡_, refl, ap, sym, _∙_}
 use mathlib.Core.Bool.{Bool, true, false}

@@ -8,7 +8,6 @@
 --     sample-lines    document 01's nine questions, as bytes, give the nine lines, as text
 --     sample-said     and so do the sample's 121 bytes
 --     said-of-nothing, said-too-large, said-cut-short     inputs that end early, or state too much
--- Assumes nothing.
 use Prim.Native.Nat.{ℕ, suc, _≤_}
 use mathlib.Core.Path.{_≡_, refl, ap, sym, _∙_}
 use mathlib.Core.Bool.{true, false}

@@ -4,7 +4,6 @@
 --     nodes-count    how many nodes a list has
 --     taken-iteration     one more three taken: what is done and what is left to do make the whole
 --     taken-end      less than three are left
--- Assumes nothing.
 use Prim.Native.Nat.{ℕ, suc, _+_, _*_, _/_, _≤_, _<_}
 use mathlib.Core.Path.{_≡_, refl, ap, sym, _∙_}
 use mathlib.Core.List.{List, [], _∷_, _++_, append-assoc, append-nil}

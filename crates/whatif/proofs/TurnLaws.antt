@@ -3,7 +3,6 @@
 --                                             whole, and their lines were handed over
 --     going-start, going-on, going-progress   at the start, after one more chunk, and what is told of it
 --     lines-sent                              what is handed over for a chunk
--- Assumes nothing.
 use Prim.Native.Nat.{ℕ, _+_, _-_, _*_, _≤_}
 use mathlib.Core.Path.{_≡_, refl, sym, ap, _∙_}
 use mathlib.Core.List.{List, [], _++_}

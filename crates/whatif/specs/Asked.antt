@@ -5,7 +5,6 @@
 -- mostParts == no question has more parts, so as many advances are enough
 --
 -- By the promises of the session's calls (crate session, Promises). What they come to on tables as built is answerTo (Cleared).
--- Assumes nothing.
 use Prim.Native.Nat.{ℕ, zero, suc}
 use mathlib.Core.List.{List}
 use Rattle.formats.specs.Inputs.{Inputs}

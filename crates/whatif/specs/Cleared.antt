@@ -6,7 +6,6 @@
 -- Cleared s x == the session s is the one that an accepted Load left, and x is what it was given, with the tables that it wrote
 --
 -- That the program's calls tell this answer is proofs/Theorems.
--- Assumes nothing.
 use Prim.Native.Nat.{ℕ, zero, suc}
 use mathlib.Core.Path.{_≡_}
 use mathlib.Core.List.{List}

@@ -3,7 +3,6 @@
 -- tooLarge p r == whether the stated lengths p of the plan and r of the rules are above what the program takes
 --
 -- A length itself is le32 (crate formats, Bytes) of the bytes that came: "missing length bytes count as 0", as le32 counts them.
--- Assumes nothing.
 use Prim.Native.Nat.{ℕ}
 use mathlib.Core.Bool.{Bool, _||_}
 use lib.Dec.{ltb}

@@ -2,8 +2,6 @@
 --
 -- lineOf a == "One line a question, no header: state, yes or no, parts, links; or `refused` and the number", with single spaces and a
 --   newline, the nodes passed over last (document 02, S-7); nothing of an answer that ends no question
---
--- Assumes nothing.
 use Prim.Native.Nat.{ℕ}
 use mathlib.Core.Bool.{Bool, true, false}
 use mathlib.Core.List.{List, [], _∷_, _++_}

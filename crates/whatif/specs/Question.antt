@@ -5,7 +5,6 @@
 -- nodesIn l, labelsIn l == the nodes and the labels of a list of changes, three bytes each; less than three at the end are left out
 --
 -- "a question is a 16-bit m and m times a 16-bit node and an 8-bit label"
--- Assumes nothing.
 use Prim.Native.Nat.{ℕ, _+_, _*_}
 use mathlib.Core.List.{List, [], _∷_}
 use Rattle.formats.specs.Bytes.{le16}

@@ -7,7 +7,6 @@
 -- saidTo h p r qs == what is said to an input by its parts: its lengths, with which h starts, its plan, rules and questions
 --
 -- What is said to a question is questionLine (Stream), and its line lineOf (Line).
--- Assumes nothing.
 use Prim.Native.Nat.{ℕ, zero, suc, _+_}
 use mathlib.Core.Bool.{cond}
 use mathlib.Core.List.{List, [], _∷_}

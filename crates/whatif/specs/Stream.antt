@@ -10,7 +10,6 @@
 -- Advances f c .. == what taking the chunk c comes to: the buffer holds the question that is not yet whole then, and the lines are appended
 --
 -- "A question cut short by the end of input or by the questions' length is dropped": no line comes before its last byte.
--- Assumes nothing.
 use Prim.Native.Nat.{ℕ, _*_, min}
 use mathlib.Core.Path.{_≡_}
 use mathlib.Core.Bool.{Bool, cond}

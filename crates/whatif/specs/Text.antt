@@ -2,8 +2,6 @@
 --
 -- decimal n == n in decimal digits, as bytes, the fewest that hold it
 -- Put b at t b′ e == the buffer b, whose text ended at `at`, became b′: t was appended, and the text ends at e
---
--- Assumes nothing.
 use Prim.Native.Nat.{ℕ, zero, suc, _+_, _/_}
 use mathlib.Core.Path.{_≡_}
 use mathlib.Core.Bool.{cond}

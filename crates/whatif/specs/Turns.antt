@@ -15,7 +15,6 @@
 -- A contract can't name what a system call reads or writes. What came is what the buffers hold after the read; what is
 -- written meets the `requires` of the functions that write (src/send.rt). The bytes of earlier chunks are gone when the next
 -- one comes: the contracts above one turn know that they were there, and their number.
--- Assumes nothing.
 use Prim.Native.Nat.{ℕ, _≤_}
 use mathlib.Core.Path.{_≡_}
 use mathlib.Core.Bool.{cond}

@@ -4,8 +4,6 @@
 -- MapsTested .. r == the same of the maps
 -- TablesTested .. r == r tells whether both buffers begin with the tables of the tree of these labels and kinds,
 --   whatever the marks are
---
--- Assumes nothing.
 use Prim.Native.Nat.{ℕ}
 use mathlib.Core.Path.{_≡_}
 use mathlib.Core.Bool.{Bool}

@@ -1,17 +1,13 @@
 -- What the writers of a plan's tables for a branch table need, once all checks have passed, and what they leave.
 --
 -- FillArgs ls ks st s k n l m == labels and kinds of a tree of n nodes, steps of s states and k labels, within the
---   limits; room
---   for the tables in buffers of l numbers and m bytes
+--   limits; room for the tables in buffers of l numbers and m bytes
 -- BranchFilled .. == the two tables and the excess as it was, for the tree of these kinds and labels, whatever the
 --   marks are
 -- PartArgs p r n s k l m == plan and branch table pass 2 to 11 for buffers of l numbers and m bytes; n, s and k are
---   their N, S and
---   K, with the lengths that follow, for the parts handed on
+--   their N, S and K, with the lengths that follow, for the parts handed on
 -- BranchWritten p r nodeTable bytes nodeTable′ bytes′ == both buffers begin with the tables built from p and r, and their
 --   excess is as it was
---
--- Assumes nothing.
 use Prim.Native.Nat.{ℕ, _*_, _≤_, _<_}
 use mathlib.Core.Path.{_≡_}
 use mathlib.Core.List.{List, _++_}

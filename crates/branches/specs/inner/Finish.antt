@@ -5,8 +5,6 @@
 -- toldOf mk a == what is told of the end a of a climb, with the marks mk; StateIn n a == its state is below n
 -- FirstArgs .. == what the first state reads is inside its runs
 -- AnswerArgs p r nodeTable bytes u l == what the lent headers and lengths say where 17 and 13 pass
---
--- Assumes nothing.
 use Prim.Native.Nat.{ℕ, _+_, _*_, _≤_, _<_}
 use mathlib.Core.Path.{_≡_}
 use mathlib.Core.Bool.{true, cond, _&&_}

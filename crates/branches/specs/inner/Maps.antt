@@ -2,12 +2,9 @@
 --
 -- stepCell s b p j st k a q == the state after the maps of j and then p, and then label a
 -- nodeMap .. v q == node v's map at q: a step by its own label where its jump is its parent; else the map of the
---   parent's jump, the
---   parent's map, and then that step, since a word is read from above
+--   parent's jump, the parent's map, and then that step, since a word is read from above
 -- StepRowArgs, NodeArgs == what writing or comparing one map needs
 -- Mapped .. == the maps of the nodes i, .. n - 1 are the automaton's, for every tree and automaton so lent
---
--- Assumes nothing.
 use Prim.Native.Nat.{ℕ, _+_, _*_, _≤_, _<_}
 use mathlib.Core.Path.{_≡_}
 use mathlib.Core.Bool.{cond}

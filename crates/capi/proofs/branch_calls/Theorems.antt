@@ -10,7 +10,6 @@
 --     each-state         each node's state in source document 002's run is that of its subtree; the fresh run tells the root's (its contract)
 --     jump-samples, climb-samples         jumps of depths 1 to 7; climbs from depth 6 to 1 and to 0
 -- The promises of the calls themselves, on every input, are the contracts in src/ (this crate's and those below).
--- Assumes nothing.
 use Prim.Native.Nat.{ℕ, _+_, _-_, _≤_, _<_}
 use mathlib.Core.Path.{_≡_}
 use mathlib.Core.Bool.{true}

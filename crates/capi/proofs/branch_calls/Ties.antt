@@ -11,7 +11,6 @@
 --     branch-number, branch-kept    the first check of 17, 13, 16, 18 that fails; refused: the four places are as they were
 --     branch-told, branch-apart     on tables as built: the word automaton's state and mark, the links of the climb from
 --                         the lower node to the upper's depth, the nodes passed over; 16 where it is not at or below
--- Assumes nothing.
 use Prim.Native.Nat.{ℕ, zero, suc, _-_, _<_}
 use mathlib.Core.Path.{_≡_, refl, sym, ap, _∙_, subst}
 use mathlib.Core.Bool.{Bool, true, false}

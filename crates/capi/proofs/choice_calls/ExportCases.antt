@@ -1,7 +1,6 @@
 -- The ways out of `whatif_count`.
 --     header-there, copy-args    what an accepted reply's rest asks
 --     refused-exported, short-exported, counted-exported   one for each way out
--- Assumes nothing.
 use Prim.Native.Nat.{ℕ, _+_, _≤_, _<_}
 use mathlib.Core.Path.{_≡_, refl, sym, ap, _∙_}
 use mathlib.Core.Bool.{Bool, true, false, cond}

@@ -3,7 +3,6 @@
 --                       definition by trying all"
 --     count-sum         "and their sum is K to the power m"
 --     count-as-asked    "the parts and links told are those of a question whose W is these nodes and the root"
--- Assumes nothing.
 use Prim.Native.Nat.{ℕ, _-_, _^_, _≤_, _<_}
 use mathlib.Core.Path.{_≡_, refl, sym, ap, _∙_}
 use mathlib.Core.List.{List, [], _∷_, _++_}

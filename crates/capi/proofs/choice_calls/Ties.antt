@@ -7,7 +7,6 @@
 --                       properties on whatever is lent
 --     count-none-open   accepted with no open node, on tables as built: one part, no links, the run's own state has
 --                       count 1
--- Assumes nothing.
 use Prim.Native.Nat.{ℕ, _+_, _-_, _<_}
 use mathlib.Core.Path.{_≡_, refl, sym, ap, _∙_, subst}
 use mathlib.Core.Bool.{Bool, true, false, cond, _&&_, _||_}

@@ -1,7 +1,6 @@
 -- The ways out of `whatif_lay_over`.
 --     accepted-is, count-most, nodes-args, labels-args   what an accepted reply holds, and what its copies ask
 --     refused-exported, nodes-short, labels-short, laid-exported   one for each way out
--- Assumes nothing.
 use Prim.Native.Nat.{ℕ, _≤_, _<_}
 use mathlib.Core.Path.{_≡_, refl, sym, ap, ap₂, _∙_, subst}
 use mathlib.Core.Bool.{Bool, true, false, _&&_}

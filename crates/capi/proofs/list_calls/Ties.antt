@@ -3,7 +3,6 @@
 --     told-lists         an accepted call hands back the laid list: the first `count` nodes and labels
 --     refused-keeps      a refused one leaves both buffers and the count
 --     told-associative   "laying over is associative", of what four accepted calls hand back
--- Assumes nothing.
 use Prim.Native.Nat.{ℕ}
 use mathlib.Core.Path.{_≡_, refl, sym, ap, ap₂, _∙_, subst}
 use mathlib.Core.List.{List, _++_}

@@ -2,7 +2,6 @@
 --     exported-number   its number is that of the first check that fails
 --     exported-lists    accepted: the tables, and behind them what was there
 --     exported-kept     refused: both buffers as they were
--- Assumes nothing.
 use Prim.Native.Nat.{ℕ, zero, suc}
 use mathlib.Core.Path.{_≡_, refl, sym, _∙_}
 use mathlib.Core.List.{List, _++_}

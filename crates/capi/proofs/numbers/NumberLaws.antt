@@ -1,5 +1,4 @@
 -- A build's or a full check's answer of a known case, told as its number and values.
--- Assumes nothing.
 use Prim.Native.Nat.{ℕ}
 use mathlib.Core.Path.{_≡_, sym, ap}
 use Rattle.tables.specs.declared.answers.Building.{Building}

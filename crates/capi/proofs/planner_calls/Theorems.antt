@@ -2,7 +2,6 @@
 --     home-restores-file    a file that went out comes home from its plan, byte for byte, where there is room for it
 --     out-restores-plan     a plan that went home goes out from its file, byte for byte, where there is room for it
 --     home-accepts          home accepts exactly the plans of acceptable files, where the output is long enough
--- Assumes nothing.
 use Prim.Native.Nat.{ℕ, _+_, _*_, _≤_}
 use mathlib.Core.Path.{_≡_, refl, sym, ap, ap₂, _∙_, subst}
 use mathlib.Core.Bool.{Bool, true, _&&_}

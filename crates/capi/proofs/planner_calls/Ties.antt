@@ -4,7 +4,6 @@
 --     out-tied, home-tied      the contracts are OutDone and HomeDone
 --     out-number, home-number  the number is that of the first check that fails: 19, 20, 21 and 19, 21
 --     out-kept, home-kept      refused: every buffer is as it was
--- Assumes nothing.
 use Prim.Native.Nat.{ℕ}
 use mathlib.Core.Path.{_≡_}
 use mathlib.Core.List.{List}

@@ -2,7 +2,6 @@
 --     merge-exported          whatif_merge, from the answer's promise
 --     count-most, lines-args  a reply has at most 256 lines, and its arrays are there whole
 --     refused-exported, short-exported, agree-exported    whatif_agree: refused, the lines do not fit, accepted
--- Assumes nothing.
 use Prim.Native.Nat.{ℕ, zero, suc, _+_, _*_, _≤_, _<_}
 use mathlib.Core.Path.{_≡_, refl, sym, ap, _∙_, subst}
 use mathlib.Core.Bool.{Bool, cond}

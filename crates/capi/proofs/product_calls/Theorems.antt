@@ -3,7 +3,6 @@
 --     agree-exactly      accepted, 1 is replied exactly where every plan gets the same answer from both tables
 --     agree-separates    accepted with lines, they are a separating plan of at most 256 lines, of least height
 --     agree-untouched    where 1 is replied the lines are as they were
--- Assumes nothing.
 use Prim.Native.Nat.{ℕ, _+_, _*_, _≤_, _<_}
 use mathlib.Core.Path.{_≡_, refl, sym, ap, _∙_, subst}
 use mathlib.Core.Bool.{Bool, cond, _&&_}

@@ -6,7 +6,6 @@
 --     agree-number              the first check that fails: 6 to 9 of the first, 6 to 9 of the second, 23, then 11 where
 --                               the lines do not fit (agreeRoomChecks)
 --     merge-kept, agree-kept    refused: every buffer and place is as it was
--- Assumes nothing.
 use Prim.Native.Nat.{ℕ, _*_}
 use mathlib.Core.Path.{_≡_, refl, sym, ap, _∙_}
 use mathlib.Core.Bool.{Bool, true, false, cond}

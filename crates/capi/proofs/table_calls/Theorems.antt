@@ -5,7 +5,6 @@
 --                            lent tables are what the build writes; refused, the place is as it was
 --     run-number, run-answers, run-kept   the first check of 2 to 10 and 12 to 14 that fails; accepted, source document
 --                            002's run of the changed plan; refused, the places are as they were
--- Assumes nothing.
 use Prim.Native.Nat.{ℕ, zero, suc}
 use mathlib.Core.Path.{_≡_, refl, sym, ap, _∙_}
 use mathlib.Core.Bool.{Bool, true, false}

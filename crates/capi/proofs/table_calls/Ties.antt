@@ -5,7 +5,6 @@
 --                                         the tables of the definitions, and RunExported
 --     version-tied                        the version is the release's
 -- Numbers and what a refusal leaves: Theorems.
--- Assumes nothing.
 use mathlib.Core.Path.{_≡_}
 use lib.ListN.{length}
 use contract.Lifetimes.{Lfts}

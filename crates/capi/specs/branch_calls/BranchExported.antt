@@ -3,8 +3,6 @@
 -- endOf a old, acceptedOf a old, linksOf a old, passedOf a old == what a place holds afterwards: the answer's value, or what it held where it is refused
 -- AskNumber == an answer told as a number and values
 -- AskExported reading .. == the promise of the exported function of that reading
---
--- Assumes nothing.
 use Prim.Native.Nat.{ℕ}
 use mathlib.Core.Path.{_≡_}
 use mathlib.Core.List.{List}

@@ -5,7 +5,6 @@
 -- CountExported .. == the promise of whatif_count: its number, and counts, parts and links afterwards
 --
 -- In C a counts buffer shorter than S gets 11: it is asked last, so no number of the count is hidden by it.
--- Assumes nothing.
 use Prim.Native.Nat.{ℕ}
 use mathlib.Core.Path.{_≡_}
 use mathlib.Core.List.{List, [], _∷_, _++_}

@@ -4,7 +4,6 @@
 -- LayExported .. == the promise of whatif_lay_over: its number, and nodes, labels and count afterwards
 --
 -- "11 after 22": it is asked last, so no number of laying over is hidden by it.
--- Assumes nothing.
 use Prim.Native.Nat.{ℕ}
 use mathlib.Core.Path.{_≡_}
 use mathlib.Core.Bool.{_&&_}

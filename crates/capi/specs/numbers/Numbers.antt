@@ -5,8 +5,6 @@
 -- yesOf a old == what the place of a full check's yes holds afterwards: the answer's value, or what it held where it is refused
 -- BuildNumber, CheckNumber == an answer told as a number and values
 -- BuildExported, CheckExported == the promises of the exported functions
---
--- Assumes nothing.
 use Prim.Native.Nat.{ℕ}
 use mathlib.Core.Path.{_≡_}
 use mathlib.Core.Bool.{Bool, true, false}

@@ -8,7 +8,6 @@
 -- AgreeExported .. == the promise of whatif_agree: its number, and lines, `agreed` and count afterwards
 --
 -- "11 only where the lines do not fit": it is decided after the search, so no number of the checks is hidden by it.
--- Assumes nothing.
 use Prim.Native.Nat.{ℕ, _+_, _*_, _≤_}
 use mathlib.Core.Path.{_≡_}
 use mathlib.Core.Bool.{Bool, cond}

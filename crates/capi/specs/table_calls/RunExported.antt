@@ -3,8 +3,6 @@
 -- stateOf a old, markedOf a old == what a place holds afterwards: the answer's value, or what it held where it is refused
 -- RunNumber == an answer told as a number and values
 -- RunExported == the promise of the exported function
---
--- Assumes nothing.
 use Prim.Native.Nat.{ℕ}
 use mathlib.Core.Path.{_≡_}
 use mathlib.Core.List.{List}

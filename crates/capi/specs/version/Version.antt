@@ -1,8 +1,6 @@
 -- The library's version.
 --
 -- versionNumber == release 0.9.0, as major * 10000 + minor * 100 + patch
---
--- Assumes nothing.
 use Prim.Native.Nat.{ℕ}
 
 abbrev pub versionNumber : ℕ

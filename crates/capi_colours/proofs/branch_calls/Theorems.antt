@@ -11,7 +11,6 @@
 --     branch-descent-usable, branch-descent-built  18 never comes where the numbers are as built, the states below S
 --                            and state 0 in each copy; so on tables as built, whatever the two nodes' numbers are
 --     branch-descent-kept    refused: the places are as they were
--- Assumes nothing.
 use Prim.Native.Nat.{ℕ, _-_, _*_, _≤_, _<_}
 use mathlib.Core.Path.{_≡_, refl, sym, ap, _∙_}
 use mathlib.Core.List.{List, _++_}

@@ -7,7 +7,6 @@
 --                                 they were
 --     colour-branch-number, colour-branch-kept   for either reading: the first check of 17, 13, 16, 18 that fails;
 --                                 refused: the four places are as they were
--- Assumes nothing.
 use Prim.Native.Nat.{ℕ}
 use mathlib.Core.Path.{_≡_, _∙_}
 use mathlib.Core.List.{List}

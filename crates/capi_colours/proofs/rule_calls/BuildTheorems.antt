@@ -5,7 +5,6 @@
 --                            byte, and behind it what was there
 --     rule-build-coloured    so the buffers are as built, whatever their excess is
 --     rule-build-refused     a build that answers another number leaves both as they were
--- Assumes nothing.
 use Prim.Native.Nat.{ℕ}
 use mathlib.Core.Path.{_≡_, sym, _∙_}
 use mathlib.Core.List.{List, _++_}

@@ -1,5 +1,4 @@
 -- A rule question's answer by colours of a known case, as its number and values.
--- Assumes nothing.
 use Prim.Native.Nat.{ℕ}
 use mathlib.Core.Path.{_≡_, sym, ap, _∙_}
 use mathlib.Core.Bool.{Bool}

@@ -5,7 +5,6 @@
 --                            child only, at most 45 links for each drop
 --     rule-descent-built     18 never comes on tables as built, whatever the list is
 --     rule-descent-kept      refused: the places are as they were
--- Assumes nothing.
 use Prim.Native.Nat.{ℕ, _*_, _≤_}
 use mathlib.Core.Path.{_≡_, refl, sym, ap, _∙_}
 use mathlib.Core.Bool.{Bool, true, false}

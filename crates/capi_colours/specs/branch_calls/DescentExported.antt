@@ -7,7 +7,6 @@
 -- DescentExported reading .. == the promise of the exported function of that reading
 --
 -- "Both are put outside the session and tell state, yes or no, drops and links".
--- Assumes nothing.
 use Prim.Native.Nat.{ℕ}
 use mathlib.Core.Path.{_≡_}
 use mathlib.Core.List.{List}

@@ -7,7 +7,6 @@
 -- RuleExported .. == the promise of the exported function
 --
 -- "tell state, yes or no, drops and links; a rule question tells its parts too".
--- Assumes nothing.
 use Prim.Native.Nat.{ℕ}
 use mathlib.Core.Path.{_≡_}
 use mathlib.Core.List.{List}

@@ -7,8 +7,6 @@
 -- leftIn n xs == the first n numbers of an array; leftNodes xs == the numbers xs, at most 64, in an array of 64
 -- pushed t v == one node more; keptIn ls t vs bs == what `differing` still makes of t on its way
 -- DifferingDone ls vs bs r == the promise of `differing`, on every input
---
--- Assumes nothing.
 use Prim.Native.Nat.{ℕ, _+_, _≤_, _<_}
 use mathlib.Core.Path.{_≡_}
 use mathlib.Core.Bool.{Bool, true, cond, not, _&&_}

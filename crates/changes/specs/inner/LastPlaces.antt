@@ -4,8 +4,6 @@
 -- LastPlaces n vs last == `last` has a place for every remainder, and none of the first n nodes of vs stands behind the
 --   one of its remainder
 -- PlaceArgs vs last i == so it is for the whole list, of at most 64, and place i is inside
---
--- Assumes nothing.
 use Prim.Native.Nat.{ℕ, _%_, _≤_, _<_}
 use mathlib.Core.Path.{_≡_}
 use mathlib.Core.List.{List}

@@ -4,7 +4,6 @@
 --     counts-fit     so is every count
 -- A partial sum of a part adds products of counts and is at most the part's own total (total-inner, convolved,
 -- pushed).
--- Assumes nothing.
 use Prim.Native.Nat.{ℕ, zero, suc, _+_, _*_, _^_, _-_, _≤_, _<_}
 use mathlib.Core.Path.{_≡_, refl, sym, ap, _∙_, subst}
 use mathlib.Core.Bool.{Bool, true, false, cond}

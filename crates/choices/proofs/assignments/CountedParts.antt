@@ -2,7 +2,6 @@
 --     part-counts       the counts of one part, if those before it are right
 --     tallies-right     so all are: not only the plan's root
 --     counts-by-parts   at the root they are the counts by trying all
--- Assumes nothing.
 use Prim.Native.Nat.{ℕ, zero, suc, _+_, _*_, _^_, _-_, _≤_, _<_}
 use mathlib.Core.Path.{_≡_, refl, sym, ap, ap₂, _∙_, subst}
 use mathlib.Core.Bool.{Bool, true, false, cond}

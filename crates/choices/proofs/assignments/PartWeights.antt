@@ -3,7 +3,6 @@
 --     closed-weight        no open node under c: the weight of the run's state
 --     climbed-weight       the weight at c is that at the highest member below c, after the walk from there to c
 --     part-none, part-both, part-left, part-right    the four kinds of part, with document 01's climb
--- Assumes nothing.
 use Prim.Native.Nat.{ℕ, zero, suc, _+_, _-_, _≤_, _<_}
 use mathlib.Core.Path.{_≡_, refl, sym, ap, ap₂, _∙_, subst, fun-ext}
 use mathlib.Core.Bool.{Bool, true, false}

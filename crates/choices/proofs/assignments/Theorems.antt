@@ -4,7 +4,6 @@
 --     none-open           "With no open node the run's own state has count 1."
 --     total-fits, count-fits   no total and no count of any part is above K to the power m
 -- "the parts and links told are those of a question": they are `roots` and `questionLinks` of questions/ready, as there.
--- Assumes nothing.
 use Prim.Native.Nat.{ℕ, _+_, _^_, _≤_, _<_}
 use mathlib.Core.Path.{_≡_, ap, _∙_}
 use mathlib.Core.Bool.{true}

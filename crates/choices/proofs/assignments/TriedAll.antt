@@ -1,7 +1,6 @@
 -- The counts by trying all are weights of the tree, and add up to K to the power m.
 --     counted-weight    a count is the weight of its state
 --     counted-sum       all counts add up to k ^ m
--- Assumes nothing.
 use Prim.Native.Nat.{ℕ, zero, suc, _+_, _*_, _^_, _≤_, _<_}
 use mathlib.Core.Path.{_≡_, refl, sym, ap, ap₂, _∙_, fun-ext, subst}
 use mathlib.Core.Bool.{Bool, true, false, cond, not, _&&_, _||_}

@@ -4,7 +4,6 @@
 --     pushed, convolved   the counts after a map of states; over two children
 --     least-one, up-more  a node's total is at least 1, and its parent's at least as much: no total is above the
 -- root's
--- Assumes nothing.
 use Prim.Native.Nat.{ℕ, zero, suc, _+_, _*_, _-_, _≤_, _<_}
 use mathlib.Core.Path.{_≡_, refl, sym, ap, ap₂, _∙_, subst, fun-ext}
 use mathlib.Core.Bool.{Bool, true, false, cond}

@@ -5,7 +5,6 @@
 --     weighed-open       one node more opened is the sum over its labels
 --     weighed-closed     with one label at each node, the weight of the state
 --     weighed-below      only states below S count
--- Assumes nothing.
 use Prim.Native.Nat.{ℕ, _+_, _*_, _-_, _≤_, _<_}
 use mathlib.Core.Path.{_≡_, refl, sym, ap, ap₂, _∙_, fun-ext}
 use mathlib.Core.Bool.{Bool, true, false, cond}

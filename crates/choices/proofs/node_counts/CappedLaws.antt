@@ -1,7 +1,6 @@
 -- Laws of capped sums.
 --     capped-add      a sum may be cut off before the next is added
 --     capped-ways     so may a factor
--- Assumes nothing.
 use Prim.Native.Nat.{ℕ, zero, suc, _+_, _*_, _/_, _≤_, _<_, min}
 use mathlib.Core.Path.{_≡_, refl, sym, ap, _∙_}
 use native.Mathlib.Omega.{arith}

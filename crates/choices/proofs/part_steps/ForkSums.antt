@@ -4,7 +4,6 @@
 --     fork-left, fork-right   below one child only: each count at the state that its climb ends in
 --     fork-none            below none: the run's states
 --     ways-open, ways-own  every label of an open node, and the own label alone of another
--- Assumes nothing.
 use Prim.Native.Nat.{ℕ, zero, suc, _+_, _-_, _*_, _≤_, _<_}
 use mathlib.Core.Path.{_≡_, refl, sym, ap, _∙_}
 use mathlib.Core.List.{List}

@@ -5,7 +5,6 @@
 --     built-fits       the list is one that has roots
 --     built-counts     the counts are those of the definition by trying all: nothing is cut off
 --     built-sum        their sum is K to the power m
--- Assumes nothing.
 use Prim.Native.Nat.{ℕ, zero, suc, _+_, _-_, _*_, _^_, _≤_, _<_, min}
 use mathlib.Core.Path.{_≡_, refl, sym, ap, ap₂, _∙_, subst}
 use mathlib.Core.Bool.{Bool, true, false, cond, _&&_}

@@ -2,7 +2,6 @@
 --     arrives        the state that a climb ends in
 --     all-arrive     no climb leads outside
 --     climb-links    its links
--- Assumes nothing.
 use Prim.Native.Nat.{ℕ, zero, suc, _-_, _≤_, _<_}
 use mathlib.Core.Path.{_≡_, refl, sym, ap, ap₂, _∙_, subst}
 use mathlib.Core.Bool.{Bool, true, _&&_}

@@ -2,7 +2,6 @@
 --     part-ok        a part never leads outside
 --     part-links     its links are the question's
 --     part-count     its counts are choices/assignments' `partCount`
--- Assumes nothing.
 use Prim.Native.Nat.{ℕ, zero, suc, _+_, _-_, _*_, _≤_, _<_, min}
 use mathlib.Core.Path.{_≡_, refl, sym, ap, ap₂, _∙_, subst}
 use mathlib.Core.Bool.{Bool, true, false, cond, _&&_}

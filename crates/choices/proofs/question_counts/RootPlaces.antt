@@ -2,7 +2,6 @@
 --     place-none     no root is below the child: place 0
 --     place-some     else the place from 1 of the highest
 -- The last root found is questions' (PartBuilt), which finds it with a state: here any state serves.
--- Assumes nothing.
 use Prim.Native.Nat.{ℕ, zero, suc, _+_, _≤_, _<_}
 use mathlib.Core.Path.{_≡_, refl, sym, ap, _∙_, subst}
 use mathlib.Core.Bool.{Bool, true, false, cond}

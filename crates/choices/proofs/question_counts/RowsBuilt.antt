@@ -3,7 +3,6 @@
 --     all-links      the links of all are the question's
 --     none-above     no count at states from S on
 --     all-rows       the counts of each are the rule's, cut off at the limit
--- Assumes nothing.
 use Prim.Native.Nat.{ℕ, zero, suc, _+_, _-_, _*_, _≤_, _<_, min}
 use mathlib.Core.Path.{_≡_, refl, sym, ap, ap₂, _∙_, subst}
 use mathlib.Core.Bool.{Bool, true, false, cond, _&&_}

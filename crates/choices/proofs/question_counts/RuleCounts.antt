@@ -3,7 +3,6 @@
 --     rule-countable   18 is not given
 --     rule-links       the links are the question's
 --     rule-counts      the counts are those of choices/assignments, part by part, cut off at the limit
--- Assumes nothing.
 use Prim.Native.Nat.{ℕ, zero, suc, _+_, _-_, _*_, _≤_, _<_}
 use mathlib.Core.Path.{_≡_, refl, sym, ap, ap₂, _∙_, subst}
 use mathlib.Core.Bool.{Bool, true, _&&_}

@@ -3,7 +3,6 @@
 --                    maps hold: its total goes by the labels alone
 --     rule-sum       at the plan's root that is K to the power m
 --     rule-exact     so the counts told are those of the rule, and nothing is cut off
--- Assumes nothing.
 use Prim.Native.Nat.{ℕ, zero, suc, _+_, _-_, _*_, _^_, _≤_, _<_, min}
 use mathlib.Core.Path.{_≡_, refl, sym, ap, ap₂, _∙_, subst}
 use mathlib.Core.Bool.{Bool, true, false, cond}

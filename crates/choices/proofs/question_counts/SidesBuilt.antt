@@ -1,7 +1,6 @@
 -- On numbers as built and bytes below S: the counts at a child of a part's root.
 --     side-ok, side-links     a child comes to its counts, by the links of its climb
 --     climbed-at, climbed-below   where the climb from the highest root below it takes each state
--- Assumes nothing.
 use Prim.Native.Nat.{ℕ, zero, suc, _+_, _-_, _≤_, _<_}
 use mathlib.Core.Path.{_≡_, refl, sym, ap, ap₂, _∙_, subst}
 use mathlib.Core.Bool.{Bool, true, false, cond}

@@ -6,7 +6,6 @@
 --     as-built-counts                  "the counts are those of the definition by trying all"
 --     as-built-sum                     "and their sum is K to the power m"
 -- On other bytes below S: RuleCounts, rule-roots, rule-countable, rule-links, rule-counts.
--- Assumes nothing.
 use Prim.Native.Nat.{ℕ, _-_, _^_, _<_}
 use mathlib.Core.Path.{_≡_, refl, _∙_}
 use mathlib.Core.Bool.{true}

@@ -6,7 +6,6 @@
 --
 -- "count the assignments of any of the K labels to them, for each of the S root states .. the definition by trying
 -- all"
--- Assumes nothing.
 use Prim.Native.Nat.{ℕ, zero, suc, _+_}
 use mathlib.Core.Bool.{Bool, cond}
 use mathlib.Core.List.{List, [], _∷_, _++_, map}

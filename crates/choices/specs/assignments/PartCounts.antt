@@ -11,7 +11,6 @@
 -- plan's own labels.
 -- "They are reckoned part by part, and the parts and links by-part are those of a question": `roots` and
 -- `questionLinks` of ready's specs.
--- Assumes nothing.
 use Prim.Native.Nat.{ℕ, _+_, _*_, _-_}
 use mathlib.Core.Bool.{Bool, cond}
 use mathlib.Core.List.{List, [], _∷_, _++_}

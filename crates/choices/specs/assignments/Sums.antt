@@ -4,8 +4,6 @@
 -- one s c == 1 where c is s, else 0: summed over states c, a count of those that are s
 -- LabelSum == for each node, how a weight of its label is summed over the labels that it may have
 -- openSum k w ls == any label below k at the nodes that w tells (the open ones), the label of ls at the others
---
--- Assumes nothing.
 use Prim.Native.Nat.{ℕ, zero, suc, _+_}
 use mathlib.Core.Bool.{Bool, cond}
 use mathlib.Core.List.{List}

@@ -3,8 +3,6 @@
 -- countedFor X vs ms == the count for the roots ms, or 18
 -- countedOn X vs == the count for those of the list vs, or 18
 -- RootArgs, OnArgs, RunArgs == every read is inside: for given roots, for runs, and for whole plan, rules and tables
---
--- Assumes nothing.
 use Prim.Native.Nat.{ℕ, _+_, _*_, _≤_, _<_}
 use mathlib.Core.Path.{_≡_}
 use mathlib.Core.Bool.{Bool, true, cond}

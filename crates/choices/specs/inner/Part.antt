@@ -9,8 +9,6 @@
 -- PartNeeds == besides, v is a node, there are at most 254 earlier roots, and cs has 16 counts for each, none above the
 --   limit
 -- PartCounted X w es cs v a m == answer a and counts m are those of part v
---
--- Assumes nothing.
 use Prim.Native.Nat.{ℕ, _+_, _-_, _*_, _≤_, _<_}
 use mathlib.Core.Path.{_≡_}
 use mathlib.Core.Bool.{Bool, true, false, cond, _&&_}

@@ -5,8 +5,6 @@
 -- RowArgs, RowCounted == the counts of root v, from those of the roots before it in the table
 -- NextArgs, NextCounted == the same, written into the table behind them
 -- AllArgs, AllCounted X vs ms a m == answer a and table m are those of all parts
---
--- Assumes nothing.
 use Prim.Native.Nat.{ℕ, _+_, _*_, _≤_, _<_}
 use mathlib.Core.Path.{_≡_}
 use mathlib.Core.Bool.{Bool, true}

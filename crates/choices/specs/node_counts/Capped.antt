@@ -4,9 +4,7 @@
 -- capped n == n, or the limit where n is above it
 --
 -- On tables as built no count and no total of a part is above the limit (choices/assignments, `total-fits`), so that
--- nothing is
--- cut off; on other tables one part may be read twice, and the counts stop there.
--- Assumes nothing.
+-- nothing is cut off; on other tables one part may be read twice, and the counts stop there.
 use Prim.Native.Nat.{ℕ, min}
 
 abbrev pub countLimit : ℕ

@@ -6,7 +6,6 @@
 -- Poured, RowJoined, Joined == each state's count
 --
 -- Counts are lists of 16; those from S on are not read.
--- Assumes nothing.
 use Prim.Native.Nat.{ℕ, _+_, _-_, _*_, _≤_, _<_}
 use mathlib.Core.Path.{_≡_}
 use mathlib.Core.List.{List}

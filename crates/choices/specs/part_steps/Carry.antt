@@ -8,7 +8,6 @@
 --   added to l
 --
 -- All states are climbed from, also those without a count: 18 where any of these climbs leads outside.
--- Assumes nothing.
 use Prim.Native.Nat.{ℕ, zero, suc, _+_, _-_, _*_, _≤_, _<_}
 use mathlib.Core.Path.{_≡_}
 use mathlib.Core.Bool.{Bool, true, false, _&&_}

@@ -1,12 +1,10 @@
 -- The counts of a part's root.
 --
 -- rootOk, rootLinks, rootCount == of node v: a leaf's labels at their leaf states, an inner node's as `forkCount`
---   has them, at
---   the depth below v's; ks are the kinds, lv the leaf states
+--   has them, at the depth below v's; ks are the kinds, lv the leaf states
 -- RootArgs, RootDone == needs and promise of the function
 --
 -- "A leaf takes its leaf state."
--- Assumes nothing.
 use Prim.Native.Nat.{ℕ, _+_, _-_, _*_, _≤_, _<_}
 use mathlib.Core.Path.{_≡_}
 use mathlib.Core.Bool.{Bool, true, cond}

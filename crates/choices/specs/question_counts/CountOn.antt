@@ -12,7 +12,6 @@
 --
 -- "It is put outside the session, like a branch question: 17, then 12, 13 and 15 (which is met here) for the node list,
 -- then 26 for more than 1,000,000,000,000,000,000 assignments, then 18."
--- Assumes nothing.
 use Prim.Native.Nat.{ℕ, _+_, _-_, _*_, _^_}
 use mathlib.Core.Bool.{Bool, false, _&&_}
 use mathlib.Core.List.{List, [], _∷_, _++_}

@@ -12,7 +12,6 @@
 -- partCountOn X w es cs v c == how many choices end in state c at v
 --
 -- On tables as built these are choices/assignments' `partCount` and ready's `partLinks`.
--- Assumes nothing.
 use Prim.Native.Nat.{ℕ, _+_, _-_}
 use mathlib.Core.Bool.{Bool, true, cond, _&&_}
 use mathlib.Core.List.{List}

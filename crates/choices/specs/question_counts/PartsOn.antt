@@ -6,7 +6,6 @@
 --
 -- Counts stop at the limit (choices/node_counts, Capped). The counts decide nothing of partsOk and of the links: all states
 -- are climbed from.
--- Assumes nothing.
 use Prim.Native.Nat.{ℕ, _+_}
 use mathlib.Core.Bool.{Bool, true, _&&_}
 use mathlib.Core.List.{List, [], _∷_, _++_}

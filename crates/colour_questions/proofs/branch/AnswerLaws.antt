@@ -3,7 +3,6 @@
 --     answer-no-start  no colour has state 0 there
 --     answer-lost      the way down is lost
 --     answer-end       else what is answered at its end
--- Assumes nothing.
 use Prim.Native.Nat.{ℕ, _+_, _-_, _*_, _≤_, _<_}
 use mathlib.Core.Path.{_≡_, refl, sym, ap, ap₂, _∙_}
 use mathlib.Core.Bool.{Bool, true, false, cond}

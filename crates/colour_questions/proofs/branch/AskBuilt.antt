@@ -4,7 +4,6 @@
 --                              tree's own colours
 --     drops-built              its drops are the places on the path where the colour falls
 --     built-usable             tables as built are usable: 18 never comes
--- Assumes nothing.
 use Prim.Native.Nat.{ℕ, _+_, _*_, _≤_, _<_}
 use mathlib.Core.Path.{_≡_, refl, sym, ap, _∙_, subst}
 use mathlib.Core.Bool.{true}

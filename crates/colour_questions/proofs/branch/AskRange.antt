@@ -3,7 +3,6 @@
 --       fall
 --     ask-out-of-range   so it is where 18 is answered
 --     ask-kept           an answer's state is below S, and yes is its mark, whatever is lent
--- Assumes nothing.
 use Prim.Native.Nat.{ℕ, zero, suc, _+_, _*_, _≤_, _<_}
 use mathlib.Core.Path.{_≡_, refl, sym, ap, _∙_}
 use mathlib.Core.Bool.{Bool, true, false, cond, _&&_}

@@ -2,7 +2,6 @@
 --     ask-built   on tables as built: the word automaton's answer where the lower node is at or below the upper
 --     ask-apart   16 where it is not, so 18 never
 --     ask-done    the whole promise, for whatever answers as colourAskAnswer does
--- Assumes nothing.
 use Prim.Native.Nat.{ℕ, _+_, _-_, _≤_, _<_}
 use mathlib.Core.Path.{_≡_, refl, sym, ap, _∙_, subst}
 use mathlib.Core.Bool.{Bool, true, false}

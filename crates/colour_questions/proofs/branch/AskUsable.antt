@@ -1,6 +1,5 @@
 -- Tables that lead nowhere outside.
 --     usable-in-range   where the numbers are as built, the states below S and state 0 in each copy: so 18 never comes
--- Assumes nothing.
 use Prim.Native.Nat.{ℕ, _+_, _*_, _≤_, _<_}
 use mathlib.Core.Path.{_≡_, sym, subst}
 use mathlib.Core.List.{List}

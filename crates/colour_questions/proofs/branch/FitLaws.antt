@@ -1,7 +1,6 @@
 -- Check 17 of a branch question by colours.
 --     headers-no, plan-no, table-no, links-no, fit-end   what each test of the code says of it
 --     Fits, fits-are, are-fits                           what a yes says, and back
--- Assumes nothing.
 use Prim.Native.Nat.{ℕ, _+_, _*_, _≤_, _<_}
 use mathlib.Core.Path.{_≡_}
 use mathlib.Core.Bool.{Bool, true, false, _&&_}

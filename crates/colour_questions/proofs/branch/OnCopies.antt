@@ -1,6 +1,5 @@
 -- Where plan, branch table, node table and the colours' numbers are as built and the copies are any bytes below S with
 -- state 0 in each: the answer is what the descent by the tree's own colours gives on those bytes.
--- Assumes nothing.
 use Prim.Native.Nat.{ℕ, _+_, _-_, _*_, _≤_, _<_}
 use mathlib.Core.Path.{_≡_, refl, sym, ap, _∙_, subst}
 use mathlib.Core.Bool.{Bool, true, false}

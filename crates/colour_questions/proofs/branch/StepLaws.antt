@@ -3,7 +3,6 @@
 --     colour-top, colour-node                   the colour of state 0
 --     way-top, way-node                         the way down
 --     finish-outside, finish-answer             the end
--- Assumes nothing.
 use Prim.Native.Nat.{ℕ, _+_, _-_, _*_, _≤_, _<_}
 use mathlib.Core.Path.{_≡_, refl, sym, ap, _∙_}
 use mathlib.Core.List.{List}

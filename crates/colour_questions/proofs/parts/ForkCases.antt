@@ -1,7 +1,6 @@
 -- A part by the tests of the code.
 --     fork-left, fork-right, fork-rule, fork-made   an inner node: its two sides, and its rule
 --     part-leaf, part-first, part-outside, part-fork   by the root's kind and children
--- Assumes nothing.
 use Prim.Native.Nat.{ℕ, _+_, _-_, _*_, _^_, _≤_, _<_}
 use mathlib.Core.Path.{_≡_, sym, ap, ap₂, _∙_}
 use mathlib.Core.Bool.{true, false}

@@ -1,6 +1,5 @@
 -- The state at a child, by the tests of the code.
 --     side-run, side-own, side-outside, side-found
--- Assumes nothing.
 use Prim.Native.Nat.{ℕ, _-_, _≤_, _<_}
 use mathlib.Core.Path.{_≡_, sym, ap, _∙_}
 use mathlib.Core.List.{List}

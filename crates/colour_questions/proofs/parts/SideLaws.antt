@@ -1,7 +1,6 @@
 -- "where a part has members below one child only, the state its climb gives is found by trying target states in
 -- rising order up to it, and the drops add up to at most 60 for each such part"
 --     side-found    so on the run's own states and maps, for up to four states
--- Assumes nothing.
 use Prim.Native.Nat.{ℕ, _-_, _≤_, _<_}
 use mathlib.Core.Path.{sym, ap, _∙_}
 use mathlib.Core.List.{List}

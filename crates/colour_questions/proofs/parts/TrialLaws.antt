@@ -3,7 +3,6 @@
 --     untried-no, untried-yes     a number read as a state
 --     untried-few, none-few, targets-few   bounds
 --     leaf-outside, leaf-at, leaf-few   the part of a leaf
--- Assumes nothing.
 use Prim.Native.Nat.{ℕ, _≤_, _<_}
 use mathlib.Core.Path.{_≡_, refl, sym, ap, _∙_}
 use mathlib.Core.Bool.{Bool, true, false, cond}

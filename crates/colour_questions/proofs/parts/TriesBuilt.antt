@@ -1,7 +1,6 @@
 -- On numbers and copies as built the trials are those by the tree's own colours.
 --     SidesBuilt    what is lent of the colours is the tree's own
 --     tries-built   so from any node to any node
--- Assumes nothing.
 use Prim.Native.Nat.{ℕ, zero, suc, _<_}
 use mathlib.Core.Path.{_≡_, refl, ap, ap₂, _∙_}
 use mathlib.Core.Bool.{Bool, true, false, cond}

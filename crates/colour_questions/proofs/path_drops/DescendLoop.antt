@@ -3,7 +3,6 @@
 --     Descends                             the loop's state: the searches so far, and the same answer from here
 --     descends-start, -turn                before the first drop, and after one more
 --     descends-done, -lost, -lowest the answer where no drop is left, where one is lost, and with the lowest colour
--- Assumes nothing.
 use Prim.Native.Nat.{ℕ, zero, suc, _+_, _*_, _≤_, _<_}
 use mathlib.Core.Path.{_≡_, refl, sym, ap, _∙_, subst}
 use mathlib.Core.Bool.{Bool, true, false}

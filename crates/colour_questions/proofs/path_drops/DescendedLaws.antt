@@ -1,7 +1,6 @@
 -- What the answer of a descent says of the descent.
 --     descended-none   not ok: there is none
 --     descended-some   ok: there is one, with this colour, these drops and links
--- Assumes nothing.
 use mathlib.Core.Path.{_≡_, refl, sym, ap, _∙_}
 use mathlib.Core.Bool.{true, false}
 use mathlib.Core.Option.{Option, none, some}

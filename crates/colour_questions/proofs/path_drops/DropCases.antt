@@ -4,7 +4,6 @@
 --     gives-done, gives-outside, gives-stuck, gives-high, gives-fell what is answered of the next drop, by the tests
 --       on the
 --     way
--- Assumes nothing.
 use Prim.Native.Nat.{ℕ, _+_, _≤_, _<_}
 use mathlib.Core.Path.{_≡_, refl, sym, ap, ap₂, _∙_}
 use mathlib.Core.Bool.{true, false}

@@ -3,7 +3,6 @@
 --     gives-node, gives-none                     what one move tells
 --     Searches                                 the loop's state: what is left gives the whole search's answer
 --     searches-start, -turn, -rises, -done, -lost
--- Assumes nothing.
 use Prim.Native.Nat.{ℕ, suc, _+_, _≤_, _<_}
 use mathlib.Core.Path.{_≡_, refl, sym, ap, _∙_}
 use mathlib.Core.Bool.{true, false}

@@ -1,6 +1,5 @@
 -- A branch question's descents on tables of colours as built.
 --     upper-built, below-built   they are those by the tree's own colours, with the upper node and without it
--- Assumes nothing.
 use Prim.Native.Nat.{ℕ, _+_, _-_, _<_}
 use mathlib.Core.Path.{_≡_}
 use mathlib.Core.List.{List}

@@ -2,7 +2,6 @@
 --     Runs, runs-by, all-args   the runs of plan and rules, and the tables without their excess, are handed on
 --     roots-lost, roots-answer  the answer for the roots: a part without a result, and the state of the last
 --     rooted-room, lent-lost, root-args, lent-answer   the roots: none, and those that were found
--- Assumes nothing.
 use Prim.Native.Nat.{ℕ, _+_, _-_, _*_, _^_, _≤_, _<_}
 use mathlib.Core.Path.{_≡_, refl, sym, ap, ap₂, _∙_, subst}
 use mathlib.Core.Bool.{Bool, true, false, cond}

@@ -1,7 +1,6 @@
 -- A rule question by colours on tables as built.
 --     asked-list    the checks before 18 are 12 to 14: 17 and 27 pass
 --     ask-built     the answer is the fresh run's of the changed plan
--- Assumes nothing.
 use Prim.Native.Nat.{ℕ, _+_, _-_, _*_, _^_, _≤_, _<_}
 use mathlib.Core.Path.{_≡_, refl, sym, ap, _∙_}
 use mathlib.Core.Bool.{Bool, true, cond}

@@ -3,7 +3,6 @@
 --     no-17, no-27, then-list                       the number where a check fails and those before it pass
 --     Fits, fits-are                                what a yes of check 17 says
 --     Passed, passed-are                            what it says that all checks before 18 pass
--- Assumes nothing.
 use Prim.Native.Nat.{ℕ, _≤_, _<_}
 use mathlib.Core.Path.{_≡_, refl, sym, ap, _∙_}
 use mathlib.Core.Bool.{Bool, true, false, _&&_, _||_}

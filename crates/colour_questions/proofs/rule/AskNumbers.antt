@@ -2,7 +2,6 @@
 --     number-asked, number-last   the number of the first check that fails: before 18, and 18
 --     refused-is, lent-is         so the code's answers are the named ones
 --     on-number                   the number of the named answer
--- Assumes nothing.
 use Prim.Native.Nat.{ℕ, zero, suc}
 use mathlib.Core.Path.{_≡_, refl, sym, ap, _∙_}
 use mathlib.Core.Bool.{cond}

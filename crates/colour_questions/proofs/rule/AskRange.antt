@@ -1,6 +1,5 @@
 -- Where a rule question by colours is refused with 18.
 --     ask-range   a value leads outside the plan, the states or the labels, or no target state is found
--- Assumes nothing.
 use Prim.Native.Nat.{ℕ, _+_, _-_, _≤_, _<_}
 use mathlib.Core.Path.{_≡_, refl, sym, _∙_}
 use mathlib.Core.Bool.{Bool, true, false, cond, _&&_}

@@ -1,6 +1,5 @@
 -- A rule question by colours where plan, rules, node table and colours are as built and the state table is any bytes below S.
 --     ask-usable    the answer is that of the parts' trials, never 18
--- Assumes nothing.
 use Prim.Native.Nat.{ℕ, _+_, _-_, _*_, _^_, _≤_, _<_}
 use mathlib.Core.Path.{_≡_, refl, sym, ap, _∙_}
 use mathlib.Core.Bool.{Bool, true, cond}

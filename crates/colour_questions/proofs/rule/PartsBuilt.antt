@@ -1,6 +1,5 @@
 -- On tables as built all parts by colours have the states of "Parts of a question".
 --     handled-built   so, with at most 60 drops for each one-sided part, each found by few links
--- Assumes nothing.
 use Prim.Native.Nat.{ℕ, _+_, _*_, _≤_, _<_}
 use mathlib.Core.Path.{_≡_, refl, sym, ap, ap₂, _∙_, subst}
 use mathlib.Core.Bool.{Bool, true}

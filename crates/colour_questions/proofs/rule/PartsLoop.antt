@@ -1,6 +1,5 @@
 -- All parts, one at a time: the rest still to do gives what all of them give.
 --     going-start, part-args, going-lost, going-next, going-done
--- Assumes nothing.
 use Prim.Native.Nat.{ℕ, _+_, _-_, _*_, _≤_, _<_}
 use mathlib.Core.Path.{_≡_, refl, sym, ap, ap₂, _∙_}
 use mathlib.Core.Bool.{true, false}

@@ -1,6 +1,5 @@
 -- On colours as built and any run states below S all parts by colours have the states of their trials.
 --     handled-usable   so, with at most 60 drops for each one-sided part, each found by few links
--- Assumes nothing.
 use Prim.Native.Nat.{ℕ, _+_, _*_, _≤_, _<_}
 use mathlib.Core.Path.{_≡_, refl, sym, ap, ap₂, _∙_}
 use mathlib.Core.Bool.{Bool, true, false, cond}

@@ -2,7 +2,6 @@
 --     tried-state     a target state that is found is one of those tried
 --     part-none       a part: a value leads outside the plan, the states or the labels, or no target state is found
 --     handled-none    all parts
--- Assumes nothing.
 use Prim.Native.Nat.{ℕ, zero, suc, _+_, _-_, _*_, _^_, _≤_, _<_}
 use mathlib.Core.Path.{_≡_, refl, sym, ap, subst}
 use mathlib.Core.Bool.{Bool, true, false, cond, _&&_}

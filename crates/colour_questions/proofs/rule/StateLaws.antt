@@ -1,7 +1,6 @@
 -- On whatever is lent, a part's state is a state.
 --     part-state      of one part
 --     handled-state   of the last of all
--- Assumes nothing.
 use Prim.Native.Nat.{ℕ, _+_, _-_, _<_}
 use mathlib.Core.Path.{_≡_, refl, ap, subst}
 use mathlib.Core.Bool.{Bool, true, false, cond, _&&_}

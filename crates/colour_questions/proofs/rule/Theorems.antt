@@ -3,7 +3,6 @@
 --     ask-fresh    "the question's answer is the fresh run's of the changed plan"
 --     ask-parts    the parts are as many as in the session
 -- That each one-sided part's state is the climb's: colour_questions/parts, PartBuilt, tried-side.
--- Assumes nothing.
 use Prim.Native.Nat.{ℕ}
 use mathlib.Core.Path.{_≡_, refl, sym, ap, _∙_}
 use mathlib.Core.List.{List}

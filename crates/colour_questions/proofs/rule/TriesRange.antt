@@ -1,7 +1,6 @@
 -- Where no target state is found, on whatever tables.
 --     TriesFail     a descent stops, a copy has no colour for a target state, or no set holds the state
 --     tries-none    so
--- Assumes nothing.
 use Prim.Native.Nat.{ℕ, zero, suc, _+_, _≤_, _<_}
 use mathlib.Core.Path.{_≡_, refl, sym, _∙_, subst}
 use mathlib.Core.Bool.{Bool, true, false, cond}

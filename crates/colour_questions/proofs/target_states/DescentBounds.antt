@@ -1,7 +1,6 @@
 -- How long a descent is on whatever table.
 --     fell-few       a search takes no more links than its start is deep
 --     descend-few    a descent from colour c has at most c drops, each found by few links
--- Assumes nothing.
 use Prim.Native.Nat.{ℕ, zero, suc, _-_, _≤_, _<_}
 use mathlib.Core.Path.{_≡_, refl, subst}
 use mathlib.Core.Bool.{Bool, true, false, cond}

@@ -2,7 +2,6 @@
 --     test-uncoloured, test-lost, test-end   one trial, by what its look-up and its descent give
 --     Trying                                 the loop's state: the searches so far, and the same answer from here
 --     trying-start, -lost, -found, -on, -end before the first trial, and by what comes of each
--- Assumes nothing.
 use Prim.Native.Nat.{ℕ, zero, suc, _+_, _-_, _*_, _^_, _≤_, _<_}
 use mathlib.Core.Path.{_≡_, refl, sym, ap, ap₂, _∙_, subst}
 use mathlib.Core.Bool.{Bool, true, false, cond}

@@ -3,15 +3,12 @@
 -- BranchColoursBuilt p r nodeTable numbers bytes == node table and tables of colours are as built from plan and branch
 --   table
 -- BranchColoursUsable p r nodeTable numbers bytes == plan, branch table, node table and the colours' numbers as built;
---   of
---   the copies only that their states are below S and that one of each is state 0
+--   of the copies only that their states are below S and that one of each is state 0
 -- wordDescent reading B t u l == the descent of a reading by the tree's own colours
 -- wordDrops reading B t u l == its drops: the places on the path where the colour falls
 -- DescentAnswer reading p r u l answer == the answer is the word automaton's, with the drops and links of that
 --   descent: at most S - 1 drops, and at most 45 links for each
 -- ColourAskDone reading .. == the promise of a branch question by colours
---
--- Assumes nothing.
 use Prim.Native.Nat.{ℕ, suc, _+_, _-_, _*_, _≤_, _<_}
 use mathlib.Core.Path.{_≡_}
 use mathlib.Core.Bool.{true, false}

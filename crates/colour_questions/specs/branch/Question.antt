@@ -1,23 +1,18 @@
 -- The branch question by colours, on whatever is lent.
 --
 -- colourBuffersFit p r nodeTable numbers bytes == check 17 where N, S and K are those of the headers; the last three
---   are the lengths of
---   the table buffers
+--   are the lengths of the table buffers
 -- check 16 goes by the lent size of the upper node u: isInSubtreeOn nodeTable u l (tables/node_tables, Cells)
 -- startOn reading n nodeTable u == the copy in which the word begins: node u's own, or with u's label the copy above
---   it; none where its
---   parent is no node of the plan
+--   it; none where its parent is no node of the plan
 -- colourIn s bytes z == the colour of state 0 in copy z; none where no colour has it. In the top copy it is the lowest
 -- colouredOn .. == the answer on these tables: none where a value read leads outside the plan or the states, or a
---   search does not rise
---   or ends where the colour does not fall (check 18)
+--   search does not rise or ends where the colour does not fall (check 18)
 -- colourChecks .. == 17, 13, 16 and 18, in this order; colourNumber .. == the first that fails, 0 where none does
 -- colourAskAnswer .. == the answer
 --
 -- "Both are put outside the session and tell state, yes or no, drops and links". Both readings ask the same checks;
--- they differ in the copy
--- in which they begin.
--- Assumes nothing.
+-- they differ in the copy in which they begin.
 use Prim.Native.Nat.{ℕ, zero, suc, _+_, _*_}
 use mathlib.Core.Bool.{Bool, cond, _&&_}
 use mathlib.Core.List.{List, [], _∷_}

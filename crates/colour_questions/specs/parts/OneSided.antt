@@ -2,8 +2,6 @@
 --
 -- isOneSided t ms v == whether root v has members of ms below one child only
 -- oneSided t ms vs == how many of the roots vs have
---
--- Assumes nothing.
 use Prim.Native.Nat.{ℕ}
 use mathlib.Core.Bool.{Bool, not, cond, _&&_}
 use mathlib.Core.List.{List}

@@ -13,7 +13,6 @@
 --   searches of all; es and qs are the roots handled before and their states, r what came of them
 --
 -- Roots, labels and run states are those of a question in the session (crate questions, Part); only the climbs are not.
--- Assumes nothing.
 use Prim.Native.Nat.{ℕ, _-_, _^_}
 use mathlib.Core.Bool.{cond, _&&_}
 use mathlib.Core.List.{List, [], _∷_, _++_}

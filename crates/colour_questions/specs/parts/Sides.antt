@@ -4,8 +4,6 @@
 --   the parts ps
 -- SideFound G ms ps c == they find the state that the part's climb gives, with at most 60 drops, each found by few
 --   links
---
--- Assumes nothing.
 use Prim.Native.Nat.{ℕ, _*_, _≤_}
 use mathlib.Core.Path.{_≡_}
 use mathlib.Core.List.{List}

@@ -5,8 +5,6 @@
 -- partByTrials G ms ps v == the state of the part of root v, where the other children's states are the given run states
 -- partTrials G ms ps v == the searches of its trials
 -- triedParts G ms ps vs, trialsFrom G ms ps vs == the parts of the roots vs after ps, and the searches of all of them
---
--- Assumes nothing.
 use Prim.Native.Nat.{ℕ, _-_}
 use mathlib.Core.Bool.{cond}
 use mathlib.Core.List.{List, [], _∷_, _++_}

@@ -2,11 +2,8 @@
 --
 -- startPlace top z == where it begins: the copy of node z, or the top copy
 -- DescendArgs n c nums z l == n nodes within the limit, z and l among them, colour c among 16, and room for the tables
---   up
---   to colour c's
+--   up to colour c's
 -- descendedOf o == the answer for a descent o; not ok where there is none
---
--- Assumes nothing.
 use Prim.Native.Nat.{ℕ, _+_, _*_, _≤_, _<_}
 use mathlib.Core.Bool.{Bool, true, false}
 use mathlib.Core.List.{List}

@@ -3,7 +3,6 @@
 -- RuleColoursOutOfRange L vs bs == such a value of what is lent with a rule question by colours: what 18 means
 --
 -- "18 means that a value read leads outside the plan, the states or the labels, or a climb doesn't rise."
--- Assumes nothing.
 use Prim.Native.Nat.{ℕ, _≤_, _<_, _^_}
 use mathlib.Core.Path.{_≡_}
 use mathlib.Core.Bool.{false}

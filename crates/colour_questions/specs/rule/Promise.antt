@@ -7,8 +7,6 @@
 -- stateKept r answer == an answer's state is below S, and yes is its mark
 -- linksKept answer == its drops and links are few
 -- RuleAskDone .. == the promise of a rule question by colours
---
--- Assumes nothing.
 use Prim.Native.Nat.{ℕ, _*_, _≤_, _<_}
 use mathlib.Core.Path.{_≡_}
 use mathlib.Core.Bool.{true}

@@ -11,7 +11,6 @@
 --
 -- "(17, 27, 12, 13, 14, 18; superseding and equal labels as in S-4 and S-5)". The nodes left in W are `differing`'s, in
 -- the order of their last entries (crate changes).
--- Assumes nothing.
 use Prim.Native.Nat.{ℕ, zero, suc}
 use mathlib.Core.Bool.{Bool, _&&_, _||_}
 use mathlib.Core.List.{List, [], _∷_, _++_}

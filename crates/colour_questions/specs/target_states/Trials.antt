@@ -4,8 +4,6 @@
 -- TargetArgs, TargetsArgs == what one trial reads, and what all read, is inside: at most 16 colours, four states
 -- Outcome T rows c w q x r == what came of one trial, with few drops and links; TestDone == that, or that it has no end
 -- TargetsDone s T rows c w q r == the trials of s target states: what they find, with at most 15 drops for each
---
--- Assumes nothing.
 use Prim.Native.Nat.{ℕ, _*_, _≤_, _<_}
 use mathlib.Core.Path.{_≡_}
 use mathlib.Core.Bool.{true, false, cond}

@@ -1,6 +1,5 @@
 // The branch question by colours: the state after the word down to the lower node, whether it is marked, the drops on
-// the way and
-// the links of the searches for them.
+// the way and the links of the searches for them.
 use crate::branch::answers::Descending;
 use crate::branch::steps::descend_to;
 use crate::branch::steps::finish;
@@ -88,8 +87,7 @@ fn answer_colours(
 }
 
 // A branch question by colours in either reading. It takes N, S and K from the lent headers and asks 17, 13, 16 and 18
-// in this
-// order.
+// in this order.
 fn ask(
     reading: Reading,
     plan: &[u8],

@@ -1,8 +1,6 @@
 // The steps of a branch question by colours: the copy in which its word begins, the colour of state 0 there, the way
-// down, and
-// the state at its end. A copy is the number of its node; the top copy is n; a number above n means that a value read
-// led
-// outside the plan.
+// down, and the state at its end. A copy is the number of its node; the top copy is n; a number above n means that a
+// value read led outside the plan.
 use crate::branch::answers::Descending;
 use crate::path_drops::descend::Descended;
 use crate::path_drops::descend::descend_from;

@@ -1,6 +1,5 @@
 // The next drop of one colour, by its table: four numbers for each node, the parent, jump and depth among the nodes
-// where
-// the colour falls, and the colour that it lands on at the node.
+// where the colour falls, and the colour that it lands on at the node.
 use crate::path_drops::search::search;
 use tables::node_tables::moves::depth_at;
 use tables::node_tables::moves::parent_at;

@@ -5,7 +5,6 @@
 --     part-args, parts-filled  N, S and K as read, and the parts as what the writers need
 --     parts-written            what the writers leave is what the build has to write
 --     built-coloured           the buffers afterwards are as built, whatever their excess is
--- Assumes nothing.
 use Prim.Native.Nat.{ℕ, _+_, _-_, _*_, _≤_, _<_}
 use mathlib.Core.Path.{_≡_, sym, ap, ap₂, _∙_}
 use mathlib.Core.Bool.{Bool, true, false, not}

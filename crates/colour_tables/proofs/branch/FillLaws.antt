@@ -1,7 +1,6 @@
 -- The writers of the tables of colours, one after the other: the node table, the states, each colour's table.
 --     node-args, word-args, colour-args   what each needs
 --     filled                              what they leave together
--- Assumes nothing.
 use Prim.Native.Nat.{ℕ, _+_, _-_, _*_, _≤_, _<_}
 use mathlib.Core.Path.{_≡_, sym, ap, _∙_}
 use mathlib.Core.List.{List, _++_}

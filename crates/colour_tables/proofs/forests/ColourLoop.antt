@@ -3,7 +3,6 @@
 --     colours-all                   after the last
 --     colour-args                   what writing one colour's table needs
 --     AllColours, all-..            the same for every tree and every step that was given
--- Assumes nothing.
 use Prim.Native.Nat.{ℕ, _+_, _*_, _≤_, _<_}
 use mathlib.Core.Path.{_≡_, refl, sym, _∙_, subst}
 use mathlib.Core.Bool.{Bool}

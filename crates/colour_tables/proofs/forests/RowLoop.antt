@@ -2,7 +2,6 @@
 --     rows-start    before the first turn
 --     rows-turn     node v's turn
 --     rows-args     what node v's turn needs
--- Assumes nothing.
 use Prim.Native.Nat.{ℕ, _+_, _-_, _*_, _≤_, _<_}
 use mathlib.Core.Path.{_≡_, refl, sym, ap, _∙_}
 use mathlib.Core.Bool.{Bool, true, false}

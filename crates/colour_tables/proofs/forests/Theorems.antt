@@ -3,7 +3,6 @@
 --     lands-kept     the colours landed on stay
 --     rows-colour    then its rows are those of colour c as built
 --     other-part     and the tables of all other colours, the first one included, are as they were
--- Assumes nothing.
 use Prim.Native.Nat.{ℕ, _+_, _*_, _≤_, _<_}
 use mathlib.Core.Path.{_≡_, refl, sym, ap, _∙_}
 use mathlib.Core.Bool.{Bool}

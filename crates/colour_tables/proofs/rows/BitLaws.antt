@@ -3,7 +3,6 @@
 --     LowBit, low-bit  t + 1 and the complement of t have one bit in common, the lowest clear bit of t
 --     place-found      the place of the one bit set, by the table
 --     set-add          one more member adds its bit
--- Assumes nothing.
 use Prim.Native.Nat.{ℕ, zero, suc, _+_, _-_, _*_, _/_, _%_, _^_, _≤_, _<_}
 use mathlib.Core.Path.{_≡_, refl, sym, ap, ap₂, _∙_}
 use mathlib.Core.Bool.{Bool, true, false, cond}

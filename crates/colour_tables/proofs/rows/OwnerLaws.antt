@@ -3,7 +3,6 @@
 --     Owned, owned-..              the owners, of none taken and of one more
 --     taken, taken-..              the bits, of none taken and of one more
 --     free-small, low-free         the lowest clear bit is that of the lowest free state
--- Assumes nothing.
 use Prim.Native.Nat.{ℕ, _+_, _-_, _^_, _≤_, _<_}
 use mathlib.Core.Path.{_≡_, refl, sym, ap, _∙_}
 use mathlib.Core.Bool.{Bool, true, false}

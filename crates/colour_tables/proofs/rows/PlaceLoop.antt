@@ -1,6 +1,5 @@
 -- The turns of the loop that looks for a state in a row.
 --     Seen, seen-..     the place of q
--- Assumes nothing.
 use Prim.Native.Nat.{ℕ, suc, _+_, _≤_, _<_}
 use mathlib.Core.Path.{_≡_, sym, ap, _∙_}
 use mathlib.Core.List.{List, _∷_}

@@ -3,7 +3,6 @@
 --     turns-start, turns-turn      before the first colour, and after one more
 --     bit-own, bit-low             the bit that the next colour takes: its own state's, or the lowest clear one
 --     turns-done                   after all of them
--- Assumes nothing.
 use Prim.Native.Nat.{ℕ, suc, _+_, _-_, _*_, _/_, _%_, _^_, _≤_, _<_}
 use mathlib.Core.Path.{_≡_, refl, sym, ap, subst, _∙_}
 use mathlib.Core.Bool.{Bool, true, false, cond}

@@ -4,7 +4,6 @@
 --     part-args                          N, S and K as read
 --     length-setNumbers, length-setBytes how long what the build writes is
 --     built-coloured                     the buffers afterwards are as built, whatever their excess is
--- Assumes nothing.
 use Prim.Native.Nat.{ℕ, _+_, _*_, _^_, _≤_, _<_}
 use mathlib.Core.Path.{_≡_, ap, _∙_}
 use mathlib.Core.Bool.{Bool, true, false}

@@ -2,7 +2,6 @@
 --     plan-refused, rules-refused     2 to 5, and 6 to 9
 --     states-refused                  27
 --     labels-refused, room-refused    10 and 11; all-pass: none
--- Assumes nothing.
 use Prim.Native.Nat.{ℕ, _≤_, _<_}
 use mathlib.Core.Path.{_≡_, sym, ap, ap₂, _∙_}
 use mathlib.Core.Bool.{Bool, true, false, not}

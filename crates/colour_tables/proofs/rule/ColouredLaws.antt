@@ -1,7 +1,6 @@
 -- Tables of colours as built for a rule table: what stands at each place.
 --     coloured-cells    the cells of the colours' tables
 --     coloured-copies   each node's sets, in the order of their colours, behind the state table
--- Assumes nothing.
 use Prim.Native.Nat.{ℕ, _+_, _*_, _^_, _<_}
 use mathlib.Core.Path.{_≡_, sym, ap, _∙_, subst}
 use mathlib.Core.List.{List, _++_}

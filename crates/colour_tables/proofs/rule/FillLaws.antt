@@ -1,7 +1,6 @@
 -- The pass over the sets and then each colour's table.
 --     set-args, colour-args   what each needs
 --     filled                  what they leave together
--- Assumes nothing.
 use Prim.Native.Nat.{ℕ, _+_, _*_, _^_, _≤_}
 use mathlib.Core.Path.{_≡_, sym, ap, _∙_}
 use mathlib.Core.List.{List}

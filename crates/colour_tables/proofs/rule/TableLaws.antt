@@ -2,7 +2,6 @@
 --     base-passed      2 to 11 of a Load's build pass
 --     parts-filled     the tables of a Load are what the writers of sets and colours need
 --     parts-written    what these leave is what the build has to write
--- Assumes nothing.
 use Prim.Native.Nat.{ℕ, _+_, _-_, _*_, _^_, _≤_, _<_}
 use mathlib.Core.Path.{_≡_, refl, sym, ap, ap₂, _∙_, subst}
 use mathlib.Core.List.{List, _++_, append-assoc}

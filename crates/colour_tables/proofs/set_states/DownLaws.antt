@@ -2,7 +2,6 @@
 --     down-root, down-led   the row itself at the root, and the preimages below it
 --     image-args            what the preimages need
 --     setOf-ext             a set by its members
--- Assumes nothing.
 use Prim.Native.Nat.{ℕ, zero, suc, _+_, _≤_, _<_}
 use mathlib.Core.Path.{_≡_, refl, sym, ap, _∙_}
 use mathlib.Core.Bool.{Bool, cond}

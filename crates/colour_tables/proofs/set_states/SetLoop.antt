@@ -1,7 +1,6 @@
 -- One node of the pass for sets of states, and what its functions need.
 --     sets-start, sets-next                before the root, and one node more, for every tree and rule table given
 --     sets-above, sets-down, sets-place    what the functions of one node need
--- Assumes nothing.
 use Prim.Native.Nat.{ℕ, _+_, _*_, _^_, _≤_, _<_}
 use mathlib.Core.Path.{_≡_, sym, ap, _∙_, subst}
 use mathlib.Core.List.{List}

@@ -3,7 +3,6 @@
 --     right-in, left-in              the places of a right child's and of a left child's
 --     ups-right, ups-left            they are the values of the definition
 --     place-.., sums, right-args, left-args   what the code reads of the sibling is inside, and small
--- Assumes nothing.
 use Prim.Native.Nat.{ℕ, _+_, _-_, _*_, _≤_, _<_}
 use mathlib.Core.Path.{_≡_, _∙_}
 use mathlib.Core.List.{List}

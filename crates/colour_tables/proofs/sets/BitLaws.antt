@@ -3,7 +3,6 @@
 --     joined, bound      a union with one member past all others is a sum
 --     image-next         one state more of a preimage
 --     led-start, -next, -all   the loop over a row
--- Assumes nothing.
 use Prim.Native.Nat.{ℕ, _+_, _*_, _/_, _%_, _^_, _≤_, _<_}
 use mathlib.Core.Path.{_≡_, refl, _∙_}
 use mathlib.Core.Bool.{Bool}

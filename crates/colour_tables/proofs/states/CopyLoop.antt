@@ -4,7 +4,7 @@
 --     led-is                     the states led to, as a list
 --     copies-start, copies-next  before the root, and one node more
 --     above-in, place-in         what the functions of one node need
--- Any count of states and any steps. Assumes nothing.
+-- Any count of states and any steps.
 use Prim.Native.Nat.{ℕ, _+_, _*_, _≤_, _<_}
 use mathlib.Core.Path.{_≡_, refl, sym, ap, _∙_}
 use mathlib.Core.List.{List, map}

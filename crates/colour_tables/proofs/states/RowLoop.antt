@@ -5,7 +5,6 @@
 --     land-start, land-next, land-all  the landings of the colours below c stand in the numbers
 --     above-top, above-parent          the copy above a node
 --     turned-copy                      the copy of a node, from the colours' turns
--- Assumes nothing.
 use Prim.Native.Nat.{ℕ, _+_, _*_, _≤_, _<_, max}
 use mathlib.Core.Path.{_≡_, refl, sym, ap, _∙_}
 use mathlib.Core.List.{List, [], _∷_}

@@ -1,7 +1,6 @@
 -- One node of the pass for words, and what its functions need.
 --     words-start, words-next   before the root, and one node more, for every tree that was given
 --     words-above, words-led, words-place   what the functions of one node need
--- Assumes nothing.
 use Prim.Native.Nat.{ℕ, _+_, _*_, _≤_, _<_}
 use mathlib.Core.Path.{_≡_, sym, ap, ap₂, _∙_, subst}
 use mathlib.Core.List.{List}

@@ -7,7 +7,6 @@
 --   writes
 --
 -- "a short one gives 11 in the build". The colours of a branch table are its states' own: S of them.
--- Assumes nothing.
 use Prim.Native.Nat.{ℕ}
 use mathlib.Core.Path.{_≡_}
 use mathlib.Core.Bool.{Bool, _&&_}

@@ -1,14 +1,12 @@
 -- The tables of all colours above the lowest, written one after the other.
 --
 -- Landed k step t numbers == the first table has the parents of t, and the fourth numbers of the others what their
---   colours
---   land on
+--   colours land on
 -- ColoursTo k step t c before after == the tables of the colours 1, .. c - 1 are those of t's colours, and neither the
---   first
---   table nor what follows that of colour k - 1 is changed
+--   first table nor what follows that of colour k - 1 is changed
 -- ColoursArgs numbers n k == what writing them needs
 --
--- Any count k of states and any steps. Assumes nothing.
+-- Any count k of states and any steps.
 use Prim.Native.Nat.{ℕ, _+_, _*_, _≤_, _<_}
 use mathlib.Core.Path.{_≡_}
 use mathlib.Core.List.{List}

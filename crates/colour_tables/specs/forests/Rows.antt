@@ -10,7 +10,6 @@
 -- BelowArgs, NextArgs, WriteArgs == what the functions need: every read inside, every sum in 16 bits
 --
 -- Any marks m: the pass is about the forest of marked nodes (colours/marks), whatever marks them.
--- Assumes nothing.
 use Prim.Native.Nat.{ℕ, _+_, _*_, _≤_, _<_}
 use mathlib.Core.Path.{_≡_}
 use mathlib.Core.Bool.{Bool, cond}

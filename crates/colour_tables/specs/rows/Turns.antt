@@ -5,7 +5,6 @@
 --
 -- A copy from the one above by a step f is the copy from the states led to by the identity: recolour-map, lands-map
 -- (colours, proofs/TurnLaws).
--- Assumes nothing.
 use Prim.Native.Nat.{ℕ, _≤_, _<_}
 use mathlib.Core.Path.{_≡_}
 use mathlib.Core.List.{List}

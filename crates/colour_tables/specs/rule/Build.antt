@@ -10,7 +10,7 @@
 --   the build writes
 --
 -- "For rule tables with S up to 4 the same goes top down over sets of states". "A rule table with S above 4 gives 27,
--- after 9 in the build". Assumes nothing.
+-- after 9 in the build".
 use Prim.Native.Nat.{ℕ, _+_, _^_}
 use mathlib.Core.Path.{_≡_}
 use mathlib.Core.Bool.{Bool, true, _&&_}

@@ -3,7 +3,7 @@
 -- downSet ls b inn st n s k v T == the set at node v of n that leads into the set T above it; T itself at the root
 -- DownArgs row .. count v == `count` sets in a row of 16; below the root what the states at v's parent need
 --
--- "a step down takes a set to the states at the child that lead into it". Assumes nothing.
+-- "a step down takes a set to the states at the child that lead into it".
 use Prim.Native.Nat.{ℕ, _+_, _≤_, _<_}
 use mathlib.Core.Path.{_≡_}
 use mathlib.Core.Bool.{cond}

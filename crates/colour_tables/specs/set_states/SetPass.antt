@@ -4,8 +4,6 @@
 --   on, and their colours' landings, by the rule table of leaf states lv, inner states inn and marks mk
 -- SetArgs ls inn s k count base numbers bytes == what the pass needs: a tree with its node table and the run's states
 --   in the buffers (Prepared of crate tables), states and labels within their limits, and room
---
--- Assumes nothing.
 use Prim.Native.Nat.{ℕ, _+_, _*_, _^_, _≤_, _<_}
 use mathlib.Core.Path.{_≡_}
 use mathlib.Core.List.{List}

@@ -6,7 +6,6 @@
 --
 -- nearValue (crate tables, Maps) is the state at the parent, by labels ls, node table b, inner states inn and state
 -- table st.
--- Assumes nothing.
 use Prim.Native.Nat.{ℕ, _+_, _-_, _*_, _≤_, _<_}
 use mathlib.Core.Path.{_≡_}
 use mathlib.Core.List.{List}

@@ -5,7 +5,6 @@
 -- LedBy ups row k led == the first k of `led` are the sets of the states that `ups` leads into those of the row
 --
 -- "sets of states, numbered by adding 2 to the power k for each member k": setOf, member (crate colours, StateSets).
--- Assumes nothing.
 use Prim.Native.Nat.{ℕ, _^_, _≤_, _<_}
 use mathlib.Core.Path.{_≡_}
 use mathlib.Core.List.{List}

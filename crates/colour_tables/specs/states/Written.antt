@@ -2,11 +2,9 @@
 --
 -- Elsewhere n k j == number j is none of the landings: the fourth numbers of the tables of colours 1, .. k - 1
 -- CopiesFrom k step t base i .. == the nodes from i on have their copies, k bytes each from `base` on, and their
---   colours'
---   landings, and no other byte and no other number is changed
+--   colours' landings, and no other byte and no other number is changed
 --
 -- Any count k of states and any steps: for words and for sets alike.
--- Assumes nothing.
 use Prim.Native.Nat.{ℕ, _+_, _*_, _≤_, _<_}
 use mathlib.Core.Path.{_≡_}
 use mathlib.Core.List.{List}

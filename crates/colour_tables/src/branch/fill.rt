@@ -1,6 +1,5 @@
 // The tables of colours of a plan and a branch table: the plan's node table, the states of the colours and what they
-// land on,
-// and then each colour's own table.
+// land on, and then each colour's own table.
 use crate::forests::all_colours::write_colours;
 use crate::states::words::write_words;
 use tables::node_tables::build::build_node_table;

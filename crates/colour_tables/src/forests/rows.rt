@@ -1,7 +1,6 @@
 // A colour's table, from the root down: each node's row from its parent's. The first table of the numbers is the
-// plan's own
-// node table; colour c's follows after c of the same length, and its fourth numbers, the colours landed on, are there
-// already.
+// plan's own node table; colour c's follows after c of the same length, and its fourth numbers, the colours landed on,
+// are there already.
 use tables::node_tables::down::by_distances;
 use tables::node_tables::moves::parent_at;
 use tables::node_tables::moves::size_at;

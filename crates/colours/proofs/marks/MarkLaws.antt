@@ -5,7 +5,6 @@
 --     lowest                           the lowest marked node at v or above
 --     marks-ascend                     the forest of marked nodes ascends: it has document 01's jumps and climbs
 --     markedUp-marked, -unmarked, marksAbove-..   a node's row from its parent's: what a build writes
--- Assumes nothing.
 use Prim.Native.Nat.{ℕ, zero, suc, _+_, _-_, _≤_, _<_}
 use mathlib.Core.Path.{_≡_, refl, sym, ap, _∙_}
 use mathlib.Core.Bool.{Bool, true, false, cond}

@@ -6,7 +6,6 @@
 --
 -- "from the lowest left on the path to the highest; the moves are the links, at most 45"
 -- The path may reach above the root: n is at most the depth of l and one more.
--- Assumes nothing.
 use Prim.Native.Nat.{ℕ, zero, suc, _+_, _-_, _*_, _≤_, _<_}
 use mathlib.Core.Path.{_≡_, refl, sym, ap, _∙_}
 use mathlib.Core.Bool.{Bool, true}

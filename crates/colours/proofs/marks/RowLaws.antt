@@ -4,7 +4,6 @@
 --     row-none     below a parent that is not marked and has no marked node above: itself
 --     row-same     else the parent's row
 --     jump-above, jump-inside, jump-depth   a jump leads to a node of a greater number, and not deeper
--- Assumes nothing.
 use Prim.Native.Nat.{ℕ, zero, suc, _+_, _-_, _≤_, _<_}
 use mathlib.Core.Path.{_≡_, refl, sym, ap, _∙_}
 use mathlib.Core.Bool.{Bool, true, false}

@@ -5,8 +5,6 @@
 -- twiceOf w == in each byte twice the inner nodes among the kinds up to it: sumsOf adds up bytes, and fits y tells that its sums stay
 --   below 2 ^ 64, and itself small
 -- sufficient x t == whether t trees are enough for eight kinds with these counts: no byte of `spare` is 128 or more
---
--- Assumes nothing.
 use Prim.Native.Nat.{ℕ, _+_, _-_, _*_, _%_}
 use mathlib.Core.Bool.{Bool, cond, _&&_}
 use mathlib.Core.List.{List, [], _∷_}

@@ -10,8 +10,6 @@
 -- ruleValues b s k, branchValues b s k == check 9 as a test
 -- roomFits n s nodeTable bytes == check 11 as a test
 -- listsFit vs bs == check 12 as a test
---
--- Assumes nothing.
 use Prim.Native.Nat.{ℕ, _+_, _*_, _≤_, _<_}
 use mathlib.Core.Path.{_≡_}
 use mathlib.Core.Bool.{Bool, _&&_}

@@ -1,7 +1,6 @@
 -- The stack and what is written, in the file's buffer: one law for each of the three things that a node does.
 --     stack-same, cells-same, cells-cons, cells-end     only their own cells count
 --     push-done, count-done                             one entry more; the count of a list
--- Assumes nothing.
 use Prim.Native.Nat.{ℕ, zero, suc, _+_, _-_, _*_, _%_, _≤_, _<_, min}
 use mathlib.Core.Path.{_≡_, refl, sym, ap, ap₂, _∙_, subst}
 use mathlib.Core.Bool.{Bool, true, false, cond, _&&_}

@@ -4,7 +4,6 @@
 --     runs-no, runs-iteration, runs-end             runs of inner nodes
 --     size-unimage                                  a tree of 2n+1 nodes is of n planner's nodes
 --     comes-not, comes-tests                        check 19 from the three tests
--- Assumes nothing.
 use Prim.Native.Nat.{ℕ, zero, suc, _+_, _-_, _*_, _≤_, _<_}
 use mathlib.Core.Path.{_≡_, refl, sym, ap, ap₂, _∙_, subst}
 use mathlib.Core.Bool.{Bool, true, false, _&&_}

@@ -3,7 +3,6 @@
 --     home-room                     the file's length, by N
 --     home-read-args, home-is       the two runs and the header
 --     home-done, home-refused       the answers of the call
--- Assumes nothing.
 use Prim.Native.Nat.{ℕ, _+_, _-_, _*_, _/_, _≤_, _<_}
 use mathlib.Core.Path.{_≡_, refl, sym, ap, ap₂, _∙_, subst}
 use mathlib.Core.Bool.{Bool, true, false, _&&_}

@@ -2,7 +2,6 @@
 --     node-push, node-count, node-release      an inner node; a leaf after inner nodes; a leaf after a leaf
 --     Reading                                  the same is still to be written
 --     reading-start, reading-args, reading-iteration, reading-end
--- Assumes nothing.
 use Prim.Native.Nat.{ℕ, zero, suc, _+_, _-_, _*_, _≤_, _<_}
 use mathlib.Core.Path.{_≡_, refl, sym, ap, ap₂, _∙_, subst}
 use mathlib.Core.Bool.{Bool, true, false, _&&_}

@@ -1,7 +1,6 @@
 -- One iteration, and the end, of the loop that writes what is complete.
 --     Releasing           the same is still to be written
 --     releasing-start, releasing-iteration, releasing-end
--- Assumes nothing.
 use Prim.Native.Nat.{ℕ, zero, suc, _+_, _-_, _*_, _%_, _≤_, _<_}
 use mathlib.Core.Path.{_≡_, refl, sym, ap, ap₂, _∙_, subst}
 use mathlib.Core.Bool.{Bool, true, false, cond, _&&_}

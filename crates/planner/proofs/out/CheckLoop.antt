@@ -2,7 +2,6 @@
 --     Waiting, waiting-start, waiting-none, waiting-many, waiting-iteration, waiting-end
 --     file-not, file-counts         the answers of the test of a file
 --     room-many .. room-rest        and of the test of the outputs
--- Assumes nothing.
 use Prim.Native.Nat.{ℕ, zero, suc, _+_, _-_, _*_, _≤_, _<_}
 use mathlib.Core.Path.{_≡_, refl, sym, ap, ap₂, _∙_, subst}
 use mathlib.Core.Bool.{Bool, true, false, _&&_}

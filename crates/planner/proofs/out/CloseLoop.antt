@@ -2,7 +2,6 @@
 --     Closing           the same items are still to be written, to the same places
 --     closing-start, closing-iteration, closing-end
 --     closing-fits      the places fit 16 bits
--- Assumes nothing.
 use Prim.Native.Nat.{ℕ, zero, suc, _+_, _-_, _*_, _≤_, _<_}
 use mathlib.Core.Path.{_≡_, refl, sym, ap, _∙_, subst}
 use mathlib.Core.Bool.{Bool, true, false}

@@ -2,7 +2,6 @@
 --     Filling, filling-start, filling-iteration, filling-end
 --     Laying, laying-start, laying-iteration, laying-end     the nodes up to v stand at their places
 --     place-inside                                           a place is a node of the plan
--- Assumes nothing.
 use Prim.Native.Nat.{ℕ, zero, suc, _+_, _-_, _*_, _≤_, _<_}
 use mathlib.Core.Path.{_≡_, refl, sym, ap, ap₂, _∙_, subst}
 use mathlib.Core.Bool.{Bool, true, false, cond}

@@ -2,7 +2,6 @@
 --     place-args, places-written     the pass over the counts
 --     write-args, plan-is            the plan
 --     out-done, out-refused          the answers of the call
--- Assumes nothing.
 use Prim.Native.Nat.{ℕ, _+_, _-_, _*_, _≤_, _<_}
 use mathlib.Core.Path.{_≡_, refl, sym, ap, ap₂, _∙_, subst}
 use mathlib.Core.Bool.{true}

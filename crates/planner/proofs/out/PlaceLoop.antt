@@ -3,7 +3,6 @@
 --     leaf-args, next-fits      what closing the lists needs
 --     Placing                   the same items are still to be written, to the same places
 --     placing-start, placing-args, placing-iteration, placing-end
--- Assumes nothing.
 use Prim.Native.Nat.{ℕ, zero, suc, _+_, _-_, _*_, _≤_, _<_}
 use mathlib.Core.Path.{_≡_, refl, sym, ap, ap₂, _∙_, subst}
 use mathlib.Core.Bool.{Bool, true, false}

@@ -1,7 +1,6 @@
 -- The plan that is written is the image's: header, labels, kinds, and the excess as it was.
 --     lay-args        what the loop over the nodes needs
 --     plan-written    the four steps together
--- Assumes nothing.
 use Prim.Native.Nat.{ℕ, _+_, _-_, _*_, _≤_, _<_}
 use mathlib.Core.Path.{_≡_, refl, sym, ap, _∙_}
 use mathlib.Core.List.{List, [], _∷_, _++_, append-assoc}

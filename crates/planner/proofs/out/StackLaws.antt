@@ -2,7 +2,6 @@
 --     stack-same, stack-top     only the entries count; the top and the rest
 --     stack-pushed              an entry more
 --     close-iteration, close-end
--- Assumes nothing.
 use Prim.Native.Nat.{ℕ, zero, suc, _+_, _-_, _*_, _/_, _%_, _≤_, _<_}
 use mathlib.Core.Path.{_≡_, refl, sym, ap, ap₂, _∙_, subst}
 use mathlib.Core.Bool.{Bool, true, false, cond, not}

@@ -1,11 +1,8 @@
 -- The contract of going home: what the call answers, and what it writes (document 02, S-2).
 --
 -- HomeDone p b r c == the answer r is the first no of the checks 19, 21 of the plan p; where it is 0 the file's buffer
---   b becomes c: the
---   definition's file, with the excess as it was; else it stays as it was
+--   b becomes c: the definition's file, with the excess as it was; else it stays as it was
 -- HomeArgs, HomeWritten == the same for a plan that passes
---
--- Assumes nothing.
 use Prim.Native.Nat.{ℕ}
 use mathlib.Core.Path.{_≡_}
 use mathlib.Core.List.{List, _++_}

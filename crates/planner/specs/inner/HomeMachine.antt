@@ -1,6 +1,5 @@
 -- The loop from our plan to a planner's file, as a definition: it reads the plan from the right, with one stack, and
--- writes the file
--- from the right (document 02, S-2).
+-- writes the file from the right (document 02, S-2).
 --
 -- Held == a node that is read and not yet written: its label, its child count once known, and whether it is the first
 --   of its list
@@ -10,13 +9,10 @@
 -- nodeItem a k == what the loop reads of a node of label a and kind k; readBack ls ks v == of the nodes v - 1 to 0 of
 --   these labels and kinds
 -- homeward xs k st ls cs == the state at the end. xs: our plan's nodes still to read, from the right, none for a leaf
---   and some a for an
---   inner node of label a; k: how many nodes of the list that is being read are read
+--   and some a for an inner node of label a; k: how many nodes of the list that is being read are read
 --
 -- Entries and what is written are never more than n together, so the stack stands at the low end of the output and what
--- is written at
--- its high end.
--- Assumes nothing.
+-- is written at its high end.
 use Prim.Native.Nat.{ℕ, zero, suc}
 use mathlib.Core.Bool.{Bool, true, false, cond}
 use mathlib.Core.List.{List, [], _∷_}

@@ -7,7 +7,6 @@
 --
 -- In the post-order of an image a run of inner nodes is a list of siblings, from the last to the first: a leaf stands
 -- before the next.
--- Assumes nothing.
 use Prim.Native.Nat.{ℕ, zero, suc, _-_}
 use mathlib.Core.Bool.{Bool, true, false, _&&_}
 use mathlib.Core.List.{List, [], _∷_}

@@ -1,22 +1,17 @@
 -- The loop from a planner's file to our plan, as a definition: it reads the child counts from the left, with one stack,
--- and gives the
--- items of the image from the left (document 02, S-2).
+-- and gives the items of the image from the left (document 02, S-2).
 --
 -- Entry == a node whose place is not yet known, how many siblings come after it, and whether it is the first of its
 --   list
 -- toCome st == how many siblings come after the top; 0 where the stack is empty
 -- closed k st closing == the items of every list that is at its end, from the top of the stack: a leaf, then its nodes
---   from the last to
---   the first; then what k gives of the stack that is left. closing: the list of the top is being closed; else the
---   children of the top
+--   from the last to the first; then what k gives of the stack that is left. closing: the list of the top is being
+--   closed; else the children of the top
 --   are written, and its list is closed where no sibling comes after it
 -- outward cs v n b st == the items still to write. cs: the counts still to read; v: the next node's number; n: how many
---   of its list are
---   still to come, v included; b: whether v is the first of its list
+--   of its list are still to come, v included; b: whether v is the first of its list
 -- Written == a count of items and the places written
 -- placed xs i ps == the places ps after the items xs, the first of which is node i of our plan
---
--- Assumes nothing.
 use Prim.Native.Nat.{ℕ, zero, suc, _+_, _-_}
 use mathlib.Core.Bool.{Bool, true, false, cond, not}
 use mathlib.Core.List.{List, [], _∷_}

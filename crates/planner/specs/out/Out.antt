@@ -5,8 +5,6 @@
 --   and the places' buffer ps becomes qs: the definition's plan and places, with the excess as it was; else both stay
 --   as they were
 -- OutArgs, OutWritten == the same for a file that passes
---
--- Assumes nothing.
 use Prim.Native.Nat.{ℕ, _+_, _*_}
 use mathlib.Core.Path.{_≡_}
 use mathlib.Core.List.{List, _++_}

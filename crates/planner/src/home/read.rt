@@ -1,6 +1,6 @@
 // The nodes of a plan, read from the right, with a stack. The stack stands at the low end of the file's label run and
-// count run, what is
-// written at their high end; bit 6 of a label on the stack says that the node is the first of its list.
+// count run, what is written at their high end; bit 6 of a label on the stack says that the node is the first of its
+// list.
 ghost use mathlib.Core.Path.{_≡_};
 ghost use Prim.Native.Nat.{ℕ, _+_, _*_, _<_, _≤_};
 ghost use lib.ListN.{length};

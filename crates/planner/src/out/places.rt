@@ -1,7 +1,6 @@
 // The places of a planner's nodes in our plan, from the child counts: one pass with a stack. The stack stands in the
-// plan's buffer, which
-// is written afterwards, four bytes an entry: the node's number, how many siblings come after it, and 1 for the first
-// of its list.
+// plan's buffer, which is written afterwards, four bytes an entry: the node's number, how many siblings come after it,
+// and 1 for the first of its list.
 ghost use mathlib.Core.Path.{_≡_};
 ghost use mathlib.Core.List.{_∷_};
 ghost use Prim.Native.Nat.{ℕ, _+_, _-_, _*_, _<_, _≤_};

@@ -2,7 +2,6 @@
 --     none-agree       none shown → they agree
 --     agree-none       they agree → none shown
 --     separating       lines shown → they separate
--- Assumes nothing.
 use Prim.Native.Nat.{ℕ, _*_, _<_}
 use mathlib.Core.Path.{_≡_, refl, sym, _∙_}
 use mathlib.Core.Bool.{Bool, true, false}

@@ -1,7 +1,6 @@
 -- What holds of every leaf's state and height, and is kept by every inner node, holds of every plan's.
 --     Stable       such a relation between states and heights
 --     runs-in      it holds of every plan
--- Assumes nothing.
 use Prim.Native.Nat.{ℕ, suc, _<_, max}
 use Rattle.trees.specs.Tree.{Tree, leaf, node, height}
 use Rattle.trees.specs.Automaton.{Automaton, state}

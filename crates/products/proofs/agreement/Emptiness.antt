@@ -3,7 +3,6 @@
 --     first-some       one found: it is accepted, and none before it is
 --     none-accepted    where none is found no plan is accepted
 --     shown-accepted   where one is, the lines up to it are a plan that is accepted, of least height
--- Assumes nothing.
 use Prim.Native.Nat.{ℕ, zero, suc, _+_, _-_, _≤_, _<_}
 use mathlib.Core.Path.{_≡_, refl, sym, ap, _∙_, subst}
 use mathlib.Core.Bool.{Bool, true, false, cond}

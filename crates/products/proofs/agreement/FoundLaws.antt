@@ -5,7 +5,6 @@
 --     Grows F G          what was found stays, at its place
 --     Kept F             good lines, right states, heights that never fall, and what is seen is found
 --     tried              a state that is tried is found, and all this is kept
--- Assumes nothing.
 use Prim.Native.Nat.{ℕ, zero, suc, _+_, _-_, _≤_, _<_}
 use mathlib.Core.Path.{_≡_, refl, sym, ap, _∙_, subst}
 use mathlib.Core.Bool.{Bool, true, false, cond}

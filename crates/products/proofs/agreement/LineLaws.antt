@@ -3,7 +3,6 @@
 --     good-more                  one good line more
 --     good-take, trees-take      a front of good lines is good lines, with the same trees
 --     line-plan                  a good line over plans is a plan
--- Assumes nothing.
 use Prim.Native.Nat.{ℕ, zero, suc, _+_, _-_, _≤_, _<_}
 use mathlib.Core.Path.{_≡_, refl, sym, ap, _∙_, subst}
 use mathlib.Core.List.{List, [], _∷_, _++_, append-assoc}

@@ -4,7 +4,6 @@
 --     marks-set      one more where a 0 becomes 1
 --     zeros-at       a list of zeros has 0 at every place, past its end too
 -- The number of lines found is the number of states seen, so there are at most 256.
--- Assumes nothing.
 use Prim.Native.Nat.{ℕ, zero, suc, _+_, _≤_, _<_}
 use mathlib.Core.Path.{_≡_, refl}
 use mathlib.Core.List.{List, [], _∷_}

@@ -2,7 +2,6 @@
 --     refused-done                      a refusal meets it
 --     first-no, second-no, labels-no    where each check refuses
 --     answered-done                     the named reply meets it
--- Assumes nothing.
 use Prim.Native.Nat.{ℕ, zero, suc, _≤_, _<_}
 use mathlib.Core.Path.{_≡_, refl, sym, ap, _∙_, subst}
 use mathlib.Core.Bool.{true, false}

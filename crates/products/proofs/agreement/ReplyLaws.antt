@@ -4,7 +4,6 @@
 --     lines-reply      a reply shows the lines it was made of
 --     front-column     the front of a record's array is the column of its lines
 --     FrontLoop        the invariant of front
--- Assumes nothing.
 use Prim.Native.Nat.{ℕ, zero, suc, _+_, _-_, _≤_, _<_}
 use mathlib.Core.Path.{_≡_, refl, sym, ap, ap₂, _∙_, subst}
 use mathlib.Core.List.{List, [], _∷_, _++_}

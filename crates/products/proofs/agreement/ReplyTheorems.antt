@@ -3,7 +3,6 @@
 --     answer-separates       accepted with lines shown, they are a separating plan of at most 256 lines, of least height
 --     same-labels            accepted, the tables have the same K
 --     renamed-reply, oddly-reply    computed: two tables that agree though different, and two that do not
--- Assumes nothing.
 use Prim.Native.Nat.{ℕ, _<_}
 use mathlib.Core.Path.{_≡_, refl, sym, ap, _∙_}
 use mathlib.Core.Bool.{true}

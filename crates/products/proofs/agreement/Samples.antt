@@ -4,7 +4,6 @@
 --     oddly              clears a plan whose two parts get the same answer, and no leaf: differs from afterLeaf at height 2
 --     renamed-agree      none shown for afterLeaf and afterLeafRenamed, though the bytes differ
 --     oddly-differs      three lines shown for afterLeaf and oddly, and which
--- Assumes nothing.
 use Prim.Native.Nat.{ℕ}
 use mathlib.Core.Path.{_≡_, refl}
 use mathlib.Core.List.{List, [], _∷_}

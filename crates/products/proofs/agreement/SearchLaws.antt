@@ -4,7 +4,6 @@
 --     reached-kept       what holds of all that is found
 --     reached-most       at most 256 lines
 --     reaches            every plan's state is found, by a line of no more height
--- Assumes nothing.
 use Prim.Native.Nat.{ℕ, zero, suc, _+_, _≤_, _<_, max}
 use mathlib.Core.Path.{_≡_, refl, sym, ap, ap₂, _∙_, subst}
 use mathlib.Core.Bool.{cond}

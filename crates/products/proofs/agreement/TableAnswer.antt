@@ -2,7 +2,6 @@
 --     shownNumber      how many lines are shown; 0 where none are
 --     leaf-args-at, whole-args-at, mark-args-at, cut-args-at    what each part asks
 --     answered-at      the lines in the record are the named lines
--- Assumes nothing.
 use Prim.Native.Nat.{ℕ, zero, suc, _+_, _*_, _/_, _%_, _-_, _≤_, _<_}
 use mathlib.Core.Path.{_≡_, refl, sym, ap, ap₂, _∙_, subst, fun-ext}
 use mathlib.Core.Bool.{Bool, true, false, cond, not}

@@ -4,7 +4,6 @@
 --     search-reaches       every plan's state is found, by a line of no more height
 -- Both tables pass 6 to 9. 23 is a refusal of the call and no premise: the statements are about plans of the first table's labels.
 -- Computed examples: Samples.
--- Assumes nothing.
 use Prim.Native.Nat.{ℕ, _<_}
 use mathlib.Core.Path.{_≡_}
 use mathlib.Core.List.{List}

@@ -2,7 +2,6 @@
 --     branchBytes-passes, branchBytes-automaton   the bytes of runs whose values are inside pass 6 to 9, and their automaton is that of the runs
 --     branch-runs       where 6 to 9 pass, the table's bytes are those of the runs that are read
 --     branch-decodes    bytes pass 6 to 9 exactly when they are the table of an automaton, given by its runs, whose values are inside
--- Assumes nothing.
 use Prim.Native.Nat.{ℕ, _+_, _*_, _≤_, _<_}
 use mathlib.Core.Path.{_≡_, refl, sym, ap, ap₂, _∙_, subst}
 use mathlib.Core.Bool.{true}

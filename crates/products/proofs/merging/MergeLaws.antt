@@ -2,7 +2,6 @@
 --     first-no, second-no, labels-no, states-no, room-no    where each check refuses
 --     refused-done                                          a refusal meets the promise
 --     table-args, merged-done                               past the checks the table can be written, and then the promise is met
--- Assumes nothing.
 use Prim.Native.Nat.{ℕ, _+_, _*_, _≤_, _<_}
 use mathlib.Core.Path.{_≡_, refl, sym, ap, ap₂, _∙_, subst}
 use mathlib.Core.Bool.{Bool, true, false}

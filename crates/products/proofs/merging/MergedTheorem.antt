@@ -2,7 +2,6 @@
 --     merged-passes     6 to 9 pass for the merged bytes, and its counts are S1 × S2 and K
 --     merged-run        on every plan
 --     merged-accepts    "one table that clears exactly the plans that both clear"
--- Assumes nothing.
 use Prim.Native.Nat.{ℕ, _+_, _*_, _/_, _%_, _≤_, _<_}
 use mathlib.Core.Path.{_≡_, refl, sym, ap, ap₂, _∙_, subst}
 use mathlib.Core.Bool.{Bool, true, false, cond, _&&_}

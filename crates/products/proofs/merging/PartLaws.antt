@@ -4,7 +4,6 @@
 --     inner-call, inner-next       the inner run, row by row
 --     mark-places                  where a mark is read
 --     word-written, head-written   the header, byte by byte and number by number
--- Assumes nothing.
 use Prim.Native.Nat.{ℕ, zero, suc, _+_, _*_, _/_, _%_, _-_, _≤_, _<_}
 use mathlib.Core.Path.{_≡_, refl, sym, ap, ap₂, _∙_, subst}
 use mathlib.Core.List.{List, [], _∷_, _++_}

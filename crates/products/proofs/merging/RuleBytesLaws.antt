@@ -1,7 +1,6 @@
 -- A rule table's bytes from its runs: the header and the runs are read back, and the checks pass.
 --     ruleBytes-passes       6 to 9 pass
 --     ruleBytes-automaton    the automaton of the bytes is that of the runs
--- Assumes nothing.
 use Prim.Native.Nat.{ℕ, _+_, _*_, _≤_, _<_}
 use mathlib.Core.Path.{_≡_, refl, sym, ap, ap₂, _∙_, subst}
 use mathlib.Core.Bool.{Bool, true}

@@ -2,7 +2,6 @@
 --     rule-runs       where 6 to 9 pass, the table's bytes are those of the runs that are read
 --     rule-decodes    bytes pass 6 to 9 exactly when they are the table of an automaton, given by its runs, whose values are inside
 -- That the automaton of the bytes is that of the runs: RuleBytesLaws, ruleBytes-automaton.
--- Assumes nothing.
 use Prim.Native.Nat.{ℕ, _+_, _*_, _<_}
 use mathlib.Core.Path.{_≡_, refl, sym, ap, ap₂, _∙_, subst}
 use mathlib.Core.Bool.{true}

@@ -1,7 +1,6 @@
 -- The parts of the merged table, put together.
 --     head-args, leaves-args, inner-args, marks-args    what each part asks is there
 --     table-written                                     the four parts, one behind the other, are the merged table
--- Assumes nothing.
 use Prim.Native.Nat.{ℕ, zero, suc, _+_, _*_, _/_, _%_, _-_, _≤_, _<_}
 use mathlib.Core.Path.{_≡_, refl, sym, ap, ap₂, _∙_, subst}
 use mathlib.Core.Bool.{Bool, _&&_}

@@ -8,7 +8,6 @@
 --     merge-clears           so the bytes written are a table that clears exactly the plans that both clear
 --     samples                computed: two small tables merged, and each of 23, 24, 11
 -- Plans are trees of labels below K, of any size and depth.
--- Assumes nothing.
 use Prim.Native.Nat.{ℕ, _*_, _≤_}
 use mathlib.Core.Path.{_≡_, refl, sym, _∙_}
 use mathlib.Core.Bool.{Bool, _&&_}

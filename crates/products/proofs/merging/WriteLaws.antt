@@ -5,7 +5,6 @@
 --     tabulate-add                             a table in two parts
 --     Fill                                     the invariant of every loop here: i entries of the table are written
 --     fill-start, fill-next, fill-block, fill-done    its start, one entry more, a stretch of entries more, its end
--- Assumes nothing.
 use Prim.Native.Nat.{ℕ, zero, suc, _+_, _*_, _-_, _≤_, _<_}
 use mathlib.Core.Path.{_≡_, refl, sym, ap, ap₂, _∙_, subst}
 use mathlib.Core.List.{List, [], _∷_, _++_, append-assoc, append-nil}

@@ -6,7 +6,6 @@
 -- Separates A B k xs == xs are 1 to 256 good lines, and their tree is such a plan, of least height
 --
 -- Labels from k on are left out on purpose: see products, specs/Plans.
--- Assumes nothing.
 use Prim.Native.Nat.{ℕ, _≤_}
 use mathlib.Core.Path.{_≡_}
 use mathlib.Core.List.{List}

@@ -7,7 +7,6 @@
 --
 -- "Which separating plan is shown may be left to the program; its name and its properties then stand in the contract." Its name is
 -- shownLines; its properties are those of Separates.
--- Assumes nothing.
 use Prim.Native.Nat.{ℕ}
 use mathlib.Core.List.{List, [], _∷_, _++_}
 use mathlib.Core.Option.{Option}

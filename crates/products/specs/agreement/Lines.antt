@@ -10,7 +10,6 @@
 -- "a separating plan as at most 256 lines, each a leaf's label or a label with two earlier lines as left and right; the last line is
 -- the root." Left and right may be the same line, and a line need not be used. The tree's height is below the number of lines, but
 -- it may have far more nodes than lines (up to 2 to the power 256): it need not be a plan that Load takes.
--- Assumes nothing.
 use Prim.Native.Nat.{ℕ, suc, _-_, _<_}
 use mathlib.Core.List.{List, [], _∷_, _++_}
 use lib.ListN.{length, getD}

@@ -7,8 +7,6 @@
 -- shownReply first second == the lines that are shown (products, specs/agreement/Answer); none where the tables agree
 -- AgreeDone first second r == the promise, on every input
 -- Front n a r == r is the first n entries of the array a, then zeros; FrontArgs, CutArgs, AnswerArgs == what the parts of agree ask
---
--- Assumes nothing.
 use Prim.Native.Nat.{ℕ, _≤_, _<_}
 use mathlib.Core.Path.{_≡_}
 use mathlib.Core.List.{List, []}

@@ -16,7 +16,6 @@
 -- Line n is joined with the lines up to n only: a later line is joined with it when its own time comes. So each pair of lines is tried
 -- once in each order, and at most 256 × 257 × K states are looked up; and the lines stand in order of rising height, for what line n
 -- adds has one more than line n's height (proofs/FoundLaws).
--- Assumes nothing.
 use Prim.Native.Nat.{ℕ, zero, suc}
 use mathlib.Core.Bool.{Bool, cond}
 use mathlib.Core.List.{List, [], _∷_, _++_}

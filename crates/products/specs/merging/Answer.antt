@@ -2,8 +2,6 @@
 --
 -- mergeNumber a == the number of a refusal; 0 where the table is written
 -- MergeDone first second out a out′ == the promise, on every input
---
--- Assumes nothing.
 use Prim.Native.Nat.{ℕ}
 use mathlib.Core.Path.{_≡_}
 use mathlib.Core.List.{List, _++_}

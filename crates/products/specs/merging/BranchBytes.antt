@@ -1,8 +1,6 @@
 -- A branch table's bytes.
 --
 -- branchBytes s k st mk == the bytes, from its counts and its two runs
---
--- Assumes nothing.
 use Prim.Native.Nat.{ℕ, _+_, _*_}
 use mathlib.Core.List.{List, _++_}
 use Rattle.formats.specs.Bytes.{le32Bytes}

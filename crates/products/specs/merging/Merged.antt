@@ -11,7 +11,6 @@
 --
 -- The inner run goes by its place i = (p × K + a) × S + q, S being S1 × S2 and K the common count of labels.
 -- The product is in products, specs/Product; that the bytes are a rule table whose run is the pair of runs is in proofs/MergedTheorem.
--- Assumes nothing.
 use Prim.Native.Nat.{ℕ, _+_, _*_, _/_, _%_}
 use mathlib.Core.Bool.{Bool, cond, _&&_}
 use mathlib.Core.List.{List, [], _∷_, _++_}

@@ -2,7 +2,6 @@
 --     under-yes, under-no      the test isInSubtree
 --     none-below               where anyBelow says no, no member is below
 --     some-below               where it says yes, highestBelow is the highest member below
--- Assumes nothing.
 use Prim.Native.Nat.{ℕ, suc, _+_, _≤_, _<_}
 use mathlib.Core.Path.{_≡_, refl, sym, ap, _∙_, subst}
 use mathlib.Core.Logic.{_⊎_, inl, inr}

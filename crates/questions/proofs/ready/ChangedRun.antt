@@ -2,7 +2,6 @@
 --     unchanged-state    where no listed node is under c, the state at c is the old run's
 --     changed-up         one step up past an unlisted node, beside an unlisted subtree
 --     changed-walk       so a walk from the highest member below c carries the changed run's state to c
--- Assumes nothing.
 use Prim.Native.Nat.{ℕ, zero, suc, _+_, _-_, _≤_, _<_}
 use mathlib.Core.Path.{_≡_, refl, sym, ap, ap₂, _∙_, subst}
 use mathlib.Core.Bool.{Bool, true, false}

@@ -3,7 +3,6 @@
 --     Member w t v    v is listed, the root, forks, or is a child of a node that does
 --     member-ready    a member is in the ready set
 --     ready-member    and nothing else is: the ready set is closed (ready-closed) and least (ready-least)
--- Assumes nothing.
 use Prim.Native.Nat.{ℕ, zero, suc, _+_, _-_, _≤_, _<_}
 use mathlib.Core.Path.{_≡_, refl, sym, ap, _∙_, subst}
 use mathlib.Core.Bool.{Bool, true, false}

@@ -3,7 +3,6 @@
 --     highest-holds       all members under c are under h: it is the highest, and the only one such
 --     path-unlisted       no node from above h up to c is listed
 --     beside-unlisted     no node under the other child of a node on that path is listed
--- Assumes nothing.
 use Prim.Native.Nat.{ℕ, _+_, _-_, _≤_, _<_}
 use mathlib.Core.Path.{_≡_, refl, sym, ap, _∙_, subst}
 use mathlib.Core.Bool.{Bool, true, false}

@@ -3,7 +3,6 @@
 --     way-proper             a node on the way is not the root
 --     way-free               its parent is not listed
 --     way-left, way-right    nor is any node under the other child of its parent
--- Assumes nothing.
 use Prim.Native.Nat.{ℕ, zero, suc, _+_, _-_, _≤_, _<_}
 use mathlib.Core.Path.{_≡_, refl, sym, ap, _∙_, subst}
 use mathlib.Core.Bool.{Bool, true, false}

@@ -4,7 +4,6 @@
 --     list-last                 and ends at the plan's root
 --     list-members              so it is what the parts are worked out over (PartsRun.Members)
 --     rising-unique             two rising lists with the same members are the same list
--- Assumes nothing.
 use Prim.Native.Nat.{ℕ, zero, suc, _+_, _-_, _≤_, _<_}
 use mathlib.Core.Path.{_≡_, refl, sym, ap, ap₂, _∙_, subst}
 use mathlib.Core.Bool.{Bool, true, false, cond, _&&_, _||_}

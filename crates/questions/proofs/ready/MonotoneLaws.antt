@@ -4,7 +4,6 @@
 --     roots-mono      the same of lists
 --     roots-same      the roots go by which nodes are listed alone
 -- Nothing is said of links: they may go either way.
--- Assumes nothing.
 use Prim.Native.Nat.{ℕ, zero, suc, _+_, _-_, _≤_}
 use mathlib.Core.Path.{_≡_, refl, sym, ap, _∙_, fun-ext}
 use mathlib.Core.Bool.{Bool, true, false, cond, _&&_, _||_}

@@ -3,7 +3,6 @@
 --     part-subtree                a member with none below it roots its whole subtree
 --     part-hole-left, -right       one with members below one child only: its subtree without that of the highest of them
 --     part-single                 one with members below both children: itself alone
--- Assumes nothing.
 use Prim.Native.Nat.{ℕ, zero, suc, _+_, _≤_, _<_}
 use mathlib.Core.Path.{_≡_, refl, sym, subst}
 use mathlib.Core.Bool.{Bool, true, false}

@@ -4,7 +4,6 @@
 --     part-right         the part of a member has the changed run's state at its root, if those before it have
 --     parts-right        so all have: not only the plan's root
 --     Members            what is used of the list of members
--- Assumes nothing.
 use Prim.Native.Nat.{ℕ, zero, suc, _+_, _-_, _≤_, _<_}
 use mathlib.Core.Path.{_≡_, refl, sym, ap, ap₂, _∙_, subst}
 use mathlib.Core.Bool.{Bool, true, false, cond}

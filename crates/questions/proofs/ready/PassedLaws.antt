@@ -3,7 +3,6 @@
 --     part-passed           of each part: no fewer than its links, no more than the plan is high
 --     question-passed       of a question: no fewer than its links, no more than the plan is high for each part
 --     passed-more, from-passed, whole-passed   the total over parts worked out one after the other
--- Assumes nothing.
 use Prim.Native.Nat.{ℕ, _+_, _-_, _*_, _≤_, _<_}
 use mathlib.Core.Path.{_≡_, refl, sym, ap, _∙_}
 use mathlib.Core.Bool.{Bool, true, false, cond}

@@ -1,7 +1,6 @@
 -- Two trees of the same kinds.
 --     same-size    their subtrees have the same sizes
 --     same-sub     where their labels agree under a node, its subtrees are the same
--- Assumes nothing.
 use Prim.Native.Nat.{ℕ, zero, suc, _+_, _-_, _≤_, _<_}
 use mathlib.Core.Path.{_≡_, refl, sym, ap, ap₂, _∙_, subst}
 use mathlib.Core.List.{List}

@@ -5,7 +5,6 @@
 --     children-apart              nothing is under both children
 --     under-inner                 what is under an inner node is the node or under one of its children
 --     meet-exists                 any two nodes have a lowest common ancestor
--- Assumes nothing.
 use Prim.Native.Nat.{ℕ, zero, suc, _+_, _-_, _≤_, _<_}
 use mathlib.Core.Path.{_≡_, refl, sym, ap, _∙_, subst}
 use mathlib.Core.Logic.{_⊎_, inl, inr}

@@ -1,8 +1,6 @@
 -- What the roots of a list of changes are found from.
 --
 -- RootsArgs n plan nodeTable == the plan's labels and the node table are whole
---
--- Assumes nothing.
 use Prim.Native.Nat.{ℕ, _+_, _*_, _≤_}
 use mathlib.Core.List.{List}
 use lib.ListN.{length}

@@ -4,8 +4,6 @@
 -- unmoved o == a state reached by no link
 -- reachedIn x == what was told; none for OutOfRange
 -- LastArgs, LabelArgs, LeafArgs, JoinArgs, SideArgs, ForkArgs, PartArgs == every read is inside its run
---
--- Assumes nothing.
 use Prim.Native.Nat.{ℕ, _+_, _*_, _≤_, _<_}
 use mathlib.Core.Path.{_≡_}
 use mathlib.Core.List.{List, []}

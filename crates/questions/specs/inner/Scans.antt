@@ -10,7 +10,6 @@
 --
 -- With z the size of node c, the run is c's subtree, so that the place is that of the last root below c; with z = 1 the
 -- run is c alone.
--- Assumes nothing.
 use Prim.Native.Nat.{ℕ, zero, suc, _+_, _≤_}
 use mathlib.Core.Path.{_≡_}
 use mathlib.Core.Bool.{Bool, false, cond, _||_}

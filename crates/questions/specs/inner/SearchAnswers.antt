@@ -3,8 +3,6 @@
 -- meetingOf o == the code's answer for the node o; Outside for none
 -- targetOf F m == its answer for a move m of forest F: the node that it leads to
 -- risingMeeting F v u == its answer for a move from v to u: u, where it is a node of F and less deep than v
---
--- Assumes nothing.
 use Prim.Native.Nat.{ℕ}
 use mathlib.Core.Bool.{cond, _&&_}
 use mathlib.Core.Option.{Option, none, some}

@@ -10,7 +10,6 @@
 --
 -- Not the definition of the ready set (that is Ready): a list that is proved to hold exactly its members (list-ready, ready-list), each
 -- once and rising.
--- Assumes nothing.
 use Prim.Native.Nat.{ℕ, zero, suc, _+_, _-_, _≤_}
 use mathlib.Core.Bool.{Bool, true, false, cond, _&&_, _||_}
 use mathlib.Core.List.{List, [], _∷_, _++_}

@@ -4,7 +4,6 @@
 --
 -- Document 01 handles parts by their roots alone; that the parts are a partition, and what each looks like, is proved of this definition
 -- (PartitionLaws).
--- Assumes nothing.
 use Prim.Native.Nat.{ℕ}
 use mathlib.Core.Bool.{Bool}
 use Rattle.trees.specs.Tree.{Tree}

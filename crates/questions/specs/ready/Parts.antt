@@ -15,8 +15,6 @@
 -- nodesOf ps, statesOf ps == the roots and the states of parts
 -- lastState ps q, allLinks ps == the state of the last part, which is the plan's root (q where there is none); the links of all
 -- allPassed ps == the nodes passed over by all
---
--- Assumes nothing.
 use Prim.Native.Nat.{ℕ, _+_, _-_, _≤_}
 use mathlib.Core.Bool.{Bool, true, false, cond, _&&_, _||_}
 use mathlib.Core.List.{List, [], _∷_, _++_}

@@ -6,7 +6,6 @@
 -- Closed w t C == C has what document 01 asks of the ready set; Ready is the least such C (ready-closed, ready-least)
 --
 -- w is any set of nodes, not a list of changes.
--- Assumes nothing.
 use Prim.Native.Nat.{ℕ, _+_, _-_, _≤_, _<_}
 use mathlib.Core.Path.{_≡_}
 use mathlib.Core.Bool.{Bool, true}

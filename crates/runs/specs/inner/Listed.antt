@@ -8,7 +8,6 @@
 --
 -- The first is what `changed` of crate trees holds at v: label-changed (proofs/ListedLaws). Nothing here asks that a
 -- node is listed once.
--- Assumes nothing.
 use Prim.Native.Nat.{ℕ, _+_, _-_, _≤_, _<_}
 use mathlib.Core.Path.{_≡_}
 use mathlib.Core.Bool.{cond}

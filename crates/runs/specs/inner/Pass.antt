@@ -14,7 +14,6 @@
 -- RunArgs p r vs bs n s k == plan, rules and list that pass their checks, with N, S and K of their headers
 --
 -- A label or a state past a run's end counts 0, as in crate formats, so that the bounds hold at every index.
--- Assumes nothing.
 use Prim.Native.Nat.{ℕ, zero, suc, _+_, _-_, _*_, _≤_, _<_}
 use mathlib.Core.Path.{_≡_}
 use mathlib.Core.Bool.{true}

@@ -1,7 +1,6 @@
 -- Whether a screen may not be loaded, as the code asks it.
 --     busy-broken, busy-valid    one struct: it is no record, or it is one and its state tells
 --     at-any, busy-at            an element of the run
--- Assumes nothing.
 use Prim.Native.Nat.{ℕ, zero, suc, _<_}
 use mathlib.Core.Path.{_≡_, refl, sym, _∙_, ap}
 use mathlib.Core.Bool.{Bool, true, false, not, _||_}

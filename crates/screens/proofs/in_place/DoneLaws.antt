@@ -3,7 +3,6 @@
 --     screen-done, turn-done         the session's own call on one of the structs, which is stored where it stood
 --     beyond-screen, to-screen, beyond-deal, deal-none, deal-served    the same by the numbers that the code has
 --     no-run-read, no-screen-read, read-done                           Read of one screen
--- Assumes nothing.
 use Prim.Native.Nat.{ℕ, zero, suc, _<_, _≤_}
 use mathlib.Core.Path.{_≡_, refl, sym, _∙_, ap, subst}
 use mathlib.Core.Bool.{Bool, true, false, cond}

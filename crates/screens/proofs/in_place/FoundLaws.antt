@@ -1,6 +1,5 @@
 -- The eight states that next_running is handed are those of the structs.
 --     found-phases    what is found by the eight states is what is found on the structs
--- Assumes nothing.
 use Prim.Native.Nat.{ℕ, zero, suc, _<_}
 use mathlib.Core.Path.{_≡_, refl, sym, _∙_, ap}
 use mathlib.Core.List.{List, [], _∷_}

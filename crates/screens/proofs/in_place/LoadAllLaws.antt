@@ -3,7 +3,6 @@
 --     load-cleared     none does, and the first one's own Load is accepted: all eight are as it is then
 --     load-refused     none does, and the first one's own Load is refused: nothing is altered
 --     one-busy, cleared, turned-down    the same as the code has them
--- Assumes nothing.
 use Prim.Native.Nat.{ℕ, zero, suc, _<_}
 use mathlib.Core.Path.{_≡_, refl, sym, _∙_, ap, ap₂, subst}
 use mathlib.Core.Bool.{Bool, true, false, cond, not, _||_}

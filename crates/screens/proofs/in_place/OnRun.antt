@@ -5,7 +5,6 @@
 --     Post             what a walk has to end in
 --     exits            it does, with the borrow of the run closed at a list of which P holds
 --     met              a function that is walked to Post meets the promise
--- Assumes nothing.
 use mathlib.Core.Path.{_≡_, refl, sym, ap, subst}
 use Prim.Native.Nat.{ℕ, suc, _<_, _≤_, _^_, _*_}
 use mathlib.Core.Bool.{Bool, true, false, not}

@@ -3,7 +3,6 @@
 --     SeenAll ss rs       eight structs that pass their conditions, and the records that they hold
 --     run-refines         a call on the structs is one on the records
 --     structs-hold        all statements about every list of screen calls (crate screens), from eight fresh sessions
--- Assumes nothing.
 use Prim.Native.Nat.{ℕ, zero, suc, _<_}
 use mathlib.Core.Path.{_≡_, refl, sym, _∙_, ap, ap₂, subst}
 use mathlib.Core.Bool.{Bool, true, false, cond, not, _||_}

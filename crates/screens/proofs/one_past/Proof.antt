@@ -1,5 +1,4 @@
 -- `one_past` meets its contract.
--- Assumes nothing.
 use borrow.Author.Tests.{lt-ltb, le-ltb}
 use native.Mathlib.Omega.{arith}
 use borrow.Author.Needs.{needs}

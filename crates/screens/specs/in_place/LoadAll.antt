@@ -4,8 +4,6 @@
 -- loadNumber ss x == the number of the first failing check; 0 where none fails
 -- LoadAllDone == the promise: that of a call of the screens, and the tables in the buffers given, excess untouched; as
 --   at entry where it is refused
---
--- Assumes nothing.
 use Prim.Native.Nat.{ℕ}
 use mathlib.Core.Path.{_≡_}
 use mathlib.Core.List.{List}

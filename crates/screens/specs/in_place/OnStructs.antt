@@ -8,8 +8,6 @@
 --   ss c == of call c
 -- dealAnswer r == a deal's answer, as it is compared
 -- ScreenDone == the promise
---
--- Assumes nothing.
 use Prim.Native.Nat.{ℕ, _<_}
 use mathlib.Core.Path.{_≡_}
 use mathlib.Core.Bool.{Bool, true, cond, not, _||_}

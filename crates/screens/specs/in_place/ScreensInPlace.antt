@@ -3,8 +3,6 @@
 -- ScreenInPlace ss c a ss′ == call c on the structs ss told a and left ss′, by its promise: a Load, a Start, a Cancel
 --   or a deal; a Read leaves the structs as they are
 -- eightSessions == eight fresh sessions
---
--- Assumes nothing.
 use Prim.Native.Nat.{ℕ}
 use mathlib.Core.Path.{_≡_}
 use mathlib.Core.List.{List}

@@ -6,7 +6,6 @@
 --     Post             what a walk has to end in
 --     exits            it does, with the borrow of the record closed at a value of which P holds
 --     met              a function that is walked to Post meets the promise
--- Assumes nothing.
 use mathlib.Core.Path.{_≡_, refl}
 use Prim.Native.Nat.{ℕ, suc}
 use mathlib.Core.List.{List, [], _∷_}

@@ -3,7 +3,6 @@
 --     in-place-questions    a question: an accepted Start had sound inputs; undisturbed: what is told of it
 --     in-place-demand-3     the theorem, over the very promises of load, start, advance, cancel and read in place
 --     in-place-history      a history of these calls is one of the calls by value, so what is proved of those holds of it
--- Assumes nothing.
 use mathlib.Core.Path.{_≡_, refl, subst}
 use mathlib.Core.List.{List}
 use Rattle.model.specs.Calls.{Call, Answer}

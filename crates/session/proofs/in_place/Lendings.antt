@@ -5,7 +5,6 @@
 --     slots, stays, goes, kinds, spells, tells      of a list of them: what a walk's laws ask (denote.Triple.Walked)
 --     Passed, Fitting  what a walk knows of what is passed: each stands for its value, and has its machine type.   fitting  the second
 --     Said, Had, Fits  of their last values: what the call by value says, what is had at exit, what these fit.   backs    as `back`
--- Assumes nothing.
 use mathlib.Core.Path.{refl}
 use Prim.Native.Nat.{ℕ}
 use mathlib.Core.List.{List, [], _∷_}

@@ -3,7 +3,6 @@
 -- CallInPlace s c a s′ == call c was made on the lent record s, told a and left s′ there: its promise, as its function has it, holds
 --
 -- Read is lent the record to read alone: it leaves it as it was.
--- Assumes nothing.
 use Prim.Native.Nat.{ℕ}
 use mathlib.Core.Path.{_≡_}
 use mathlib.Core.List.{List}

@@ -6,8 +6,6 @@
 -- loadedBy n s k, loadedFrom plan rules == the record after a first Load
 -- HeaderArgs plan rules == both headers are whole; Headers plan rules == besides N, S and K are at most their limits
 -- sizesBy n s k == these as sizes
---
--- Assumes nothing.
 use Prim.Native.Nat.{ℕ, _≤_}
 use mathlib.Core.Path.{_≡_}
 use mathlib.Core.List.{List}

@@ -16,8 +16,6 @@
 -- stepOn s t == the record that step t makes of s
 -- storesBy a == whether an advance that answers a stores a state: unless it is refused
 -- StepFound s c t == the step is that of call c on struct s
---
--- Assumes nothing.
 use Prim.Native.Nat.{ℕ, _+_, _*_, _≤_, _<_}
 use mathlib.Core.Path.{_≡_}
 use mathlib.Core.Bool.{Bool, true, false, cond}

@@ -7,8 +7,6 @@
 -- Leaves .. b e, Nodes .. b e == the leaves of b, .. e - 1 match; the leaves and the pairs of these nodes do
 -- Kinds ks == kinds are 0 or 1, and no inner node is the first
 -- ListedArgs, LeavesArgs, PairsArgs, ListingArgs, BlockArgs, BlocksArgs == what the loops need
---
--- Assumes nothing.
 use Prim.Native.Nat.{ℕ, _+_, _-_, _≤_, _<_}
 use mathlib.Core.Path.{_≡_}
 use mathlib.Core.Bool.{Bool, true}

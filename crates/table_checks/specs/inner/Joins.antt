@@ -4,8 +4,6 @@
 -- JoinArgs s b p j m == what joining two maps needs: both rows inside, the first one's entries below s, room in m bytes
 -- throughEntry m table base stride q == nearEntry (tables) taken on by the entries m
 -- ThroughArgs s l v m table base stride == what comparing with them needs, l bytes in the state table and m entries
---
--- Assumes nothing.
 use Prim.Native.Nat.{ℕ, _+_, _*_, _≤_, _<_}
 use mathlib.Core.Path.{_≡_}
 use mathlib.Core.List.{List}

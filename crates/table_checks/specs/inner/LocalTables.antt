@@ -5,7 +5,6 @@
 -- LocalMaps A t b == each node's map follows from that step and the maps of its parent and of its parent's jump
 --
 -- That these equations leave one table only is proved in proofs/LocalLaws.
--- Assumes nothing.
 use Prim.Native.Nat.{ℕ, _+_, _-_, _<_}
 use mathlib.Core.Path.{_≡_}
 use mathlib.Core.Bool.{cond}

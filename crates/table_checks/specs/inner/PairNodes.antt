@@ -14,7 +14,6 @@
 -- RootArgs b v == what rootNode reads lies inside
 --
 -- On a right table within changes nothing (proofs/PairNodeLaws).
--- Assumes nothing.
 use Prim.Native.Nat.{ℕ, _+_, _-_, _*_, _≤_, _<_}
 use mathlib.Core.Bool.{Bool, cond, _&&_}
 use mathlib.Core.List.{List}

@@ -2,8 +2,6 @@
 --
 -- PairPlaced ls nodeTable inn s k b v left row col x == left is v's left child, its children's steps begin at row and
 --   col, and x is 0 exactly where v's state follows from its children's
---
--- Assumes nothing.
 use Prim.Native.Nat.{ℕ}
 use mathlib.Core.Path.{_≡_}
 use mathlib.Core.List.{List}

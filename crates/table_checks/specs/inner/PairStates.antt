@@ -9,8 +9,6 @@
 -- TableRoom == what the tests need: room, and every byte of the state table below s
 -- NodeRoom == besides, v is one of the n nodes and not the first; LeafRoom == besides, v is one of them
 -- FarEntryArgs, RowsArgs, StateIn == what the comparisons of rows and the reading of a state need
---
--- Assumes nothing.
 use Prim.Native.Nat.{ℕ, _+_, _-_, _*_, _≤_, _<_}
 use mathlib.Core.Path.{_≡_}
 use mathlib.Core.Bool.{Bool, cond, _&&_}

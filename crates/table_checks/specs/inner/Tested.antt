@@ -4,8 +4,6 @@
 --   tables, m bytes in the state table
 -- TablesTested s k lv inn ks ls nodeTable stateTable r == r is whether both buffers begin with the tables of the tree
 --   with kinds ks and labels ls, whatever the marks are
---
--- Assumes nothing.
 use Prim.Native.Nat.{ℕ, _≤_, _<_}
 use mathlib.Core.Path.{_≡_}
 use mathlib.Core.Bool.{Bool, true, _&&_}

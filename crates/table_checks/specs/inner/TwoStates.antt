@@ -4,8 +4,6 @@
 -- takenEntry nodeTable n b v x == x where it is, else what the maps of v and of its jump make of x
 -- TwoArgs nodeTable n b v == what reading these two maps needs: both rows inside, their entries below 2
 -- TwoMapped nodeTable n b v x y == x and y are the entries of that map, both below 2
---
--- Assumes nothing.
 use Prim.Native.Nat.{ℕ, _-_, _<_}
 use mathlib.Core.Path.{_≡_}
 use mathlib.Core.Bool.{Bool, cond}

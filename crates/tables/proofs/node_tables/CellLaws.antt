@@ -5,7 +5,6 @@
 --     take-table             what the build leaves begins with the table
 --     cells-over             a buffer with these cells, and the rest as before, is the table and the excess
 --     both-passes .. passes  the two passes of build and check give all cells
--- Assumes nothing.
 use Prim.Native.Nat.{ℕ, _+_, _*_, _≤_, _<_}
 use mathlib.Core.Path.{_≡_, sym, _∙_}
 use mathlib.Core.List.{List, _++_}

@@ -1,7 +1,6 @@
 -- What the two passes of the full check say together.
 --     answer-no      a pass that says no: the buffer does not begin with the table
 --     answer-both    the pass up says yes: the pass down's answer is the check's
--- Assumes nothing.
 use Prim.Native.Nat.{ℕ, _≤_}
 use mathlib.Core.Path.{_≡_, refl, sym}
 use mathlib.Core.Bool.{Bool, true, false}

@@ -3,7 +3,6 @@
 --     up-args .. up-tells         the same of every tree with these kinds, as the loop has it
 --     down-step, down-right       likewise of the pass down
 --     downs-args .. root-depth-no the same of every tree with these parents
--- Assumes nothing.
 use Prim.Native.Nat.{ℕ, _+_, _-_, _≤_, _<_}
 use mathlib.Core.Path.{_≡_, refl, sym, ap, _∙_, subst}
 use mathlib.Core.Bool.{Bool, true, false, _&&_}

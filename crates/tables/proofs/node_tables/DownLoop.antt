@@ -3,7 +3,6 @@
 --     parent-depth .. jump-args         the cells of a node's parent, of its jump and of that one's jump
 --     depth-of, jump-of, args-of        a node's depth and jump, by its parent's cells
 --     node-turns, root-turns            one node more, of every tree with these parents, as the loop has it
--- Assumes nothing.
 use Prim.Native.Nat.{ℕ, _+_, _*_, _≤_, _<_}
 use mathlib.Core.Path.{_≡_, refl, sym, ap, _∙_, subst}
 use mathlib.Core.List.{List}

@@ -2,7 +2,6 @@
 --     from-zero, from-next           where the nodes after the first i listed ones begin
 --     listed-start, listed-step      no node looked at, and one more
 --     kind-most                      kinds are 0 or 1
--- Assumes nothing.
 use Prim.Native.Nat.{ℕ, _+_, _-_, _≤_, _<_}
 use mathlib.Core.Path.{_≡_, refl, sym, ap, _∙_, subst}
 use mathlib.Core.Bool.{true}

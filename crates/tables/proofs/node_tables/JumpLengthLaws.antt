@@ -4,7 +4,6 @@
 --     length-choice      so a length of 1 is the parent's, and any other that of the parent's jump
 --     by-table, past-table   what child_jump tells below the table's end and past it
 --     sums-equal, sums-differ   the two distances by sums: d - e is e - f where d + f is e + e
--- Assumes nothing.
 use Prim.Native.Nat.{ℕ, zero, suc, _+_, _-_, _≤_, _<_}
 use mathlib.Core.Path.{_≡_, refl, sym, ap, ap₂, _∙_, subst}
 use mathlib.Core.Bool.{Bool, true, false, cond}

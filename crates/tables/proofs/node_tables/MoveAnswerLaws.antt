@@ -1,7 +1,6 @@
 -- Which move was meant, from what next_move tells.
 --     answer-jump, answer-parent, answer-stuck     the move
 --     answer-inside                            a parent that is told is one of the nodes
--- Assumes nothing.
 use Prim.Native.Nat.{ℕ, _<_}
 use mathlib.Core.Path.{_≡_, refl, ap, _∙_}
 use mathlib.Core.Option.{Option, none, some}

@@ -4,7 +4,6 @@
 --     to-parent, no-parent  it leads above the asked depth, and the parent rises or not
 --     below-no, below-yes   whether a node is below another
 -- Each takes what the code has read: j the jump, d its depth, p the parent.
--- Assumes nothing.
 use Prim.Native.Nat.{ℕ, _-_, _+_, _≤_, _<_}
 use mathlib.Core.Path.{_≡_, sym, _∙_}
 use mathlib.Core.Bool.{true, false}

@@ -2,7 +2,6 @@
 --     children-inside      an inner node of the tree has its two children in the plan
 --     cell-links-in-range      no parent or jump strays
 --     cells-in-range     no number does
--- Assumes nothing.
 use Prim.Native.Nat.{ℕ, _+_, _-_, _<_}
 use mathlib.Core.Path.{_≡_, refl, sym, ap, _∙_}
 use mathlib.Core.Bool.{true}

@@ -5,7 +5,6 @@
 --     cleared-written, leaf-turn, inner-iteration   one node more
 --     none-yet, all-up                before the first and after the last
 --     turns .. turn-room              the same of every tree with these kinds, as the loop has it
--- Assumes nothing.
 use Prim.Native.Nat.{ℕ, _+_, _-_, _*_, _≤_, _<_}
 use mathlib.Core.Path.{_≡_, refl, sym, ap, _∙_, subst}
 use mathlib.Core.Bool.{true}

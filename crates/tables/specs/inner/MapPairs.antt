@@ -7,16 +7,13 @@
 -- takenOn b s st w p x == x where the jump w is the parent p, else what the maps of p and of its jump make of it
 -- rightValue, leftValue == the entries of both children's maps
 -- PairsWritten s t f i before after == the root, and the nodes whose parent is i or a later one, have the maps f, and
---   no
---   byte outside the maps is changed
+--   no byte outside the maps is changed
 -- Pairs ks ls b inn s k i before after == that, for the tree and the rule tables that the table before is prepared for
 -- BlockMapped .. b e before after == the inner nodes b, .. e - 1 have had their turns
 -- NearPairArgs, FarPairArgs, PairArgs, BlockArgs == what the writers need
 --
 -- A node's parent stands after it, so a pass from the last inner node down has the maps of a node and of its jump at
--- the
--- node's turn.
--- Assumes nothing.
+-- the node's turn.
 use Prim.Native.Nat.{ℕ, _+_, _-_, _*_, _≤_, _<_}
 use mathlib.Core.Path.{_≡_}
 use mathlib.Core.Bool.{cond}

@@ -2,8 +2,6 @@
 --
 -- NoMap s n j == place j is outside the maps of n nodes
 -- MapsWritten s n f i before after == the nodes i, .. n - 1 have the maps f, and no byte outside the maps is changed
---
--- Assumes nothing.
 use Prim.Native.Nat.{ℕ, _+_, _*_, _≤_, _<_}
 use mathlib.Core.Path.{_≡_}
 use mathlib.Core.List.{List}

@@ -10,9 +10,7 @@
 -- MapArgs == what fill_maps needs
 --
 -- A node is its parent's right child exactly where its number is one less. How both children's maps are written at
--- their
--- parent's turn is MapPairs.
--- Assumes nothing.
+-- their parent's turn is MapPairs.
 use Prim.Native.Nat.{ℕ, _+_, _-_, _*_, _≤_, _<_}
 use mathlib.Core.Path.{_≡_}
 use mathlib.Core.Bool.{cond}

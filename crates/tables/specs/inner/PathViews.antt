@@ -7,8 +7,6 @@
 -- RunOnArgs s bytes v == the bytes have node v's state
 -- PairArgs n nodeTable v p == v and p are among n nodes, and the numbers have four for each
 -- PathArgs n s k ls inn nodeTable bytes == n, s and k within their limits, and every run as long as they need
---
--- Assumes nothing.
 use Prim.Native.Nat.{ℕ, _+_, _*_, _≤_, _<_}
 use mathlib.Core.List.{List, []}
 use lib.ListN.{length}

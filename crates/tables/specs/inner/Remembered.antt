@@ -9,8 +9,6 @@
 -- entryOf s m x r == r stands for entry x of the map m, no state where x or that entry is none
 -- Folded s m f c out == the first c entries of out are f and then the map m
 -- NoteArgs, StateArgs, RememberArgs, FoldArgs, ReplayArgs == limits, and runs that are long enough
---
--- Assumes nothing.
 use Prim.Native.Nat.{ℕ, zero, suc, _+_, _*_, _/_, _%_, _≤_, _<_}
 use mathlib.Core.Path.{_≡_}
 use mathlib.Core.Bool.{true, false, cond}

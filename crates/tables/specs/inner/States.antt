@@ -12,8 +12,6 @@
 -- BlockRun .. b e before after == the nodes b, .. e - 1 have their states, whatever buffer the pass began with
 -- StateArgs == what run_states needs; LeafArgs, RunBlockArgs == what its parts need
 -- innerState == the rule at an inner node, from its children's state bytes; RuleArgs, InnerArgs == what it needs
---
--- Assumes nothing.
 use Prim.Native.Nat.{ℕ, _+_, _-_, _*_, _≤_, _<_}
 use mathlib.Core.Path.{_≡_}
 use mathlib.Core.Bool.{true}

@@ -4,8 +4,6 @@
 --   where there is no move, or a value read leads outside the states or the labels
 -- landed s x == a node and its state as they are told: none where the number told is not below s
 -- ClimbArgs .. == v is one of the nodes and q a state; ParentArgs .. == so is p one of the nodes
---
--- Assumes nothing.
 use Prim.Native.Nat.{ℕ, _<_}
 use mathlib.Core.Bool.{cond}
 use mathlib.Core.List.{List}

@@ -3,8 +3,6 @@
 -- tableOf s n g f == the table: for each of n nodes v the state g v, then the s entries of the map f v
 -- statesSame s n g b == whether the state bytes of b are g's
 -- mapsSame s n f b == whether the maps of b are f's
---
--- Assumes nothing.
 use Prim.Native.Nat.{ℕ}
 use mathlib.Core.Bool.{Bool}
 use mathlib.Core.List.{List, _∷_}

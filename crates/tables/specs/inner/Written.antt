@@ -9,8 +9,6 @@
 --   on go by
 -- BothWritten p r nodeTable bytes nodeTable′ bytes′ == both buffers begin with the tables built from p and r, and their excess is
 --   as before
---
--- Assumes nothing.
 use Prim.Native.Nat.{ℕ, _≤_, _<_}
 use mathlib.Core.Path.{_≡_}
 use mathlib.Core.List.{List, _++_}

@@ -4,8 +4,6 @@
 -- cellForest n b == the parents, jumps and depths of n nodes as table b has them: what a climb on a lent table follows
 -- isInSubtreeOn b c v == by table b's size of node c: whether node v is c or below it
 -- NodeTableArgs ks m == kinds of a tree within the limit, and a buffer of m numbers that has room for its table
---
--- Assumes nothing.
 use Prim.Native.Nat.{ℕ, _+_, _*_, _≤_}
 use mathlib.Core.Path.{_≡_}
 use mathlib.Core.Bool.{Bool, true}

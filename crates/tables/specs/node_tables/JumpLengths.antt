@@ -6,7 +6,6 @@
 --
 -- "For depths below 1,024 the jump's length shall come from a constant table of 1,024 numbers, and from the rule above that. The table
 -- agrees with the rule at every entry." (document 02, S-3). That it does is proofs/JumpLengthLaws.
--- Assumes nothing.
 use Prim.Native.Nat.{ℕ, zero, suc, _+_, _-_}
 use mathlib.Core.Bool.{cond}
 use mathlib.Core.List.{List, [], _∷_}

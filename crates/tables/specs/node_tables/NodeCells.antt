@@ -9,7 +9,6 @@
 -- UpWritten t i before after, DownWritten t i before after == the same, and no other place changed
 --
 -- Not here: the table as one list (trees, Tables); that both say the same is proofs/CellLaws.
--- Assumes nothing.
 use Prim.Native.Nat.{ℕ, _+_, _*_, _≤_, _<_}
 use mathlib.Core.Path.{_≡_}
 use mathlib.Core.List.{List}

@@ -3,8 +3,6 @@
 -- Childless b x == by table b's size of node x - 1 the left child of node x would lie outside the plan
 -- NodeTableOutOfRange n b == a value of table b, of n nodes, that leads outside the plan or does not rise: what 18 means of the 16-bit numbers.
 --   A table as built has none (proofs/node_tables/RangeLaws).
---
--- Assumes nothing.
 use Prim.Native.Nat.{ℕ, _-_, _<_}
 use mathlib.Core.Path.{_≡_}
 use mathlib.Core.Bool.{false}

@@ -1,5 +1,4 @@
 -- `build::build_branch_tables` meets its promise: the first check that fails, or both tables written.
--- Assumes nothing.
 use mathlib.Core.Path.{_≡_, sym, _∙_}
 use lib.ListN.{length}
 use Rattle.formats.specs.Checks.{firstNo, branchBuildChecks}

@@ -1,5 +1,4 @@
 -- `build::fill_branch` meets its contract: its three writers, one after the other.
--- Assumes nothing.
 use mathlib.Core.Path.{refl, _∙_}
 use Rattle.branches.proofs.FillLaws.{fill-link-args, fill-branch-args, filled}
 use borrow.Author.Needs.{needs}

@@ -1,5 +1,4 @@
 -- `check::check_branch_tables` meets its promise: the first check that fails, or whether both tables are as built.
--- Assumes nothing.
 use mathlib.Core.Path.{_≡_, sym, _∙_}
 use lib.ListN.{length}
 use Rattle.formats.specs.Checks.{firstNo, branchBuildChecks}

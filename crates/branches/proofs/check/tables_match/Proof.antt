@@ -1,5 +1,4 @@
 -- `check::tables_match` meets its contract: its three comparisons, one after the other.
--- Assumes nothing.
 use mathlib.Core.Path.{refl, sym, _∙_}
 use mathlib.Core.Bool.{true}
 use lib.ListN.{length}

@@ -1,6 +1,5 @@
 -- `check_maps::check_maps` meets its contract. The loop's invariant: the maps of the nodes from v on are the
 -- automaton's.
--- Assumes nothing.
 use Prim.Native.Nat.{_+_, _-_, _<_}
 use mathlib.Core.Path.{_≡_, sym, _∙_}
 use lib.ListN.{length}

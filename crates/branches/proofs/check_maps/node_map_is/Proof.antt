@@ -1,5 +1,4 @@
 -- `check_maps::node_map_is` meets its contract, by near_row_is or by step_row_is.
--- Assumes nothing.
 use Prim.Native.Nat.{_+_, _*_}
 use mathlib.Core.Path.{sym, _∙_}
 use lib.ListN.{getD}

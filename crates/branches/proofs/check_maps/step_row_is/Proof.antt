@@ -1,5 +1,4 @@
 -- `check_maps::step_row_is` meets its contract. The loop's invariant: the flag is the comparison of the entries passed.
--- Assumes nothing.
 use Prim.Native.Nat.{ℕ, _+_, _-_, _*_, _≤_, _<_}
 use mathlib.Core.Path.{_≡_, refl, _∙_}
 use mathlib.Core.Logic.{inl, inr}

@@ -1,5 +1,4 @@
 -- `check_steps::check_steps` meets its contract. The loop's invariant: the state bytes from v on are the automaton's.
--- Assumes nothing.
 use Prim.Native.Nat.{_+_, _-_, _*_, _<_}
 use mathlib.Core.Path.{_≡_}
 use lib.ListN.{length}

@@ -1,5 +1,4 @@
 -- `maps::label_map` meets its contract, by near_row or by step_row.
--- Assumes nothing.
 use Prim.Native.Nat.{_+_, _*_}
 use mathlib.Core.Path.{sym}
 use lib.ListN.{getD}

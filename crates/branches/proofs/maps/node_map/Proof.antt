@@ -1,5 +1,4 @@
 -- `maps::node_map` meets its contract: in each arm the literal is the number of states.
--- Assumes nothing.
 use Prim.Native.Nat.{ℕ}
 use mathlib.Core.Path.{_≡_, sym, subst}
 use mathlib.Core.List.{List}

@@ -1,4 +1,4 @@
--- `whatif_count` meets its contract. Assumes nothing.
+-- `whatif_count` meets its contract.
 use native.Mathlib.Omega.{arith}
 use borrow.Author.Needs.{needs}
 use Rattle.capi.proofs.choice_calls.ExportCases.{header-there, copy-args, refused-exported, short-exported}

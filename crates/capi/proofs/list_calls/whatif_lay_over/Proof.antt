@@ -1,4 +1,4 @@
--- `whatif_lay_over` meets its contract. Assumes nothing.
+-- `whatif_lay_over` meets its contract.
 use mathlib.Core.Path.{refl}
 use native.Mathlib.Omega.{arith}
 use borrow.Author.Needs.{needs}

@@ -1,4 +1,4 @@
--- `none_shown` meets its contract. Assumes nothing.
+-- `none_shown` meets its contract.
 use Rattle.capi.proofs.product_calls.ExportLaws.{shown-none, shown-some}
 use native.Mathlib.Omega.{arith}
 use borrow.Author.Needs.{needs}

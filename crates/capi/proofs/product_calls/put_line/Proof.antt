@@ -1,4 +1,4 @@
--- `put_line` meets its contract. Assumes nothing.
+-- `put_line` meets its contract.
 use lib.ListN.{length-set}
 use Rattle.capi.proofs.product_calls.LineLaws.{line-written}
 use native.Mathlib.Omega.{arith}

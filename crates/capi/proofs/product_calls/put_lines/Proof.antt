@@ -1,4 +1,4 @@
--- `put_lines` meets its contract. Assumes nothing.
+-- `put_lines` meets its contract.
 use Prim.Native.Nat.{_-_}
 use Rattle.capi.proofs.product_calls.LineLaws.{LinesLoop, lines-start, lines-call, lines-next, lines-done}
 use native.Mathlib.Omega.{arith}

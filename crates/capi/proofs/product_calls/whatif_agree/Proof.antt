@@ -1,4 +1,4 @@
--- `whatif_agree` meets its contract. Assumes nothing.
+-- `whatif_agree` meets its contract.
 use mathlib.Core.Path.{refl}
 use Rattle.capi.proofs.product_calls.ExportLaws.{count-most, lines-args, refused-exported, short-exported, agree-exported}
 use native.Mathlib.Omega.{arith}

@@ -1,4 +1,4 @@
--- `whatif_merge` meets its contract. Assumes nothing.
+-- `whatif_merge` meets its contract.
 use Rattle.capi.proofs.product_calls.ExportLaws.{merge-exported}
 use native.Mathlib.Omega.{arith}
 use borrow.Author.Needs.{needs}

@@ -1,4 +1,4 @@
--- `descent_number` meets its contract. Assumes nothing.
+-- `descent_number` meets its contract.
 use Rattle.capi_colours.proofs.branch_calls.DescentNumberLaws.{answered, not-answered}
 use native.Mathlib.Omega.{arith}
 use borrow.Author.Needs.{needs}

@@ -1,5 +1,4 @@
 -- `capi_screens::calls::whatif_screens_cancel` meets its contract.
--- Assumes nothing.
 use Rattle.model.specs.Calls.{cancel}
 use Rattle.capi_screens.proofs.ExportedLaws.{not-run, names-cancel, beyond, on-screen}
 use native.Mathlib.Omega.{arith}

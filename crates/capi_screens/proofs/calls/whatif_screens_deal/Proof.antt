@@ -1,5 +1,4 @@
 -- `capi_screens::calls::whatif_screens_deal` meets its contract.
--- Assumes nothing.
 use Rattle.capi_screens.proofs.ExportedLaws.{not-run, not-run-answer}
 use Rattle.capi_screens.proofs.DealLaws.{deal-refused, deal-beyond, deal-none, turn-refused, turn-taken}
 use native.Mathlib.Omega.{arith}

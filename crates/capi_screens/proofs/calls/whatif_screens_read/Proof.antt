@@ -1,5 +1,4 @@
 -- `capi_screens::calls::whatif_screens_read` meets its contract.
--- Assumes nothing.
 use Rattle.model.specs.Calls.{read}
 use Rattle.capi_screens.proofs.ExportedLaws.{not-run-answer, names-read, beyond-answer}
 use Rattle.capi_screens.proofs.StartReadLaws.{read-refused, read-on}

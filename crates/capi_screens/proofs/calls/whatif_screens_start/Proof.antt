@@ -1,5 +1,4 @@
 -- `capi_screens::calls::whatif_screens_start` meets its contract.
--- Assumes nothing.
 use Rattle.capi_screens.proofs.ExportedLaws.{not-run, not-run-answer, names-start, beyond, beyond-answer}
 use Rattle.capi_screens.proofs.StartReadLaws.{start-refused, start-on}
 use native.Mathlib.Omega.{arith}

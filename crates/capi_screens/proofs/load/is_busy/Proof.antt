@@ -1,5 +1,4 @@
 -- `capi_screens::load::is_busy` meets its contract.
--- Assumes nothing.
 use Rattle.capi_screens.proofs.RestLaws.{not-valid, valid-runs, valid-some}
 use native.Mathlib.Omega.{arith}
 use borrow.Author.Needs.{needs}

@@ -1,5 +1,4 @@
 -- `capi_screens::load::whatif_screens_load` meets its contract.
--- Assumes nothing.
 use mathlib.Core.Path.{sym, _∙_}
 use lib.Seq.{length-take-le}
 use Rattle.capi_screens.proofs.LoadLaws.{no-run-load, busy-load, refused-load, cleared-load}

@@ -1,5 +1,4 @@
 -- `capi_session::calls::store_advanced` meets its contract. What an accepted advance alters is stored; it stores a state.
--- Assumes nothing.
 use mathlib.Core.Path.{ap, _∙_}
 use Rattle.session.specs.inner.Steps.{storesBy}
 use Rattle.capi_session.proofs.SessionExportedLaws.{more-stored, finished-stored, advance-refused}

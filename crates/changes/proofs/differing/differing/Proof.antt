@@ -1,4 +1,4 @@
--- `changes::differing::differing` meets its contract. Assumes nothing.
+-- `changes::differing::differing` meets its contract.
 use mathlib.Core.Path.{_≡_, refl, sym, _∙_}
 use borrow.Author.Tests.{not-true, not-false}
 use Prim.Native.Nat.{_-_}

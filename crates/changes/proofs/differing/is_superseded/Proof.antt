@@ -1,4 +1,4 @@
--- `changes::differing::is_superseded` meets its contract. Assumes nothing.
+-- `changes::differing::is_superseded` meets its contract.
 use Prim.Native.Nat.{_+_}
 use mathlib.Core.Path.{ap, _∙_}
 use lib.ListN.{getD}

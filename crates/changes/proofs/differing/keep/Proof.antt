@@ -1,4 +1,4 @@
--- `changes::differing::keep` meets its contract. Assumes nothing.
+-- `changes::differing::keep` meets its contract.
 use mathlib.Core.Path.{refl}
 use lib.ListN.{getD}
 use Rattle.changes.specs.inner.LastDiffering.{leftIn}

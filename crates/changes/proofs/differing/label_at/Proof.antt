@@ -1,4 +1,4 @@
--- `changes::differing::label_at` meets its contract. Assumes nothing.
+-- `changes::differing::label_at` meets its contract.
 use mathlib.Core.Path.{sym, refl}
 use lib.ListN.{List·getD-eq-default}
 use borrow.Author.Needs.{needs}

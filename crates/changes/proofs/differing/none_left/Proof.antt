@@ -1,4 +1,4 @@
--- `changes::differing::none_left` meets its contract. Assumes nothing.
+-- `changes::differing::none_left` meets its contract.
 use mathlib.Core.Path.{refl}
 use Rattle.changes.specs.LayOver.{padded}
 use Rattle.changes.proofs.differing.none_left.Statement.{statement}

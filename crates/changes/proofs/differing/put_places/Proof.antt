@@ -1,4 +1,4 @@
--- `changes::differing::put_places` meets its contract. Assumes nothing.
+-- `changes::differing::put_places` meets its contract.
 use Prim.Native.Nat.{_-_}
 use lib.ListN.{length}
 use Rattle.changes.proofs.LastPlacesLaws.{PlacesLoop, places-start, places-next, places-done}

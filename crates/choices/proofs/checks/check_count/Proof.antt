@@ -1,4 +1,4 @@
--- `check_count` meets its contract. Assumes nothing.
+-- `check_count` meets its contract.
 use native.Mathlib.Omega.{arith}
 use borrow.Author.Needs.{needs}
 use Prim.Native.Nat.{ℕ, _≤_, _^_}

@@ -1,4 +1,4 @@
--- `rule_headers_fit` meets its contract. Assumes nothing.
+-- `rule_headers_fit` meets its contract.
 use native.Mathlib.Omega.{arith}
 use borrow.Author.Needs.{needs}
 use mathlib.Core.Path.{_≡_, refl, sym, _∙_}

@@ -1,4 +1,4 @@
--- `count` meets its contract. Assumes nothing.
+-- `count` meets its contract.
 use native.Mathlib.Omega.{arith}
 use borrow.Author.Needs.{needs}
 use mathlib.Core.Path.{_≡_, sym, _∙_}

@@ -1,4 +1,4 @@
--- `label_range` meets its contract. Assumes nothing.
+-- `label_range` meets its contract.
 use native.Mathlib.Omega.{arith}
 use borrow.Author.Needs.{needs}
 use mathlib.Core.Path.{_≡_, sym, ap}

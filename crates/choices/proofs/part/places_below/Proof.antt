@@ -1,4 +1,4 @@
--- `places_below` meets its contract. Assumes nothing.
+-- `places_below` meets its contract.
 use native.Mathlib.Omega.{arith}
 use borrow.Author.Needs.{needs}
 use mathlib.Core.Path.{_≡_, sym, subst}

@@ -1,4 +1,4 @@
--- `all_parts` meets its contract. Assumes nothing.
+-- `all_parts` meets its contract.
 use native.Mathlib.Omega.{arith}
 use borrow.Author.Needs.{needs}
 use Prim.Native.Nat.{_+_, _*_, _-_}

@@ -1,4 +1,4 @@
--- `next_part` meets its contract. Assumes nothing.
+-- `next_part` meets its contract.
 use native.Mathlib.Omega.{arith}
 use borrow.Author.Needs.{needs}
 use mathlib.Core.Path.{_≡_, refl}

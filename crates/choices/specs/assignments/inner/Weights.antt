@@ -6,7 +6,6 @@
 --
 -- The count of state s is the weight `one s`. Weights compose as functions do, so a fork is one weight in another and a
 -- climb is a weight after a map; one number for each state, and sums of products of these, come last (proofs/Vectors).
--- Assumes nothing.
 use Prim.Native.Nat.{ℕ, _+_, _-_}
 use Rattle.trees.specs.Tree.{Tree, leaf, node, size}
 use Rattle.trees.specs.Automaton.{Automaton}

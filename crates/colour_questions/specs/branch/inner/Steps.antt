@@ -4,8 +4,6 @@
 -- finishOn s mk bytes l c d n == what is answered at the end of a way down to node l: colour c, d drops and n links
 -- StartArgs, RowArgs, WayArgs, EndArgs == what the steps read is inside its lists
 -- AnswerArgs p r nodeTable numbers bytes u l == what the lent headers and lengths say where 17 and 13 pass
---
--- Assumes nothing.
 use Prim.Native.Nat.{ℕ, _+_, _*_, _≤_, _<_}
 use mathlib.Core.Path.{_≡_}
 use mathlib.Core.Bool.{true, cond}

@@ -4,8 +4,6 @@
 -- SideReads == what a side reads is inside; SideArgs, ForkArgs, LeafArgs, PartArgs == besides, what each function reads
 -- FewTried s r == a state that was found is below s, by at most 60 drops, each with at most 65,535 links
 -- SideFew own other r == so of a side; without trials where there is no root below, or one below its sibling too
---
--- Assumes nothing.
 use Prim.Native.Nat.{ℕ, _+_, _*_, _≤_, _<_, _^_}
 use mathlib.Core.Path.{_≡_}
 use mathlib.Core.Bool.{true}

@@ -4,8 +4,6 @@
 -- NextDone n table c to l r == r is the next drop by colour c's table; a drop's node is one of the n and its links are
 --   few
 -- DropDone n nums c z l r == the same by the numbers of all colours, from the copy z
---
--- Assumes nothing.
 use Prim.Native.Nat.{ℕ, _≤_, _<_}
 use mathlib.Core.Path.{_≡_}
 use mathlib.Core.List.{List}

@@ -4,8 +4,6 @@
 -- searchOn F v t == the end of the climb from node v to depth t, and its moves; none where it would leave the nodes
 --   or not rise
 -- searchedOf o == the same as the code tells it
---
--- Assumes nothing.
 use Prim.Native.Nat.{ℕ}
 use mathlib.Core.Bool.{true, false}
 use mathlib.Core.Option.{Option, none, some}

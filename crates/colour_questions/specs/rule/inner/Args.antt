@@ -5,8 +5,6 @@
 -- RootArgs, LentArgs == what the functions of the question read is inside
 -- answeredFor n s k .. ms == the answer for the roots ms, with N, S and K as given; answeredOn .. == the answer where
 --   the checks before 18 pass
---
--- Assumes nothing.
 use Prim.Native.Nat.{ℕ, _+_, _*_, _≤_, _<_, _^_}
 use mathlib.Core.Path.{_≡_}
 use mathlib.Core.Bool.{true}

@@ -1,16 +1,12 @@
 -- What the writers of the tables of colours need, once all checks have passed, and what they leave.
 --
 -- FillArgs ls ks st s k l m == labels and kinds of a tree, steps of s states and k labels, within the limits; room in
---   buffers of l
---   numbers and m bytes
+--   buffers of l numbers and m bytes
 -- Filled .. == both buffers begin with the tables of colours of the tree of these kinds and labels, and their excess
 --   is as it was
 -- PartArgs p r n s k l m == plan and branch table pass 2 to 11 for buffers of l numbers and m bytes; n, s and k are
---   their N, S and
---   K, with the lengths that follow, for the parts handed on
+--   their N, S and K, with the lengths that follow, for the parts handed on
 -- ColoursWritten p r .. == both buffers begin with what the build writes, and their excess is as it was
---
--- Assumes nothing.
 use Prim.Native.Nat.{ℕ, _*_, _≤_, _<_}
 use mathlib.Core.Path.{_≡_}
 use mathlib.Core.List.{List, _++_}

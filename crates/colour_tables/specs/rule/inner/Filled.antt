@@ -9,8 +9,6 @@
 -- PartArgs p r n s k l m == plan and rule table pass 2 to 9, 27, 10 and 11 for buffers of l numbers and m bytes; n, s
 --   and k are their N, S and K, with the lengths that follow, for the parts handed on
 -- SetColoursWritten p r .. == both buffers begin with what the build writes, and their excess is as it was
---
--- Assumes nothing.
 use Prim.Native.Nat.{ℕ, _+_, _*_, _^_, _≤_, _<_}
 use mathlib.Core.Path.{_≡_}
 use mathlib.Core.List.{List, _++_}

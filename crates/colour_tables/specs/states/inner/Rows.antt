@@ -4,12 +4,9 @@
 -- aboveCell .. v c == state of colour c in the copy above node v: its parent's, from `base` on, or the top copy's own
 -- PutTo row at k before after == the first k of a row stand from `at` on, and no other byte is changed
 -- LandedTo lands n v k before after == the landings of colours 1, .. k - 1 at node v are those given, and no other
---   number is
---   changed
+--   number is changed
 -- Turned led .. v == the copy of node v and its landings, where `led` has the states that those above lead to
 -- AboveArgs, PutArgs, LandArgs, TurnArgs == what the functions need: places inside their lists
---
--- Assumes nothing.
 use Prim.Native.Nat.{ℕ, _+_, _*_, _≤_, _<_}
 use mathlib.Core.Path.{_≡_}
 use mathlib.Core.Bool.{cond}

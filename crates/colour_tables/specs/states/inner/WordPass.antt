@@ -5,8 +5,6 @@
 -- WordGiven ls numbers t == labels ls and the parents in the first table are those of tree t
 -- WordsFrom s k st t i .. == the nodes from i on have their copies, from byte 0 on, and their colours' landings
 -- WordArgs ls st s k numbers bytes == what the pass needs: a tree, states and labels within their limits, and room
---
--- Assumes nothing.
 use Prim.Native.Nat.{ℕ, _+_, _*_, _≤_, _<_}
 use mathlib.Core.Path.{_≡_}
 use mathlib.Core.List.{List}

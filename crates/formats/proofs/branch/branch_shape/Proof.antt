@@ -1,4 +1,4 @@
--- `formats::branch::branch_shape` meets its contract: each return cites the law of its answer. Assumes nothing.
+-- `formats::branch::branch_shape` meets its contract: each return cites the law of its answer.
 use Rattle.formats.proofs.BranchAnswers.{steps-off, marks-off, branch-end}
 use native.Mathlib.Omega.{arith}
 use borrow.Author.Needs.{needs}

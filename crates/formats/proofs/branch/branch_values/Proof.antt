@@ -1,4 +1,4 @@
--- `formats::branch::branch_values` meets its contract: each return cites the law of its answer. Assumes nothing.
+-- `formats::branch::branch_values` meets its contract: each return cites the law of its answer.
 use Prim.Native.Nat.{ℕ, _+_, _*_}
 use mathlib.Core.Path.{_≡_, ap}
 use Rattle.formats.proofs.BranchAnswers.{values-steps, values-branch}

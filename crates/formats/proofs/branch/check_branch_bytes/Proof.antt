@@ -1,4 +1,4 @@
--- `formats::branch::check_branch_bytes` meets its contract: each return cites the law of its answer. Assumes nothing.
+-- `formats::branch::check_branch_bytes` meets its contract: each return cites the law of its answer.
 use Prim.Native.Nat.{ℕ, _≤_}
 use mathlib.Core.Bool.{true}
 use mathlib.Core.List.{List}

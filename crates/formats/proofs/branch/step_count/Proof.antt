@@ -1,4 +1,4 @@
--- `formats::branch::step_count` meets its contract: the product is small. Assumes nothing.
+-- `formats::branch::step_count` meets its contract: the product is small.
 use mathlib.Core.Path.{refl}
 use Rattle.formats.proofs.RuleAnswers.{product-inner}
 use native.Mathlib.Omega.{arith}

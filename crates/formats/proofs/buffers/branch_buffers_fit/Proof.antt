@@ -1,4 +1,4 @@
--- `branch_buffers_fit` meets its contract. Assumes nothing.
+-- `branch_buffers_fit` meets its contract.
 use native.Mathlib.Omega.{arith}
 use borrow.Author.Needs.{needs}
 use mathlib.Core.Bool.{true}

@@ -1,4 +1,4 @@
--- `headers_fit` meets its contract. Assumes nothing.
+-- `headers_fit` meets its contract.
 use native.Mathlib.Omega.{arith}
 use borrow.Author.Needs.{needs}
 use mathlib.Core.Path.{sym, _∙_}

@@ -1,4 +1,4 @@
--- `rule_buffers_fit` meets its contract. Assumes nothing.
+-- `rule_buffers_fit` meets its contract.
 use native.Mathlib.Omega.{arith}
 use borrow.Author.Needs.{needs}
 use Prim.Native.Nat.{ℕ}

@@ -1,4 +1,4 @@
--- `formats::eight::few` meets its contract. Assumes nothing.
+-- `formats::eight::few` meets its contract.
 use mathlib.Core.Path.{sym, ap}
 use mathlib.Core.Bool.{Bool, cond}
 use borrow.Author.Tests.{lt-ltb, le-ltb}

@@ -1,4 +1,4 @@
--- `formats::eight::sums_so_far` meets its contract: the sums fit. Assumes nothing.
+-- `formats::eight::sums_so_far` meets its contract: the sums fit.
 use borrow.Author.Needs.{needs}
 use Rattle.formats.proofs.EightKinds.{fits-pairs, fits-fours, fits-sums}
 use native.Mathlib.Omega.{arith}

@@ -1,4 +1,4 @@
--- `formats::eight::trees_suffice` meets its contract. Assumes nothing.
+-- `formats::eight::trees_suffice` meets its contract.
 use Prim.Native.Nat.{ℕ}
 use mathlib.Core.Path.{ap}
 use native.Mathlib.Omega.{arith}

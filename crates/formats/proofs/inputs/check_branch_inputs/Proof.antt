@@ -1,4 +1,4 @@
--- `formats::inputs::check_branch_inputs` meets its contract: each return cites the law of its answer. Assumes nothing.
+-- `formats::inputs::check_branch_inputs` meets its contract: each return cites the law of its answer.
 use mathlib.Core.Path.{_≡_, refl, sym, _∙_}
 use Rattle.formats.specs.Checks.{firstNo, planChecks, branchChecks, branchTableChecks}
 use Rattle.formats.specs.Rules.{labelCount}

@@ -1,4 +1,4 @@
--- `formats::inputs::check_fresh_run` meets its contract: each return cites the law of its answer. Assumes nothing.
+-- `formats::inputs::check_fresh_run` meets its contract: each return cites the law of its answer.
 use Prim.Native.Nat.{ℕ}
 use mathlib.Core.Path.{_≡_, sym, ap₂, _∙_}
 use mathlib.Core.List.{List}

@@ -1,4 +1,4 @@
--- `formats::inputs::plan_labels_below` meets its contract: the labels are the part of the plan that is handed on. Assumes nothing.
+-- `formats::inputs::plan_labels_below` meets its contract: the labels are the part of the plan that is handed on.
 use mathlib.Core.Path.{ap, _∙_}
 use Rattle.list_laws.specs.Tests.{allBelow}
 use Rattle.formats.proofs.PlanLaws.{labels-part}

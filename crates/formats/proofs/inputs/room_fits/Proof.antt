@@ -1,4 +1,4 @@
--- `formats::inputs::room_fits` meets its contract. Assumes nothing.
+-- `formats::inputs::room_fits` meets its contract.
 use Rattle.formats.proofs.InputAnswers.{product-states, room-links, room-states}
 use native.Mathlib.Omega.{arith}
 use borrow.Author.Needs.{needs}

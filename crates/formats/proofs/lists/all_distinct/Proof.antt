@@ -1,5 +1,4 @@
 -- `formats::lists::all_distinct` meets its contract. The loop's invariant: the answer for all is that for the numbers to come.
--- Assumes nothing.
 use Prim.Native.Nat.{_-_, _≤_}
 use mathlib.Core.Path.{_≡_, refl, sym, _∙_}
 use lib.ListN.{length, drop}

@@ -1,4 +1,4 @@
--- `formats::lists::check_list` meets its contract: each return cites the law of its answer. Assumes nothing.
+-- `formats::lists::check_list` meets its contract: each return cites the law of its answer.
 use Rattle.formats.proofs.ListAnswers.{list-12, list-13, list-14, list-good}
 use borrow.Author.Needs.{needs}
 use Rattle.formats.proofs.lists.check_list.Statement.{statement}

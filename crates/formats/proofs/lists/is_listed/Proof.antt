@@ -1,5 +1,5 @@
 -- `formats::lists::is_listed` meets its contract. The loop's invariant: the running answer or that of the numbers to come is the
--- answer for all. Assumes nothing.
+-- answer for all.
 use Prim.Native.Nat.{_-_, _≤_}
 use mathlib.Core.Path.{_≡_, refl, sym, _∙_}
 use mathlib.Core.Bool.{_||_}

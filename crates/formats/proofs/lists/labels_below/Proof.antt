@@ -1,4 +1,4 @@
--- `formats::lists::labels_below` meets its contract: a byte is below a K above 255. Assumes nothing.
+-- `formats::lists::labels_below` meets its contract: a byte is below a K above 255.
 use mathlib.Core.Path.{sym}
 use Rattle.list_laws.proofs.TestLaws.{at-allBelow}
 use native.Mathlib.Omega.{arith}

@@ -1,4 +1,4 @@
--- `formats::lists::lists_fit` meets its contract. Assumes nothing.
+-- `formats::lists::lists_fit` meets its contract.
 use borrow.Author.Tests.{eq-eqb, ne-eqb}
 use Rattle.formats.proofs.lists.lists_fit.Statement.{statement}
 use Rattle.formats.proofs.lists.lists_fit.Tie as tie

@@ -1,5 +1,5 @@
 -- `formats::lists::nodes_below` meets its contract. The loop's invariant: the running answer and that of the numbers to come make
--- the answer for all. Assumes nothing.
+-- the answer for all.
 use Prim.Native.Nat.{_-_, _≤_}
 use mathlib.Core.Path.{_≡_, refl, sym, _∙_}
 use mathlib.Core.Bool.{_&&_}

@@ -1,4 +1,4 @@
--- `formats::plan::check_plan` meets its contract: each return cites the law of its answer. Assumes nothing.
+-- `formats::plan::check_plan` meets its contract: each return cites the law of its answer.
 use mathlib.Core.Path.{_≡_, sym, ap, _∙_}
 use Prim.Native.Nat.{ℕ}
 use mathlib.Core.List.{List}

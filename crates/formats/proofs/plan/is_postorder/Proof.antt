@@ -1,4 +1,4 @@
--- `formats::plan::is_postorder` meets its contract: the loop's invariant is Blocks of EightLoop. Assumes nothing.
+-- `formats::plan::is_postorder` meets its contract: the loop's invariant is Blocks of EightLoop.
 use Prim.Native.Nat.{_-_}
 use mathlib.Core.Path.{sym, _∙_}
 use borrow.Author.Tests.{not-true, not-false}

@@ -1,4 +1,4 @@
--- `formats::plan::rest_in_postorder` meets its contract: the loop's invariant is Counted of KindLoop. Assumes nothing.
+-- `formats::plan::rest_in_postorder` meets its contract: the loop's invariant is Counted of KindLoop.
 use Prim.Native.Nat.{_-_}
 use lib.ListN.{length, drop}
 use Rattle.trees.specs.Postorder.{isOne, waiting as treesWaiting}

@@ -1,5 +1,5 @@
 -- `formats::rules::all_below` meets its contract. The loop's invariant: the running answer and that of the bytes to come make the
--- answer for all. Assumes nothing.
+-- answer for all.
 use Prim.Native.Nat.{_-_, _≤_}
 use mathlib.Core.Path.{_≡_, refl, sym, _∙_}
 use mathlib.Core.Bool.{_&&_}

@@ -1,4 +1,4 @@
--- `formats::rules::check_rule_bytes` meets its contract: each return cites the law of its answer. Assumes nothing.
+-- `formats::rules::check_rule_bytes` meets its contract: each return cites the law of its answer.
 use Prim.Native.Nat.{ℕ, _≤_}
 use mathlib.Core.Bool.{true}
 use mathlib.Core.List.{List}

@@ -1,4 +1,4 @@
--- `formats::rules::counts_fit` meets its contract: each return cites the law of its answer. Assumes nothing.
+-- `formats::rules::counts_fit` meets its contract: each return cites the law of its answer.
 use Rattle.formats.proofs.PlanAnswers.{below-within, above-within}
 use Rattle.formats.proofs.RuleAnswers.{counts-states, counts-labels, counts-last}
 use Rattle.formats.proofs.rules.counts_fit.Statement.{statement}

@@ -1,4 +1,4 @@
--- `formats::rules::inner_count` meets its contract: the product is small. Assumes nothing.
+-- `formats::rules::inner_count` meets its contract: the product is small.
 use mathlib.Core.Path.{refl}
 use Rattle.formats.proofs.RuleAnswers.{product-inner}
 use native.Mathlib.Omega.{arith}

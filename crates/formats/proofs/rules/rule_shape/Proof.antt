@@ -1,4 +1,4 @@
--- `formats::rules::rule_shape` meets its contract: each return cites the law of its answer. Assumes nothing.
+-- `formats::rules::rule_shape` meets its contract: each return cites the law of its answer.
 use Rattle.formats.proofs.RuleAnswers.{shape-leaves, shape-inner, shape-marks, shape-end}
 use native.Mathlib.Omega.{arith}
 use borrow.Author.Needs.{needs}

@@ -1,4 +1,4 @@
--- `formats::rules::rule_values` meets its contract: each return cites the law of its answer. Assumes nothing.
+-- `formats::rules::rule_values` meets its contract: each return cites the law of its answer.
 use Prim.Native.Nat.{ℕ, _+_, _*_}
 use mathlib.Core.Path.{_≡_, ap}
 use Rattle.formats.proofs.RuleAnswers.{values-leaves, values-inner, values-marks}

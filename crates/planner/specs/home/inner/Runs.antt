@@ -1,8 +1,6 @@
 -- How many inner nodes stand in a row.
 --
 -- runAfter k run == the run after a node of kind k, where `run` inner nodes stand in a row before it
---
--- Assumes nothing.
 use Prim.Native.Nat.{ℕ, zero, suc, _+_}
 
 abbrev pub runAfter : ℕ → ℕ → ℕ

@@ -5,8 +5,6 @@
 -- LayArgs f ls ps p n == ls are f's labels, ps begins with f's places, and p has n = 2 * count f + 1 leaves
 -- Laid f n p q == q has the labels and kinds of f's image, and is p elsewhere
 -- WriteArgs, PlanWritten == the same for the whole plan: header, labels and kinds, and the excess as it was
---
--- Assumes nothing.
 use Prim.Native.Nat.{ℕ, _+_, _*_, _≤_, _<_}
 use mathlib.Core.Path.{_≡_}
 use mathlib.Core.List.{List, _++_}

@@ -6,10 +6,7 @@
 -- nodeOnTop p i, isLater p i == the node of entry i; whether it is not the first of its list
 -- afterLeaf closing next == the place behind the leaf that ends a list
 -- CloseArgs, ListsClosed; NodeArgs, NodeRead; PlaceArgs, NodesPlaced == what a function needs, and what it has done, by
---   the definition
---   of the loop: the same items are still to be written, to the same places
---
--- Assumes nothing.
+--   the definition of the loop: the same items are still to be written, to the same places
 use Prim.Native.Nat.{ℕ, zero, suc, _+_, _-_, _*_, _≤_, _<_}
 use mathlib.Core.Path.{_≡_}
 use mathlib.Core.Bool.{Bool, true, false, cond, not}

@@ -1,6 +1,5 @@
 -- `probes::places::read_at` meets its contract: a walk of its MIR, by hand. The record is copied into a local, which is lent by `&` for a
 -- new lifetime to the call in place. When that has returned the lifetime is ended, and the local is had again as it was.
--- Assumes nothing.
 use mathlib.Core.Path.{_≡_, refl}
 use Prim.Native.Nat.{ℕ}
 use mathlib.Core.List.{[], _∷_, List}

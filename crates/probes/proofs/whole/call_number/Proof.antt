@@ -1,5 +1,4 @@
 -- `probes::whole::call_number` meets its contract. Each case of the answer is one of the definition's.
--- Assumes nothing.
 use Rattle.probes.proofs.ProbeLaws.{number-none, number-some}
 use borrow.Author.Needs.{needs}
 use Rattle.probes.proofs.whole.call_number.Statement.{statement}

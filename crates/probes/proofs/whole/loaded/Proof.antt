@@ -1,5 +1,4 @@
 -- `probes::whole::loaded` meets its contract: its record is that after a first Load, field by field.
--- Assumes nothing.
 use mathlib.Core.Path.{ap, _∙_}
 use Rattle.model.specs.Model.{idle}
 use Rattle.session.specs.declared.state.Phase.the-variants.{Loaded}

@@ -1,5 +1,4 @@
 -- `probes::whole::probe_life` meets its contract. Its calls' promises are those of the definition.
--- Assumes nothing.
 use Rattle.probes.proofs.ProbeLaws.{life-answer}
 use borrow.Author.Needs.{needs}
 use Rattle.probes.proofs.whole.probe_life.Statement.{statement}

@@ -1,5 +1,4 @@
 -- `probes::whole::probe_question` meets its contract. It is the question on the session that is loaded.
--- Assumes nothing.
 use mathlib.Core.Path.{_∙_, ap}
 use Rattle.session.specs.declared.state.Session.{Session}
 use Rattle.formats.specs.Inputs.{inputsOf}

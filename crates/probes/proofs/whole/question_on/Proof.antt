@@ -1,5 +1,4 @@
 -- `probes::whole::question_on` meets its contract. Its calls' promises are those of the definition.
--- Assumes nothing.
 use mathlib.Core.Path.{refl}
 use Rattle.probes.proofs.ProbeLaws.{question-answer}
 use borrow.Author.Needs.{needs}

@@ -1,4 +1,4 @@
--- `agree` meets its contract. Assumes nothing.
+-- `agree` meets its contract.
 use mathlib.Core.Path.{_≡_, sym, _∙_}
 use Rattle.formats.specs.Checks.{firstNo, ruleChecks}
 use Rattle.formats.proofs.RuleLaws.{rules-pass}

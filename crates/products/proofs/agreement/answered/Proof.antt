@@ -1,4 +1,4 @@
--- `answered` meets its contract. Assumes nothing.
+-- `answered` meets its contract.
 use Rattle.products.proofs.agreement.TableAnswer.{leaf-args-at, leaves-first, leaves-second, inner-first, inner-second}
 use Rattle.products.proofs.agreement.TableAnswer.{marks-first, marks-second}
 use Rattle.products.proofs.agreement.TableAnswer.{whole-args-at, mark-args-at, cut-args-at, answered-at}

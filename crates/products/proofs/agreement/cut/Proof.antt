@@ -1,4 +1,4 @@
--- `cut` meets its contract. Assumes nothing.
+-- `cut` meets its contract.
 use Rattle.products.proofs.agreement.ReplyLaws.{cut-reply, cut-kinds, cut-labels, cut-lefts, cut-rights}
 use native.Mathlib.Omega.{arith}
 use borrow.Author.Needs.{needs}

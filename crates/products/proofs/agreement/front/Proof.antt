@@ -1,4 +1,4 @@
--- `front` meets its contract. Assumes nothing.
+-- `front` meets its contract.
 use Prim.Native.Nat.{_-_}
 use Rattle.products.proofs.agreement.ReplyLaws.{FrontLoop, front-start, front-next, front-done}
 use native.Mathlib.Omega.{arith}

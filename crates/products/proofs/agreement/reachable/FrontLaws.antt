@@ -3,7 +3,6 @@
 --     front-same              of what is the same
 --     front-found             of what a line at either side of others adds
 --     front-searched          of what the whole search finds
--- Assumes nothing.
 use Prim.Native.Nat.{ℕ, zero, suc}
 use mathlib.Core.Path.{_≡_, refl, sym, ap, _∙_, subst}
 use mathlib.Core.Bool.{Bool, true, false, cond}

@@ -2,7 +2,6 @@
 --     labels-next, labels-end    the definition at a label, and past the last
 --     step-args                  the cells that one step reads are there
 --     LabelsLoop                 the invariant: what is left to do of the definition's work gives the whole
--- Assumes nothing.
 use Prim.Native.Nat.{ℕ, zero, suc, _+_, _*_, _/_, _%_, _-_, _≤_, _<_}
 use mathlib.Core.Path.{_≡_, refl, sym, ap, ap₂, _∙_, subst}
 use mathlib.Core.List.{List, [], _∷_, _++_}

@@ -1,7 +1,6 @@
 -- The loop of over_leaves, one label at a time.
 --     leaves-next, leaves-end    the definition at a label, and past the last
 --     LeavesLoop                 the invariant
--- Assumes nothing.
 use Prim.Native.Nat.{ℕ, zero, suc, _+_, _*_, _/_, _%_, _-_, _≤_, _<_}
 use mathlib.Core.Path.{_≡_, refl, sym, ap, ap₂, _∙_, subst}
 use mathlib.Core.List.{List, [], _∷_, _++_}

@@ -2,7 +2,6 @@
 --     found-next, found-end    the definition at a line, and past the last
 --     LinesLoop                the invariant
 --     lines-loop-stop          where the marks of a new line differ, the loop may end
--- Assumes nothing.
 use Prim.Native.Nat.{ℕ, zero, suc, _+_, _*_, _/_, _%_, _-_, _≤_, _<_}
 use mathlib.Core.Path.{_≡_, refl, sym, ap, ap₂, _∙_, subst}
 use mathlib.Core.List.{List, [], _∷_, _++_}

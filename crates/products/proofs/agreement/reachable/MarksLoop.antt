@@ -2,7 +2,6 @@
 --     MarksLoop     the invariant: the first that differs among the lines left is the first of all
 --     none-later    where none differs from a line on, none does from a later line on
 --     marks-args    a record that can be worked on has the marks of its lines
--- Assumes nothing.
 use Prim.Native.Nat.{ℕ, zero, suc, _+_, _*_, _/_, _%_, _-_, _≤_, _<_}
 use mathlib.Core.Path.{_≡_, refl, sym, ap, ap₂, _∙_, subst}
 use mathlib.Core.List.{List, [], _∷_, _++_}

@@ -4,7 +4,6 @@
 --     found-more, fits-more  what the record says with one line more
 --     added-new, added-not   the definition's step, where the state was not seen, and where it was
 --     empty-fits, empty-found    the empty record
--- Assumes nothing.
 use Prim.Native.Nat.{ℕ, zero, suc, _+_, _*_, _/_, _%_, _-_, _≤_, _<_}
 use mathlib.Core.Path.{_≡_, refl, sym, ap, ap₂, _∙_, subst}
 use mathlib.Core.List.{List, [], _∷_, _++_}

@@ -3,7 +3,6 @@
 --     SearchLoop               the invariant
 --     search-loop-stop         where the marks of a new line differ, the loop may end
 --     search-not               where the marks of a leaf differ, it need not begin
--- Assumes nothing.
 use Prim.Native.Nat.{ℕ, zero, suc, _+_, _*_, _/_, _%_, _-_, _≤_, _<_}
 use mathlib.Core.Path.{_≡_, refl, sym, ap, ap₂, _∙_, subst}
 use mathlib.Core.List.{List, [], _∷_, _++_}

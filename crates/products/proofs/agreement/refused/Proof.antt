@@ -1,4 +1,4 @@
--- `refused` meets its contract. Assumes nothing.
+-- `refused` meets its contract.
 use Rattle.products.proofs.agreement.ReplyLaws.{refusal-reply}
 use native.Mathlib.Omega.{arith}
 use borrow.Author.Needs.{needs}

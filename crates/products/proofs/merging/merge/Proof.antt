@@ -1,4 +1,4 @@
--- `merge` meets its contract. Assumes nothing.
+-- `merge` meets its contract.
 use mathlib.Core.Path.{_≡_, sym, _∙_}
 use Rattle.formats.specs.Checks.{firstNo, ruleChecks}
 use Rattle.formats.proofs.RuleLaws.{rules-pass}

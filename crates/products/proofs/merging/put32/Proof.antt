@@ -1,4 +1,4 @@
--- `put32` meets its contract. Assumes nothing.
+-- `put32` meets its contract.
 use lib.ListN.{length-set}
 use Rattle.products.proofs.merging.PartLaws.{word-written}
 use native.Mathlib.Omega.{arith}

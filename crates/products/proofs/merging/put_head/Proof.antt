@@ -1,4 +1,4 @@
--- `put_head` meets its contract. Assumes nothing.
+-- `put_head` meets its contract.
 use Rattle.products.proofs.merging.PartLaws.{head-written}
 use native.Mathlib.Omega.{arith}
 use borrow.Author.Needs.{needs}

@@ -1,4 +1,4 @@
--- `put_inner` meets its contract. Assumes nothing.
+-- `put_inner` meets its contract.
 use Prim.Native.Nat.{_-_}
 use Rattle.products.proofs.merging.PartLaws.{InnerLoop, inner-start, inner-products, inner-places, inner-call}
 use Rattle.products.proofs.merging.PartLaws.{inner-next, inner-done}

@@ -1,4 +1,4 @@
--- `put_leaves` meets its contract. Assumes nothing.
+-- `put_leaves` meets its contract.
 use Prim.Native.Nat.{_-_}
 use mathlib.Core.Path.{refl}
 use lib.ListN.{length}

@@ -1,4 +1,4 @@
--- `put_nth_row` meets its contract. Assumes nothing.
+-- `put_nth_row` meets its contract.
 use mathlib.Core.Path.{ap, _∙_}
 use mathlib.Core.List.{List}
 use Prim.Native.Nat.{ℕ}

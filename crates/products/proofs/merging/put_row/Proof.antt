@@ -1,4 +1,4 @@
--- `put_row` meets its contract. Assumes nothing.
+-- `put_row` meets its contract.
 use Prim.Native.Nat.{_*_, _-_, _≤_}
 use lib.ListN.{length, getD}
 use Rattle.products.specs.merging.Writes.{rowCell, RowArgs}

@@ -1,4 +1,4 @@
--- `put_table` meets its contract. Assumes nothing.
+-- `put_table` meets its contract.
 use Rattle.products.proofs.merging.TableLaws.{head-args, leaves-args, inner-args, marks-args, leaves-first}
 use Rattle.products.proofs.merging.TableLaws.{leaves-second, inner-first, inner-second}
 use Rattle.products.proofs.merging.TableLaws.{marks-first, marks-second, length-1, length-2, length-3, table-written}

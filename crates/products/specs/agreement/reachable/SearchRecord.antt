@@ -13,8 +13,6 @@
 -- differingFrom f g s2 s i n == i and how many of n lines from i on, up to and with the first whose marks (runs f, g) differ; 0 where
 --   none does
 -- StepArgs, LabelsArgs, LinesArgs, SearchArgs, LeavesArgs, MarksArgs == what a function asks; LabelsDone, .. == what it promises
---
--- Assumes nothing.
 use Prim.Native.Nat.{ℕ, zero, suc, _+_, _*_, _/_, _%_, _-_, _≤_, _<_}
 use mathlib.Core.Path.{_≡_}
 use mathlib.Core.List.{List, [], _∷_, _++_}

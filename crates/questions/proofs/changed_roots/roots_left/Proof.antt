@@ -1,5 +1,4 @@
 -- `roots_left` meets its contract: the nodes that `differing` leaves are handed to `roots`.
--- Assumes nothing.
 use Prim.Native.Nat.{ℕ, _+_, _-_, _*_}
 use mathlib.Core.Path.{_≡_, sym, ap, _∙_, subst}
 use mathlib.Core.List.{List}

@@ -1,4 +1,4 @@
--- `asked_fits` meets its contract. Assumes nothing.
+-- `asked_fits` meets its contract.
 use native.Mathlib.Omega.{arith}
 use borrow.Author.Needs.{needs}
 use mathlib.Core.Path.{sym}

@@ -1,4 +1,4 @@
--- `fork_on` meets its contract. Assumes nothing.
+-- `fork_on` meets its contract.
 use native.Mathlib.Omega.{arith}
 use borrow.Author.Needs.{needs}
 use Prim.Native.Nat.{ℕ, _+_, _-_, _*_, _≤_}

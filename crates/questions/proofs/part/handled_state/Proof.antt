@@ -1,4 +1,4 @@
--- `told_state` meets its contract. Assumes nothing.
+-- `told_state` meets its contract.
 use borrow.Author.Needs.{needs}
 use Rattle.questions.proofs.PartLaws.{answer-no, answer-yes}
 use Rattle.questions.proofs.part.handled_state.Statement.{statement}

@@ -1,4 +1,4 @@
--- `join_on` meets its contract. Assumes nothing.
+-- `join_on` meets its contract.
 use native.Mathlib.Omega.{arith}
 use borrow.Author.Needs.{needs}
 use Prim.Native.Nat.{ℕ}

@@ -1,4 +1,4 @@
--- `label_on` meets its contract. Assumes nothing.
+-- `label_on` meets its contract.
 use native.Mathlib.Omega.{arith}
 use borrow.Author.Needs.{needs}
 use Prim.Native.Nat.{_-_}

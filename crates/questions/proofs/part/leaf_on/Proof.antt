@@ -1,4 +1,4 @@
--- `leaf_on` meets its contract. Assumes nothing.
+-- `leaf_on` meets its contract.
 use native.Mathlib.Omega.{arith}
 use borrow.Author.Needs.{needs}
 use Rattle.tables.specs.Climbs.{climbedOf}

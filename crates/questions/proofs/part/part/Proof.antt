@@ -1,4 +1,4 @@
--- `part` meets its contract: the three tests, and the runs that it hands on. Assumes nothing.
+-- `part` meets its contract: the three tests, and the runs that it hands on.
 use native.Mathlib.Omega.{arith}
 use borrow.Author.Needs.{needs}
 use Prim.Native.Nat.{ℕ, _-_, _≤_}

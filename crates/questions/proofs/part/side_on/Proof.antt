@@ -1,4 +1,4 @@
--- `side_on` meets its contract. Assumes nothing.
+-- `side_on` meets its contract.
 use native.Mathlib.Omega.{arith}
 use borrow.Author.Needs.{needs}
 use Prim.Native.Nat.{_+_, _-_}

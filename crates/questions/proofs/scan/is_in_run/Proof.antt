@@ -1,4 +1,4 @@
--- `is_in_run` meets its contract: by the distance from the first number of the run. Assumes nothing.
+-- `is_in_run` meets its contract: by the distance from the first number of the run.
 use Rattle.questions.proofs.ScanLaws.{covers-by-distance}
 use native.Mathlib.Omega.{arith}
 use borrow.Author.Needs.{needs}

@@ -1,4 +1,4 @@
--- `last_in` meets its contract: the last entry, or else the place in what is left. Assumes nothing.
+-- `last_in` meets its contract: the last entry, or else the place in what is left.
 use Prim.Native.Nat.{ℕ}
 use mathlib.Core.Path.{_≡_, sym, ap, _∙_}
 use lib.ListN.{length}

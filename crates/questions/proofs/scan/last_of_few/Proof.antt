@@ -1,4 +1,4 @@
--- `last_of_few` meets its contract: what is left always has the whole list's place. Assumes nothing.
+-- `last_of_few` meets its contract: what is left always has the whole list's place.
 use Prim.Native.Nat.{ℕ}
 use mathlib.Core.Path.{_≡_, sym, ap, _∙_}
 use lib.ListN.{take}

@@ -1,4 +1,4 @@
--- `without_eights` meets its contract: what is left always has the whole list's place. Assumes nothing.
+-- `without_eights` meets its contract: what is left always has the whole list's place.
 use Prim.Native.Nat.{ℕ, _+_, _-_}
 use mathlib.Core.Path.{_≡_, sym, ap, _∙_}
 use lib.ListN.{take}

@@ -1,4 +1,4 @@
--- `if_rising` meets its contract. Assumes nothing.
+-- `if_rising` meets its contract.
 use native.Mathlib.Omega.{arith}
 use Rattle.tables.specs.node_tables.Cells.{cellForest}
 use Rattle.questions.proofs.MeetCases.{rising-outside, rising-flat, rising-up}

@@ -1,5 +1,5 @@
 -- `meet` meets its contract. The invariant: from node x on the search finds what it finds from node v on. The measure
--- is the depth, which falls at each move. Assumes nothing.
+-- is the depth, which falls at each move.
 use mathlib.Core.Path.{refl, sym, _∙_}
 use Rattle.tables.specs.node_tables.Cells.{depthCell}
 use Rattle.questions.proofs.MeetCases.{Searching, Iterated, searching-iteration, searching-stuck, searching-done}

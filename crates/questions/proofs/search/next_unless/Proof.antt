@@ -1,4 +1,4 @@
--- `next_unless` meets its contract, by the way each test went. Assumes nothing.
+-- `next_unless` meets its contract, by the way each test went.
 use Prim.Native.Nat.{ℕ}
 use mathlib.Core.Path.{sym, _∙_}
 use Rattle.tables.specs.node_tables.Cells.{cellForest}

@@ -1,5 +1,4 @@
 -- `records::bytes::decode` meets its contract. Each part is read at its offset.
--- Assumes nothing.
 use Rattle.records.proofs.ByteTests.{record-read}
 use borrow.Author.Needs.{needs}
 use Rattle.records.proofs.bytes.decode.Statement.{statement}

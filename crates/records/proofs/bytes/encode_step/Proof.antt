@@ -1,6 +1,5 @@
 -- `records::bytes::encode_step` meets its contract. A buffer of another length is left; head, state and the answer that is kept are
 -- written one after the other.
--- Assumes nothing.
 use native.Mathlib.Omega.{arith}
 use mathlib.Core.Path.{sym}
 use lib.Seq.{length-take-le}

@@ -1,5 +1,4 @@
 -- `records::bytes::put_last` meets its contract. 16 stores in a row; the last ones take the length from the start.
--- Assumes nothing.
 use native.Mathlib.Omega.{arith}
 use lib.ListN.{length-set}
 use Rattle.records.proofs.ByteTests.{last-written}

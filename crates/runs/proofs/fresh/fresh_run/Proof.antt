@@ -1,5 +1,4 @@
 -- The fresh run meets its contract: a refusal where a check fails, else the run.
--- Assumes nothing.
 use native.Mathlib.Omega.{arith}
 use borrow.Author.Needs.{needs}
 use mathlib.Core.Path.{sym, _∙_}

@@ -1,6 +1,5 @@
 -- The run of what passes its checks meets its contract. What the pass asks of the parts that are handed on, and what
 -- its answer says of the whole, are laws of proofs/RunLaws.
--- Assumes nothing.
 use native.Mathlib.Omega.{arith}
 use borrow.Author.Needs.{needs}
 use Rattle.runs.proofs.RunLaws.{parts-args, root-in, result-is}

@@ -1,5 +1,4 @@
 -- The label of a node as changed meets its contract.
--- Assumes nothing.
 use mathlib.Core.Path.{sym}
 use borrow.Author.Needs.{needs}
 use Rattle.runs.proofs.ChangeLaws.{marked-none, marked-label}

@@ -1,6 +1,5 @@
 -- The pass meets its contract. The invariant: the trees that wait before node v are those of the labels as changed. The measure is what
 -- is left of the nodes. The laws are in proofs/PassLoop and proofs/ChangeLaws.
--- Assumes nothing.
 use Prim.Native.Nat.{ℕ, _-_, _≤_, _<_}
 use mathlib.Core.Path.{_≡_, refl, sym, ap, _∙_}
 use mathlib.Core.List.{List, []}

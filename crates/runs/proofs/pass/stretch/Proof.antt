@@ -1,5 +1,4 @@
 -- The turns up to the next mark meet their contract, which holds before each turn. The measure is what is left of the nodes.
--- Assumes nothing.
 use Prim.Native.Nat.{ℕ, _-_, _<_}
 use mathlib.Core.Path.{_≡_, refl, sym, ap, _∙_}
 use native.Mathlib.Omega.{arith}

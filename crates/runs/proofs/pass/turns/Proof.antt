@@ -1,6 +1,5 @@
 -- The turns of the nodes whose changes are marked meet their contract: `Passed` holds before each turn. The measure is what is
 -- left of them.
--- Assumes nothing.
 use Prim.Native.Nat.{ℕ, _-_, _≤_, _<_}
 use mathlib.Core.Path.{_≡_, refl, ap, _∙_}
 use native.Mathlib.Omega.{arith}

@@ -1,5 +1,4 @@
 -- `screens::in_place::is_running` meets its contract. Each state has its arm.
--- Assumes nothing.
 use mathlib.Core.Path.{sym, ap}
 use Rattle.model.specs.Calls.{isRunning}
 use Rattle.session.specs.declared.state.Phase.{Phase}

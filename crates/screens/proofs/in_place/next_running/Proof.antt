@@ -1,5 +1,4 @@
 -- `screens::in_place::next_running` meets its contract.
--- Assumes nothing.
 use Rattle.screens.proofs.FoundLaws.{found-beyond, found-here, found-on, found-nothing}
 use Prim.Native.Nat.{_<_, _≤_}
 use mathlib.Core.Path.{_≡_, refl, sym, _∙_}

@@ -1,5 +1,4 @@
 -- `screens::in_place::read` meets its contract: a walk of its MIR, written by tools/deal-walk-read.
--- Assumes nothing.
 use mathlib.Core.Path.{_≡_, refl, sym}
 use Prim.Native.Nat.{ℕ, _<_, _^_}
 use mathlib.Core.List.{[], _∷_, List}

@@ -1,5 +1,4 @@
 -- `screens::in_place::told_of` meets its contract.
--- Assumes nothing.
 use Prim.Native.Nat.{ℕ}
 use mathlib.Core.Path.{sym, ap, _∙_}
 use Rattle.model.specs.Calls.{more, finished}

@@ -1,5 +1,4 @@
 -- `session::advance::is_marked` meets its contract. The byte that is read is the mark.
--- Assumes nothing.
 use Rattle.session.proofs.StepLaws.{mark-at}
 use borrow.Author.Needs.{needs}
 use Rattle.session.proofs.advance.is_marked.Statement.{statement}

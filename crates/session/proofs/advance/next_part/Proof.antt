@@ -1,5 +1,4 @@
 -- `session::advance::next_part` meets its contract. The record's lists are the first entries of its arrays.
--- Assumes nothing.
 use mathlib.Core.Path.{sym}
 use lib.Seq.{length-take-le}
 use borrow.Author.Needs.{needs}

@@ -1,5 +1,4 @@
 -- `session::advance::next_step` meets its contract. Each return cites the law of its answer.
--- Assumes nothing.
 use mathlib.Core.Path.{_≡_}
 use mathlib.Core.Bool.{_&&_}
 use Rattle.formats.specs.Inputs.{Inputs}

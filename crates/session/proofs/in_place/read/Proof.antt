@@ -1,7 +1,6 @@
 -- `session::in_place::read` meets its contract: a walk of its MIR, by hand. The borrow is looked into, the record is copied out, the borrow is shut
 -- again, and the call by value is made on the copy. All that it knows of the call by value is its contract, whose promise it hands on
 -- unopened.
--- Assumes nothing.
 use mathlib.Core.Path.{_≡_, refl}
 use Prim.Native.Nat.{ℕ}
 use mathlib.Core.List.{[], _∷_}

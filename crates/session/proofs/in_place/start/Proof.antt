@@ -1,7 +1,6 @@
 -- `session::in_place::start` meets its contract: a walk of its MIR, by hand. The borrow is opened and the record copied out. The call by value is
 -- made on the copy and the slices. The record that it returns is stored where the old one was, the borrow is closed at it, and the
 -- answer is returned. All that it knows of the call by value is its contract, whose promise it hands on unopened.
--- Assumes nothing.
 use mathlib.Core.Path.{refl}
 use Prim.Native.Nat.{ℕ}
 use mathlib.Core.List.{[], _∷_, List}

@@ -1,5 +1,4 @@
 -- `session::loaded::loaded_from` meets its contract. N, S and K are those that the headers name.
--- Assumes nothing.
 use Rattle.session.proofs.LoadLaws.{loaded-same}
 use borrow.Author.Needs.{needs}
 use Rattle.session.proofs.loaded.loaded_from.Statement.{statement}

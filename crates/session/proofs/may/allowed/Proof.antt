@@ -1,5 +1,4 @@
 -- `session::may::allowed` meets its contract. The record is tested where the state allows the call.
--- Assumes nothing.
 use Rattle.session.specs.declared.state.Session.{Session}
 use Rattle.session.specs.Records.{whole, valid}
 use Rattle.session.proofs.CallLaws.{allowed-no, allowed-yes}

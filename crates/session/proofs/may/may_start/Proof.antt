@@ -1,5 +1,4 @@
 -- `session::may::may_start` meets its contract. Each state has its arm.
--- Assumes nothing.
 use Rattle.model.specs.Calls.{mayStart}
 use Rattle.session.specs.Records.{phaseOf}
 use Rattle.session.proofs.CallLaws.{by-state}

@@ -1,5 +1,4 @@
 -- `session::soundness::tables_sound` meets its contract. Each return cites the law of what was found.
--- Assumes nothing.
 use borrow.Author.Needs.{needs}
 use Rattle.session.proofs.TablesSoundLaws.{other-n, other-s, other-k, checked-yes, checked-no, checked-refused}
 use Rattle.session.proofs.soundness.tables_sound.Statement.{statement}

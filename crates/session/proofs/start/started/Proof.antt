@@ -1,5 +1,4 @@
 -- `session::start::started` meets its contract. Its record is the definition's, field by field.
--- Assumes nothing.
 use borrow.Author.Needs.{needs}
 use Rattle.session.proofs.start.started.Statement.{statement}
 use Rattle.session.proofs.start.started.Tie as tie

@@ -1,5 +1,4 @@
 -- `session::valid::fits` meets its contract. Each state has its arm.
--- Assumes nothing.
 use Rattle.session.proofs.ValidLaws.{empty-test, loaded-test, running-test, answered-test, phase-test}
 use borrow.Author.Needs.{needs}
 use Rattle.session.proofs.valid.fits.Statement.{statement}

@@ -1,5 +1,4 @@
 -- `session::valid::is_none` meets its contract. Each test is one of the definition's.
--- Assumes nothing.
 use Rattle.session.proofs.ValidLaws.{none-test}
 use Rattle.session.proofs.valid.is_none.Statement.{statement}
 use Rattle.session.proofs.valid.is_none.Tie as tie

@@ -1,5 +1,4 @@
 -- `session::valid::last_fits` meets its contract. Each test is one of the definition's.
--- Assumes nothing.
 use Rattle.session.proofs.ValidLaws.{last-absent, last-test}
 use borrow.Author.Needs.{needs}
 use Rattle.session.proofs.valid.last_fits.Statement.{statement}

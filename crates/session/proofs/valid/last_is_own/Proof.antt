@@ -1,5 +1,4 @@
 -- `session::valid::last_is_own` meets its contract. Each test is one of the definition's.
--- Assumes nothing.
 use Rattle.session.proofs.ValidLaws.{own-few, own-many, own-test}
 use native.Mathlib.Omega.{arith}
 use borrow.Author.Needs.{needs}

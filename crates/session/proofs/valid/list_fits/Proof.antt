@@ -1,5 +1,4 @@
 -- `session::valid::list_fits` meets its contract. Each test is one of the definition's.
--- Assumes nothing.
 use Prim.Native.Nat.{ℕ}
 use mathlib.Core.List.{List}
 use Rattle.session.specs.declared.state.Session.{Session}

@@ -1,5 +1,4 @@
 -- `session::valid::no_question` meets its contract. Each test is one of the definition's.
--- Assumes nothing.
 use Rattle.session.specs.declared.state.Session.{Session}
 use Rattle.session.specs.Records.{whole}
 use Rattle.session.proofs.ValidLaws.{question-test}

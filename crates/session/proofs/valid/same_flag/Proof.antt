@@ -1,5 +1,4 @@
 -- `session::valid::same_flag` meets its contract.
--- Assumes nothing.
 use Rattle.session.proofs.ValidLaws.{flag-true, flag-false}
 use Rattle.session.proofs.valid.same_flag.Statement.{statement}
 use Rattle.session.proofs.valid.same_flag.Tie as tie

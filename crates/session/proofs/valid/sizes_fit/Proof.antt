@@ -1,5 +1,4 @@
 -- `session::valid::sizes_fit` meets its contract. Each test is one of the definition's.
--- Assumes nothing.
 use Rattle.session.proofs.ValidLaws.{sizes-test}
 use borrow.Author.Needs.{needs}
 use Rattle.session.proofs.valid.sizes_fit.Statement.{statement}

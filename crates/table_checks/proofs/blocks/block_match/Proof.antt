@@ -1,5 +1,4 @@
 -- `blocks::block_match` meets its contract.
--- Assumes nothing.
 use Prim.Native.Nat.{_-_}
 use mathlib.Core.Path.{subst}
 use mathlib.Core.Bool.{Bool}

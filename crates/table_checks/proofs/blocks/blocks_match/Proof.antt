@@ -1,5 +1,4 @@
 -- `blocks::blocks_match` meets its contract.
--- Assumes nothing.
 use mathlib.Core.Path.{refl, subst, _∙_, _≡_}
 use mathlib.Core.Bool.{Bool}
 use borrow.Author.Tests.{not-true, not-false}

@@ -1,5 +1,4 @@
 -- `blocks::list_block` meets its contract. The loop's invariant: the inner nodes and the leaves passed are listed.
--- Assumes nothing.
 use Prim.Native.Nat.{ℕ, _-_, _≤_}
 use mathlib.Core.Path.{_≡_, refl, subst, _∙_}
 use native.Mathlib.Omega.{arith}

@@ -1,5 +1,4 @@
 -- `blocks::pairs_match` meets its contract: both tests, node table and states, of the same list.
--- Assumes nothing.
 use mathlib.Core.Path.{ap₂, _∙_}
 use mathlib.Core.Bool.{Bool, _&&_}
 use lib.ListN.{getD}

@@ -1,5 +1,4 @@
 -- `check::both_match` meets its contract.
--- Assumes nothing.
 use Rattle.table_checks.proofs.PartLaws.{both-args-of, both-tells}
 use borrow.Author.Needs.{needs}
 use Rattle.table_checks.proofs.check.both_match.Statement.{statement}

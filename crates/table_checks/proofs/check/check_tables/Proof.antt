@@ -1,5 +1,4 @@
 -- `rules::check_tables` meets its contract.
--- Assumes nothing.
 use mathlib.Core.Path.{sym, _∙_}
 use lib.ListN.{length}
 use Rattle.formats.proofs.PlanLaws.{PlanPasses}

@@ -1,5 +1,4 @@
 -- `compare::tables_match` meets its contract.
--- Assumes nothing.
 use Prim.Native.Nat.{_+_, _-_, _*_}
 use mathlib.Core.Path.{sym, _∙_}
 use lib.ListN.{length, length-take}

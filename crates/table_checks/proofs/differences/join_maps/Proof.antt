@@ -1,5 +1,4 @@
 -- `differences::join_maps` meets its contract. The loop's invariant: the entries passed are joined.
--- Assumes nothing.
 use Prim.Native.Nat.{ℕ, _≤_, _-_}
 use mathlib.Core.Path.{_≡_, refl, subst, _∙_}
 use native.Mathlib.Omega.{arith}

@@ -1,5 +1,4 @@
 -- `listed::listed_states_match_any` meets its contract: by the number of states, chosen once.
--- Assumes nothing.
 use Prim.Native.Nat.{ℕ}
 use mathlib.Core.Path.{sym, ap, subst, _∙_}
 use lib.ListN.{getD}

@@ -1,5 +1,4 @@
 -- `places::pair_at` meets its contract.
--- Assumes nothing.
 use Prim.Native.Nat.{_+_, _-_, _*_}
 use lib.ListN.{getD}
 use Rattle.tables.specs.StateCells.{stateCell}

@@ -1,5 +1,4 @@
 -- `rows2::entry_of` meets its contract.
--- Assumes nothing.
 use Rattle.table_checks.proofs.TwoStateLaws.{two-entry}
 use Rattle.table_checks.proofs.rows2.entry_of.Statement.{statement}
 use Rattle.table_checks.proofs.rows2.entry_of.Tie as tie

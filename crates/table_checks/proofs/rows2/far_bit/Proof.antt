@@ -1,5 +1,4 @@
 -- `rows2::far_bit` meets its contract.
--- Assumes nothing.
 use borrow.Author.Tests.{eq-eqb, ne-eqb}
 use borrow.Author.Needs.{needs}
 use Rattle.table_checks.proofs.rows2.far_bit.Statement.{statement}

@@ -1,5 +1,4 @@
 -- `rows2::pair_differences2` meets its contract.
--- Assumes nothing.
 use native.Mathlib.Omega.{arith}
 use borrow.Author.Needs.{needs}
 use Rattle.table_checks.proofs.PairStateLaws.{rows-args-of, pair-is, step-small}

@@ -1,5 +1,4 @@
 -- `rows2::two_maps` meets its contract.
--- Assumes nothing.
 use Prim.Native.Nat.{_+_, _*_, _<_}
 use native.Mathlib.Omega.{arith}
 use lib.ListN.{getD}

@@ -1,5 +1,4 @@
 -- `siblings::inside` meets its contract.
--- Assumes nothing.
 use borrow.Author.Tests.{lt-ltb, le-ltb}
 use Rattle.table_checks.proofs.siblings.inside.Statement.{statement}
 use Rattle.table_checks.proofs.siblings.inside.Tie as tie

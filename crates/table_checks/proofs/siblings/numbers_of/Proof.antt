@@ -1,5 +1,4 @@
 -- `siblings::numbers_of` meets its contract.
--- Assumes nothing.
 use native.Mathlib.Omega.{arith}
 use Prim.Native.Nat.{_+_, _*_}
 use mathlib.Core.Path.{refl}

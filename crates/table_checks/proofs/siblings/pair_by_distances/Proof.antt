@@ -1,5 +1,4 @@
 -- `siblings::pair_by_distances` meets its contract.
--- Assumes nothing.
 use Rattle.table_checks.proofs.PairNodeLaws.{jump-far, jump-near}
 use Prim.Native.Nat.{_+_, _*_}
 use native.Mathlib.Omega.{arith}

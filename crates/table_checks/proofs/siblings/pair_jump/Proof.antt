@@ -1,5 +1,4 @@
 -- `siblings::pair_jump` meets its contract: by the table of lengths below its end, and by the two distances past it.
--- Assumes nothing.
 use Prim.Native.Nat.{_+_, _*_}
 use native.Mathlib.Omega.{arith}
 use borrow.Author.Needs.{needs}

@@ -1,5 +1,4 @@
 -- `siblings::pair_node_differences` meets its contract.
--- Assumes nothing.
 use native.Mathlib.Omega.{arith}
 use Prim.Native.Nat.{_+_, _-_, _*_}
 use Rattle.table_checks.proofs.PackedLaws.{pair-jump-less, pair-packed}

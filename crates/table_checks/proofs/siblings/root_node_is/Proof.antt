@@ -1,5 +1,4 @@
 -- `siblings::root_node_is` meets its contract.
--- Assumes nothing.
 use mathlib.Core.Path.{refl}
 use Rattle.table_checks.specs.inner.PairNodes.{rootNode}
 use borrow.Author.Needs.{needs}

@@ -1,5 +1,4 @@
 -- `build::build_tables` meets its contract.
--- Assumes nothing.
 use mathlib.Core.Path.{sym, _∙_}
 use lib.ListN.{length}
 use Rattle.formats.specs.Checks.{firstNo, buildChecks}

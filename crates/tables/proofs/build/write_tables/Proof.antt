@@ -1,5 +1,4 @@
 -- `build::write_tables` meets its contract.
--- Assumes nothing.
 use Rattle.tables.proofs.BuildLaws.{link-args-of, table-args-of, both-written-of}
 use native.Mathlib.Omega.{arith}
 use borrow.Author.Needs.{needs}

@@ -1,4 +1,4 @@
--- `parent_on` meets its contract, by the way each test went. Assumes nothing.
+-- `parent_on` meets its contract, by the way each test went.
 use mathlib.Core.Path.{sym, _∙_}
 use native.Mathlib.Omega.{arith}
 use native.Mathlib.Nat.{le-refl}

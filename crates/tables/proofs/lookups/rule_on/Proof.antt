@@ -1,4 +1,4 @@
--- `rule_on` meets its contract. Assumes nothing.
+-- `rule_on` meets its contract.
 use Prim.Native.Nat.{_+_, _*_, _<_}
 use mathlib.Core.Path.{sym, _∙_}
 use native.Mathlib.Omega.{arith}

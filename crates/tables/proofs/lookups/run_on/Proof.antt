@@ -1,4 +1,4 @@
--- `run_on` meets its contract. Assumes nothing.
+-- `run_on` meets its contract.
 use Prim.Native.Nat.{_+_, _*_}
 use mathlib.Core.Path.{refl}
 use native.Mathlib.Omega.{arith}

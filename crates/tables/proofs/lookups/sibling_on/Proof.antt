@@ -1,4 +1,4 @@
--- `sibling_on` meets its contract. Assumes nothing.
+-- `sibling_on` meets its contract.
 use Prim.Native.Nat.{ℕ, _-_}
 use mathlib.Core.Path.{sym, ap, _∙_}
 use mathlib.Core.Option.{some}

@@ -1,7 +1,5 @@
 -- `maps::fill_block` meets its contract. The loop's invariant: whatever buffer the pass began with, the inner nodes
--- after
--- the first i listed ones have had their turns.
--- Assumes nothing.
+-- after the first i listed ones have had their turns.
 use Prim.Native.Nat.{ℕ, _+_, _-_, _≤_, _<_}
 use mathlib.Core.Path.{_≡_, refl, ap, _∙_, subst}
 use mathlib.Core.List.{List}

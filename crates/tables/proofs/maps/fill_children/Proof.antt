@@ -1,5 +1,4 @@
 -- `maps::fill_children` meets its contract: in each arm the literal is the number of states.
--- Assumes nothing.
 use Prim.Native.Nat.{ℕ, _-_}
 use mathlib.Core.Path.{_≡_, sym, subst}
 use mathlib.Core.List.{List}

@@ -1,6 +1,5 @@
 -- `maps::fill_maps` meets its contract. The loop's invariant: e is a whole number of blocks, and whatever buffer the
 -- pass began with, the inner nodes from e on have had their turns.
--- Assumes nothing.
 use Prim.Native.Nat.{ℕ, _-_, _≤_, _%_}
 use mathlib.Core.Path.{_≡_, refl, subst}
 use mathlib.Core.List.{List}

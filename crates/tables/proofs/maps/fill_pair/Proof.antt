@@ -1,5 +1,4 @@
 -- `maps::fill_pair` meets its contract.
--- Assumes nothing.
 use Prim.Native.Nat.{ℕ, _+_, _-_, _*_, _<_}
 use native.Mathlib.Nat.{mul-le-mul-right}
 use lib.ListN.{length, getD}

@@ -1,6 +1,5 @@
 -- `pair_rows::far_pair` meets its contract. The loop's invariant: the first q bytes of both maps are the table's taken
 -- on by the maps of v and j, no other byte is changed.
--- Assumes nothing.
 use Prim.Native.Nat.{ℕ, _-_, _≤_}
 use mathlib.Core.Path.{_≡_, refl, subst}
 use lib.ListN.{length, length-set}

@@ -1,5 +1,4 @@
 -- `pair_rows::near_pair` meets its contract: in its first arm there are 16 states.
--- Assumes nothing.
 use Prim.Native.Nat.{ℕ, _+_, _*_}
 use mathlib.Core.Path.{sym, subst}
 use lib.ListN.{length, getD}

@@ -1,5 +1,4 @@
 -- `pair_rows::near_rows` meets its contract.
--- Assumes nothing.
 use Prim.Native.Nat.{_+_, _*_}
 use lib.ListN.{getD}
 use Rattle.tables.proofs.PairMaps.{pair-rowed}

@@ -1,5 +1,4 @@
 -- `pair_rows::near_rows16` meets its contract: the states read first are the table's.
--- Assumes nothing.
 use Prim.Native.Nat.{_+_, _*_}
 use mathlib.Core.Path.{refl}
 use lib.ListN.{getD}

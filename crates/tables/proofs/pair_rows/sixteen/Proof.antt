@@ -1,5 +1,4 @@
 -- `pair_rows::sixteen` meets its contract. The loop's invariant: the first q states are the table's.
--- Assumes nothing.
 use Prim.Native.Nat.{ℕ, _+_, _-_, _≤_, _<_}
 use mathlib.Core.Path.{_≡_, refl}
 use lib.ListN.{length, getD, length-set}

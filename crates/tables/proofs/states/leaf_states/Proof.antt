@@ -1,7 +1,5 @@
 -- `states::leaf_states` meets its contract. The loop's invariant: the nodes below v have their states as leaves, no
--- other
--- byte is changed.
--- Assumes nothing.
+-- other byte is changed.
 use Prim.Native.Nat.{ℕ, _+_, _-_, _*_, _≤_, _<_}
 use mathlib.Core.Path.{_≡_, refl, subst, _∙_}
 use lib.ListN.{length, length-set}

@@ -1,6 +1,5 @@
 -- `states::run_block` meets its contract. The loop's invariant: whatever buffer the pass began with, the block's leaves
 -- and the first i listed inner nodes have their states.
--- Assumes nothing.
 use Prim.Native.Nat.{ℕ, _+_, _-_, _*_, _≤_, _<_}
 use mathlib.Core.Path.{_≡_, refl, sym, ap, subst, _∙_}
 use mathlib.Core.List.{List}

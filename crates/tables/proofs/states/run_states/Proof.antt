@@ -1,7 +1,5 @@
 -- `states::run_states` meets its contract. The loop's invariant: the state bytes below b are the run's, no other byte
--- is
--- changed.
--- Assumes nothing.
+-- is changed.
 use Prim.Native.Nat.{ℕ, _+_, _-_, _≤_}
 use mathlib.Core.Path.{_≡_, refl, subst}
 use lib.ListN.{length}

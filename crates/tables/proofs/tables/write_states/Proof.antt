@@ -1,5 +1,4 @@
 -- `tables::write_states` meets its contract.
--- Assumes nothing.
 use Rattle.tables.proofs.TableLoop.{map-args, states-over}
 use native.Mathlib.Omega.{arith}
 use borrow.Author.Needs.{needs}

@@ -7,8 +7,6 @@
 -- nodeIteration b v == table b with node v's jump and depth, by its parent's
 -- JumpArgs b p, NodeArgs b v == what these need of the table
 -- DownArgs n b == table b has the parents of a tree of n nodes, within the limit, and room for the rest
---
--- Assumes nothing.
 use Prim.Native.Nat.{ℕ, _+_, _*_, _≤_}
 use mathlib.Core.Bool.{cond}
 use mathlib.Core.List.{List}

@@ -4,8 +4,6 @@
 -- Listed ks b e c l == the first c elements of l are the inner nodes of b, .. e - 1 by the kinds ks, in rising order:
 --   between two of them, before the first and after the last there are leaves only
 -- ListArgs ks b e m == what listing them into m places needs
---
--- Assumes nothing.
 use Prim.Native.Nat.{ℕ, zero, suc, _+_, _-_, _≤_, _<_}
 use mathlib.Core.Path.{_≡_}
 use mathlib.Core.List.{List}

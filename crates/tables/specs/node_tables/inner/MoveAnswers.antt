@@ -6,7 +6,6 @@
 -- MoveArgs n b v == v is one of n nodes, and table b has room for them
 --
 -- "18 means that a value read leads outside the plan .. or a climb doesn't rise": that is Stuck.
--- Assumes nothing.
 use Prim.Native.Nat.{ℕ, _≤_, _<_}
 use mathlib.Core.Bool.{Bool, _&&_}
 use mathlib.Core.List.{List}

@@ -7,8 +7,6 @@
 -- upIteration b v c == the same for node v of kind c: with its size cleared first, a leaf has no other children than
 --   itself
 -- InnerArgs b v, TurnArgs b v c == what these need of the table
---
--- Assumes nothing.
 use Prim.Native.Nat.{ℕ, _+_, _-_, _*_, _≤_, _<_}
 use mathlib.Core.List.{List}
 use lib.ListN.{length, set}

@@ -1,4 +1,4 @@
--- `rule_number` meets its contract. Assumes nothing.
+-- `rule_number` meets its contract.
 use Rattle.capi_colours.proofs.rule_calls.RuleNumberLaws.{answered, not-answered}
 use native.Mathlib.Omega.{arith}
 use borrow.Author.Needs.{needs}

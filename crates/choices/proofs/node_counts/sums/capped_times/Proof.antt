@@ -1,4 +1,4 @@
--- `capped_times` meets its contract. Assumes nothing.
+-- `capped_times` meets its contract.
 use native.Mathlib.Omega.{arith}
 use borrow.Author.Needs.{needs}
 use Prim.Native.Nat.{ℕ, _*_, _<_}

@@ -1,4 +1,4 @@
--- `assignments_fit` meets its contract. Assumes nothing.
+-- `assignments_fit` meets its contract.
 use native.Mathlib.Omega.{arith}
 use borrow.Author.Needs.{needs}
 use Prim.Native.Nat.{_-_}

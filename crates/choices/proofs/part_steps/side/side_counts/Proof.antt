@@ -1,4 +1,4 @@
--- `side_counts` meets its contract. Assumes nothing.
+-- `side_counts` meets its contract.
 use native.Mathlib.Omega.{arith}
 use borrow.Author.Needs.{needs}
 use Rattle.tables.proofs.LookupLaws.{state-place}

@@ -1,4 +1,4 @@
--- `answer_colours` meets its contract: each way out cites the law of its answer. Assumes nothing.
+-- `answer_colours` meets its contract: each way out cites the law of its answer.
 use Prim.Native.Nat.{_+_, _*_, _≤_, _<_}
 use mathlib.Core.Path.{_≡_, _∙_}
 use native.Mathlib.Nat.{mul-le-mul}

@@ -1,4 +1,4 @@
--- `ask` meets its promise: each check that fails, or the answer where none does. Assumes nothing.
+-- `ask` meets its promise: each check that fails, or the answer where none does.
 use Prim.Native.Nat.{_<_}
 use mathlib.Core.Path.{_≡_, sym, _∙_}
 use mathlib.Core.Bool.{true}

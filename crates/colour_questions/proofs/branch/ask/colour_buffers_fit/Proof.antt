@@ -1,4 +1,4 @@
--- `colour_buffers_fit` meets its contract, test by test. Assumes nothing.
+-- `colour_buffers_fit` meets its contract, test by test.
 use Prim.Native.Nat.{_*_, _≤_}
 use mathlib.Core.Path.{_≡_, sym, _∙_}
 use mathlib.Core.Bool.{true}

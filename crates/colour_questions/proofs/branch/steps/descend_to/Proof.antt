@@ -1,4 +1,4 @@
--- `descend_to` meets its contract, from the top copy and from a node. Assumes nothing.
+-- `descend_to` meets its contract, from the top copy and from a node.
 use mathlib.Core.Path.{ap, _∙_}
 use Rattle.colours.specs.Descents.{Place, descend}
 use Rattle.colour_tables.specs.ColourCells.{cellTable}

@@ -1,4 +1,4 @@
--- `finish` meets its contract, by its test. Assumes nothing.
+-- `finish` meets its contract, by its test.
 use Prim.Native.Nat.{_+_, _*_}
 use Rattle.colour_questions.proofs.branch.StepLaws.{finish-outside, finish-answer}
 use native.Mathlib.Omega.{arith}

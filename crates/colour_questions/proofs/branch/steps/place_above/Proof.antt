@@ -1,4 +1,4 @@
--- `place_above` meets its contract, by the way each test went. Assumes nothing.
+-- `place_above` meets its contract, by the way each test went.
 use Rattle.colour_questions.proofs.branch.StepLaws.{place-root, place-outside, place-parent}
 use borrow.Author.Needs.{needs}
 use Rattle.colour_questions.proofs.branch.steps.place_above.Statement.{statement}

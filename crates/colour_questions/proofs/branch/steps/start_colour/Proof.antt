@@ -1,4 +1,4 @@
--- `start_colour` meets its contract: the part that is looked through is the copy's row. Assumes nothing.
+-- `start_colour` meets its contract: the part that is looked through is the copy's row.
 use Prim.Native.Nat.{_+_, _*_, _≤_}
 use lib.ListN.{length}
 use Rattle.colour_questions.proofs.branch.StepLaws.{colour-top, colour-node, row-in}

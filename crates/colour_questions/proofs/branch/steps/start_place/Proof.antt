@@ -1,4 +1,4 @@
--- `start_place` meets its contract, reading by reading. Assumes nothing.
+-- `start_place` meets its contract, reading by reading.
 use Rattle.colour_questions.proofs.branch.StepLaws.{place-here}
 use borrow.Author.Needs.{needs}
 use Rattle.colour_questions.proofs.branch.steps.start_place.Statement.{statement}

@@ -1,4 +1,4 @@
--- `fork_by_colours` meets its contract. Assumes nothing.
+-- `fork_by_colours` meets its contract.
 use Prim.Native.Nat.{_-_, _<_}
 use mathlib.Core.Path.{sym, _∙_}
 use borrow.Author.Tests.{not-true, not-false}

@@ -1,4 +1,4 @@
--- `leaf_state` meets its contract. Assumes nothing.
+-- `leaf_state` meets its contract.
 use mathlib.Core.Path.{_∙_}
 use Rattle.colour_questions.proofs.parts.TrialLaws.{leaf-outside, leaf-at}
 use native.Mathlib.Omega.{arith}

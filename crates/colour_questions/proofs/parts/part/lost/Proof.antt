@@ -1,4 +1,4 @@
--- `lost` meets its contract. Assumes nothing.
+-- `lost` meets its contract.
 use mathlib.Core.Path.{sym}
 use Rattle.colour_questions.proofs.parts.TrialLaws.{none-is}
 use Rattle.colour_questions.proofs.parts.part.lost.Statement.{statement}

@@ -1,4 +1,4 @@
--- `part_by_colours` meets its contract. Assumes nothing.
+-- `part_by_colours` meets its contract.
 use Prim.Native.Nat.{_-_}
 use Rattle.colour_questions.specs.parts.inner.Args.{colourView}
 use Rattle.colour_questions.proofs.parts.TrialLaws.{leaf-few}

@@ -1,4 +1,4 @@
--- `side_by_colours` meets its contract. Assumes nothing.
+-- `side_by_colours` meets its contract.
 use Prim.Native.Nat.{_+_, _-_, _<_}
 use mathlib.Core.Path.{_≡_}
 use lib.ListN.{length, getD}

@@ -1,4 +1,4 @@
--- `untried_state` meets its contract. Assumes nothing.
+-- `untried_state` meets its contract.
 use mathlib.Core.Path.{_∙_}
 use Rattle.colour_questions.proofs.parts.TrialLaws.{untried-no, untried-yes}
 use borrow.Author.Needs.{needs}

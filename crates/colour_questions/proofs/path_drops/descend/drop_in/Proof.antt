@@ -1,4 +1,4 @@
--- `drop_in` meets its contract: the part that it hands on is the colour's table. Assumes nothing.
+-- `drop_in` meets its contract: the part that it hands on is the colour's table.
 use Prim.Native.Nat.{ℕ, _+_, _-_, _*_}
 use mathlib.Core.Path.{_≡_, refl, sym, ap, _∙_, subst}
 use mathlib.Core.Bool.{Bool}

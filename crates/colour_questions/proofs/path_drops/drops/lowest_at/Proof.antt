@@ -1,4 +1,4 @@
--- `lowest_at` meets its contract. Assumes nothing.
+-- `lowest_at` meets its contract.
 use Rattle.tables.specs.node_tables.Cells.{sizeCell, cellForest}
 use Rattle.colour_questions.proofs.path_drops.DropCases.{lowest-fell, lowest-kept}
 use borrow.Author.Needs.{needs}

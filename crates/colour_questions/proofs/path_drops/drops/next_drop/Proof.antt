@@ -1,4 +1,4 @@
--- `next_drop` meets its contract, by the way each test went. Assumes nothing.
+-- `next_drop` meets its contract, by the way each test went.
 use Prim.Native.Nat.{_+_, _*_}
 use native.Mathlib.Omega.{arith}
 use borrow.Author.Tests.{not-true, not-false}

@@ -1,4 +1,4 @@
--- `seen_at` meets its contract. Assumes nothing.
+-- `seen_at` meets its contract.
 use Prim.Native.Nat.{_+_, _*_, _≤_}
 use native.Mathlib.Omega.{arith}
 use Rattle.tables.specs.node_tables.Cells.{sizeCell, cellForest}

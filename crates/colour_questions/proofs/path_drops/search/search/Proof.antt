@@ -1,5 +1,4 @@
 -- `search` meets its contract: at each turn the rest of the search gives the whole search's answer. The depth falls.
--- Assumes nothing.
 use Prim.Native.Nat.{_+_, _*_, _<_}
 use native.Mathlib.Omega.{arith}
 use Rattle.trees.specs.Climb.{Forest}

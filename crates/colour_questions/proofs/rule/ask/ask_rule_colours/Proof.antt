@@ -1,4 +1,4 @@
--- `ask_rule_colours` meets its contract. Assumes nothing.
+-- `ask_rule_colours` meets its contract.
 use mathlib.Core.Path.{_≡_, sym, _∙_}
 use Rattle.colour_questions.proofs.rule.AskNumbers.{refused-is, lent-is}
 use Rattle.colour_questions.proofs.rule.AskTheorem.{ask-done}

@@ -1,4 +1,4 @@
--- `check_asked` meets its contract. Assumes nothing.
+-- `check_asked` meets its contract.
 use mathlib.Core.Path.{_≡_, sym, _∙_}
 use mathlib.Core.Bool.{true}
 use borrow.Author.Tests.{not-true, not-false}

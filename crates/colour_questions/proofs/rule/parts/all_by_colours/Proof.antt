@@ -1,4 +1,4 @@
--- `all_by_colours` meets its contract. Assumes nothing.
+-- `all_by_colours` meets its contract.
 use Prim.Native.Nat.{_-_}
 use lib.ListN.{length}
 use Rattle.colour_questions.proofs.rule.PartsLoop.{Going, going-start, next-args, going-lost, next-falls, next-few}

@@ -1,4 +1,4 @@
--- `single` meets its contract. Assumes nothing.
+-- `single` meets its contract.
 use native.Mathlib.Nat.{one-mul, mod-eq-of-lt}
 use lib.Pow.{pow-lt}
 use native.Mathlib.Omega.{arith}

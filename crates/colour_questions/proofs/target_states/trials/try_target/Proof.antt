@@ -1,4 +1,4 @@
--- `try_target` meets its contract: each way out cites its law. Assumes nothing.
+-- `try_target` meets its contract: each way out cites its law.
 use Prim.Native.Nat.{ℕ, _+_, _*_, _≤_, _<_}
 use native.Mathlib.Nat.{mul-le-mul}
 use lib.ListN.{length}

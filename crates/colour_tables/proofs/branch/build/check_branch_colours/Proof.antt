@@ -1,4 +1,4 @@
--- `build::check_branch_colours` meets its contract: each return cites the law of its answer. Assumes nothing.
+-- `build::check_branch_colours` meets its contract: each return cites the law of its answer.
 use mathlib.Core.Path.{_≡_, sym, _∙_}
 use Rattle.formats.specs.Checks.{firstNo, branchTableChecks}
 use Rattle.colour_tables.specs.branch.Build.{branchColourChecks}

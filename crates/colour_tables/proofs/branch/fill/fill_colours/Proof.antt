@@ -1,4 +1,4 @@
--- `fill_colours` meets its contract: its three writers, one after the other. Assumes nothing.
+-- `fill_colours` meets its contract: its three writers, one after the other.
 use mathlib.Core.Path.{refl, _∙_}
 use Rattle.colour_tables.proofs.branch.FillLaws.{node-args, word-args, colour-args, filled}
 use borrow.Author.Needs.{needs}

@@ -1,5 +1,4 @@
 -- `fill::write_branch_colours` meets its contract: the parts are the runs of plan and branch table.
--- Assumes nothing.
 use lib.ListN.{length}
 use Rattle.colour_tables.proofs.branch.BuildLaws.{parts-filled, parts-written}
 use borrow.Author.Needs.{needs}

@@ -1,4 +1,4 @@
--- `write_colours` meets its contract: the tables of the colours below c are written. Assumes nothing.
+-- `write_colours` meets its contract: the tables of the colours below c are written.
 use Prim.Native.Nat.{_-_, _<_}
 use mathlib.Core.Path.{_≡_, refl}
 use lib.ListN.{length}

@@ -1,4 +1,4 @@
--- `next_row` meets its contract: the part that it hands on is the colour's table. Assumes nothing.
+-- `next_row` meets its contract: the part that it hands on is the colour's table.
 use Prim.Native.Nat.{ℕ, _+_, _-_, _*_}
 use mathlib.Core.Path.{_≡_, sym, ap, ap₂, _∙_}
 use mathlib.Core.List.{List}

@@ -1,4 +1,4 @@
--- `row_below` meets its contract, by the way each test went. Assumes nothing.
+-- `row_below` meets its contract, by the way each test went.
 use Prim.Native.Nat.{ℕ, _+_}
 use mathlib.Core.Path.{sym, ap, _∙_}
 use Rattle.tables.specs.node_tables.Cells.{depthCell}

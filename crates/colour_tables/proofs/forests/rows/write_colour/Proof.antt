@@ -1,4 +1,4 @@
--- `write_colour` meets its contract: the rows stand from v on, for every tree and marks so given. Assumes nothing.
+-- `write_colour` meets its contract: the rows stand from v on, for every tree and marks so given.
 use Prim.Native.Nat.{ℕ, _+_, _-_, _*_, _≤_}
 use mathlib.Core.Path.{_≡_, refl, ap, _∙_, subst}
 use mathlib.Core.Bool.{Bool}

@@ -1,4 +1,4 @@
--- `place_of_bit` meets its contract: the table has the place of each of sixteen bits. Assumes nothing.
+-- `place_of_bit` meets its contract: the table has the place of each of sixteen bits.
 use Rattle.colour_tables.proofs.rows.BitLaws.{place-found}
 use borrow.Author.Needs.{needs}
 use Rattle.colour_tables.proofs.rows.turns.place_of_bit.Statement.{statement}

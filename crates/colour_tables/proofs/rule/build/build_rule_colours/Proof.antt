@@ -1,4 +1,4 @@
--- `build_rule_colours` meets its promise: the first check that fails, or both buffers written. Assumes nothing.
+-- `build_rule_colours` meets its promise: the first check that fails, or both buffers written.
 use mathlib.Core.Path.{_≡_, sym, _∙_}
 use lib.ListN.{length}
 use Rattle.formats.specs.Checks.{firstNo}

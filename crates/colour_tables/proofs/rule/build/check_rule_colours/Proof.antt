@@ -1,4 +1,4 @@
--- `check_rule_colours` meets its contract: each return cites the law of its answer. Assumes nothing.
+-- `check_rule_colours` meets its contract: each return cites the law of its answer.
 use mathlib.Core.Path.{_≡_, sym, ap, _∙_}
 use Prim.Native.Nat.{_≤_}
 use Rattle.list_laws.specs.Tests.{allBelow}

@@ -1,4 +1,4 @@
--- `set_colours_fit` meets its contract: the products are small. Assumes nothing.
+-- `set_colours_fit` meets its contract: the products are small.
 use Rattle.colour_tables.proofs.rule.BuildLaws.{products, fit-numbers, fit-bytes}
 use native.Mathlib.Omega.{arith}
 use borrow.Author.Needs.{needs}

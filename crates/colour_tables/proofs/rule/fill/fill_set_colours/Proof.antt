@@ -1,4 +1,4 @@
--- `fill_set_colours` meets its contract: its two writers, one after the other. Assumes nothing.
+-- `fill_set_colours` meets its contract: its two writers, one after the other.
 use mathlib.Core.Path.{refl}
 use Rattle.colour_tables.proofs.rule.FillLaws.{set-args, colour-args, filled}
 use native.Mathlib.Omega.{arith}

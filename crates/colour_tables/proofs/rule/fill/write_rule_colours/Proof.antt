@@ -1,4 +1,4 @@
--- `write_rule_colours` meets its contract: the tables of a Load first, then the rest. Assumes nothing.
+-- `write_rule_colours` meets its contract: the tables of a Load first, then the rest.
 use mathlib.Core.Path.{_∙_}
 use Rattle.colour_tables.proofs.rule.TableLaws.{parts-filled, parts-written}
 use native.Mathlib.Omega.{arith}

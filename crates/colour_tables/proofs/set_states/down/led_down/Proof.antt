@@ -1,4 +1,4 @@
--- `led_down` meets its contract, at the root and below it. Assumes nothing.
+-- `led_down` meets its contract, at the root and below it.
 use mathlib.Core.Path.{sym}
 use Rattle.colour_tables.proofs.set_states.DownLaws.{down-root, count-is, image-args, down-led}
 use native.Mathlib.Omega.{arith}

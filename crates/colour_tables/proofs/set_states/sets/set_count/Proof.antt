@@ -1,4 +1,4 @@
--- `set_count` meets its contract: at most four places to the left. Assumes nothing.
+-- `set_count` meets its contract: at most four places to the left.
 use Prim.Native.Nat.{_*_, _%_, _^_, _≤_}
 use mathlib.Core.Path.{_≡_, _∙_}
 use native.Mathlib.Omega.{arith}

@@ -1,4 +1,4 @@
--- `write_sets` meets its contract: the nodes from v on are done. Assumes nothing.
+-- `write_sets` meets its contract: the nodes from v on are done.
 use Prim.Native.Nat.{ℕ, _-_, _≤_}
 use mathlib.Core.Path.{_≡_, refl, subst}
 use mathlib.Core.List.{List}

@@ -1,4 +1,4 @@
--- `ups_from` meets its contract: the first q are done. Assumes nothing.
+-- `ups_from` meets its contract: the first q are done.
 use Prim.Native.Nat.{_+_, _-_, _*_, _≤_}
 use mathlib.Core.Path.{refl}
 use lib.ListN.{getD}

@@ -1,4 +1,4 @@
--- `ups_of` meets its contract, for a right child and for a left one. Assumes nothing.
+-- `ups_of` meets its contract, for a right child and for a left one.
 use Prim.Native.Nat.{_-_, _<_}
 use mathlib.Core.Path.{refl, _∙_}
 use Rattle.colour_tables.proofs.set_states.UpLaws.{ups-right, ups-left, place-small, place-in, state-in, label-in, sums}

@@ -1,4 +1,4 @@
--- `bit_of` meets its contract: a shift and a mask tell membership. Assumes nothing.
+-- `bit_of` meets its contract: a shift and a mask tell membership.
 use Rattle.colour_tables.proofs.sets.BitLaws.{bit-is}
 use borrow.Author.Needs.{needs}
 use Rattle.colour_tables.proofs.sets.bits.bit_of.Statement.{statement}

@@ -1,4 +1,4 @@
--- `preimage` meets its contract: r is the preimage among the first i states. Assumes nothing.
+-- `preimage` meets its contract: r is the preimage among the first i states.
 use Prim.Native.Nat.{ℕ, _-_, _^_, _≤_, _<_}
 use mathlib.Core.Path.{_≡_, ap, _∙_}
 use lib.Dec.{lit<}

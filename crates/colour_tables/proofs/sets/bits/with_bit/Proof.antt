@@ -1,4 +1,4 @@
--- `with_bit` meets its contract: past all members a union is a sum. Assumes nothing.
+-- `with_bit` meets its contract: past all members a union is a sum.
 use Rattle.colour_tables.proofs.sets.BitLaws.{joined, bound}
 use borrow.Author.Needs.{needs}
 use Rattle.colour_tables.proofs.sets.bits.with_bit.Statement.{statement}

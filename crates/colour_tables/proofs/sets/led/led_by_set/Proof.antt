@@ -1,4 +1,4 @@
--- `led_by_set` meets its contract: the first c are done. Assumes nothing.
+-- `led_by_set` meets its contract: the first c are done.
 use Prim.Native.Nat.{_-_, _≤_}
 use mathlib.Core.Path.{refl}
 use Rattle.colour_tables.specs.sets.Sets.{LedBy}

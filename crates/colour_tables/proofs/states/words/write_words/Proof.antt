@@ -1,4 +1,4 @@
--- `write_words` meets its contract: the nodes from v on are done. Assumes nothing.
+-- `write_words` meets its contract: the nodes from v on are done.
 use Prim.Native.Nat.{ℕ, _+_, _-_, _*_, _≤_, _<_}
 use mathlib.Core.Path.{_≡_, refl, subst}
 use lib.ListN.{length, getD}

@@ -1,4 +1,4 @@
--- `planner::home::check::check_home` meets its contract, by the laws of HomeLaws and CheckAnswers. Assumes nothing.
+-- `planner::home::check::check_home` meets its contract, by the laws of HomeLaws and CheckAnswers.
 use mathlib.Core.Path.{_≡_, sym, _∙_}
 use mathlib.Core.Bool.{true}
 use denote.Ref.{now}

@@ -1,4 +1,4 @@
--- `planner::home::check::comes_from_file` meets its contract, by the laws of CheckLoop. Assumes nothing.
+-- `planner::home::check::comes_from_file` meets its contract, by the laws of CheckLoop.
 use Prim.Native.Nat.{ℕ, _+_, _*_, _≤_}
 use mathlib.Core.Path.{_≡_, sym, ap, ap₂, _∙_}
 use mathlib.Core.List.{List}

@@ -1,4 +1,4 @@
--- `planner::home::check::label_fits` meets its contract, by the laws of CheckLoop. Assumes nothing.
+-- `planner::home::check::label_fits` meets its contract, by the laws of CheckLoop.
 use Rattle.planner.proofs.home.CheckLoop.{fits-leaf, fits-inner}
 use native.Mathlib.Omega.{arith}
 use borrow.Author.Needs.{needs}

@@ -1,5 +1,5 @@
 -- `planner::home::check::labels_fit` meets its contract: the invariant, its start, its step and its end are those of
--- CheckLoop. Assumes nothing.
+-- CheckLoop.
 use Prim.Native.Nat.{_-_, _≤_}
 use mathlib.Core.Path.{_≡_, refl, sym, _∙_}
 use lib.ListN.{length, drop}

@@ -1,4 +1,4 @@
--- `planner::home::check::one_top` meets its contract, by the laws of CheckLoop. Assumes nothing.
+-- `planner::home::check::one_top` meets its contract, by the laws of CheckLoop.
 use mathlib.Core.Path.{sym}
 use Rattle.planner.proofs.home.CheckLoop.{top-short, top-kind}
 use native.Mathlib.Omega.{arith}

@@ -1,4 +1,4 @@
--- `planner::home::check::run_after` meets its contract, by the laws of CheckLoop. Assumes nothing.
+-- `planner::home::check::run_after` meets its contract, by the laws of CheckLoop.
 use Rattle.planner.proofs.home.CheckLoop.{after-leaf, after-inner}
 use native.Mathlib.Omega.{arith}
 use borrow.Author.Needs.{needs}

@@ -1,5 +1,4 @@
--- `planner::home::convert::planner_of_plan` meets its contract, by the laws of HomeLaws and CheckAnswers. Assumes
--- nothing.
+-- `planner::home::convert::planner_of_plan` meets its contract, by the laws of HomeLaws and CheckAnswers.
 use Prim.Native.Nat.{ℕ, _/_}
 use mathlib.Core.Path.{_≡_, refl, sym, ap, _∙_}
 use denote.Ref.{now}

@@ -1,4 +1,4 @@
--- `planner::home::convert::write_home` meets its contract, by the laws of HomeLaws. Assumes nothing.
+-- `planner::home::convert::write_home` meets its contract, by the laws of HomeLaws.
 use Rattle.formats.specs.Plan.{planTree}
 use Rattle.planner.specs.Siblings.{unimage}
 use Rattle.planner.proofs.home.HomeLaws.{home-size, labels-part, kinds-part, home-read-args, home-is}

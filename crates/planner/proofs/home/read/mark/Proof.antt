@@ -1,4 +1,4 @@
--- `planner::home::read::mark` meets its contract, by the laws of CellLaws. Assumes nothing.
+-- `planner::home::read::mark` meets its contract, by the laws of CellLaws.
 use Rattle.planner.proofs.home.CellLaws.{marked-first, marked-later}
 use native.Mathlib.Omega.{arith}
 use borrow.Author.Needs.{needs}

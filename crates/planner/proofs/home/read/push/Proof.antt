@@ -1,4 +1,4 @@
--- `planner::home::read::push` meets its contract, by the laws of CellLaws. Assumes nothing.
+-- `planner::home::read::push` meets its contract, by the laws of CellLaws.
 use lib.ListN.{length-set}
 use Rattle.planner.proofs.home.CellLaws.{push-done}
 use native.Mathlib.Omega.{arith}

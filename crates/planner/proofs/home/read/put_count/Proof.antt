@@ -1,4 +1,4 @@
--- `planner::home::read::put_count` meets its contract, by the laws of CellLaws. Assumes nothing.
+-- `planner::home::read::put_count` meets its contract, by the laws of CellLaws.
 use Rattle.planner.proofs.home.CellLaws.{count-some, count-none}
 use native.Mathlib.Omega.{arith}
 use borrow.Author.Needs.{needs}

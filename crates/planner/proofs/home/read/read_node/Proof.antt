@@ -1,4 +1,4 @@
--- `planner::home::read::read_node` meets its contract, by the laws of ReadLoop. Assumes nothing.
+-- `planner::home::read::read_node` meets its contract, by the laws of ReadLoop.
 use Rattle.planner.proofs.home.ReadLoop.{push-args, count-args, release-args, node-push, node-count}
 use Rattle.planner.proofs.home.ReadLoop.{node-release}
 use native.Mathlib.Omega.{arith}

@@ -1,5 +1,5 @@
 -- `planner::home::read::read_nodes` meets its contract: the invariant, its start, its step and its end are those of
--- ReadLoop. Assumes nothing.
+-- ReadLoop.
 use Prim.Native.Nat.{_≤_}
 use mathlib.Core.Path.{_≡_, refl, _∙_}
 use lib.ListN.{length}

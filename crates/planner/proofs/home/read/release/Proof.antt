@@ -1,5 +1,5 @@
 -- `planner::home::read::release` meets its contract: the invariant, its start, its step and its end are those of
--- ReleaseLoop. Assumes nothing.
+-- ReleaseLoop.
 use Prim.Native.Nat.{_<_}
 use lib.ListN.{length-set}
 use borrow.Author.Tests.{ltb-true}

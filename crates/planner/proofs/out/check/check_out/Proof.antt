@@ -1,4 +1,4 @@
--- `planner::out::check::check_out` meets its contract, by the laws of FileTrees and CheckAnswers. Assumes nothing.
+-- `planner::out::check::check_out` meets its contract, by the laws of FileTrees and CheckAnswers.
 use Prim.Native.Nat.{ℕ}
 use mathlib.Core.Path.{_≡_, sym, ap, _∙_}
 use mathlib.Core.Bool.{true}

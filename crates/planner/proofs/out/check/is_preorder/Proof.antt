@@ -1,5 +1,5 @@
 -- `planner::out::check::is_preorder` meets its contract: the invariant, its start, its step and its end are those of
--- CheckLoop. Assumes nothing.
+-- CheckLoop.
 use mathlib.Core.Path.{sym}
 use Prim.Native.Nat.{_-_}
 use lib.ListN.{length}

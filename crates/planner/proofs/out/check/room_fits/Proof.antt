@@ -1,4 +1,4 @@
--- `planner::out::check::room_fits` meets its contract, by the laws of CheckLoop. Assumes nothing.
+-- `planner::out::check::room_fits` meets its contract, by the laws of CheckLoop.
 use mathlib.Core.Path.{sym}
 use Rattle.planner.proofs.out.CheckLoop.{room-many, room-plan, room-rest}
 use native.Mathlib.Omega.{arith}

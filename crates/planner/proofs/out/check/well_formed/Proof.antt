@@ -1,4 +1,4 @@
--- `planner::out::check::well_formed` meets its contract, by the laws of CheckLoop. Assumes nothing.
+-- `planner::out::check::well_formed` meets its contract, by the laws of CheckLoop.
 use mathlib.Core.Path.{sym, ap, _∙_}
 use Rattle.planner.specs.File.{isPreorder}
 use Rattle.planner.proofs.out.CheckLoop.{file-not, file-counts, count-part}

@@ -1,4 +1,4 @@
--- `planner::out::convert::plan_of_planner` meets its contract, by the laws of OutLaws and CheckAnswers. Assumes nothing.
+-- `planner::out::convert::plan_of_planner` meets its contract, by the laws of OutLaws and CheckAnswers.
 use mathlib.Core.Path.{_≡_, refl, sym, _∙_}
 use denote.Ref.{now}
 use lib.ListN.{length}

@@ -1,4 +1,4 @@
--- `planner::out::convert::write_out` meets its contract, by the laws of OutLaws. Assumes nothing.
+-- `planner::out::convert::write_out` meets its contract, by the laws of OutLaws.
 use Prim.Native.Nat.{_+_, _*_, _≤_}
 use mathlib.Core.Path.{_≡_}
 use lib.ListN.{length}

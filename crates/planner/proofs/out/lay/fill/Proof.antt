@@ -1,5 +1,4 @@
 -- `planner::out::lay::fill` meets its contract: the invariant, its start, its step and its end are those of LayLoop.
--- Assumes nothing.
 use Prim.Native.Nat.{_-_}
 use Rattle.planner.proofs.out.LayLoop.{Filling, filling-start, filling-iteration, filling-end}
 use native.Mathlib.Omega.{arith}

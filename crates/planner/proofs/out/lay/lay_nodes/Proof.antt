@@ -1,5 +1,5 @@
 -- `planner::out::lay::lay_nodes` meets its contract: the invariant, its start, its step and its end are those of
--- LayLoop. Assumes nothing.
+-- LayLoop.
 use Prim.Native.Nat.{_-_, _≤_, _<_}
 use mathlib.Core.Path.{_≡_, refl}
 use lib.ListN.{length, getD, length-set}

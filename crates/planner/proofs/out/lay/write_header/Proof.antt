@@ -1,4 +1,4 @@
--- `planner::out::lay::write_header` meets its contract. Assumes nothing.
+-- `planner::out::lay::write_header` meets its contract.
 use mathlib.Core.Path.{refl}
 use lib.ListN.{length-set}
 use native.Mathlib.Omega.{arith}

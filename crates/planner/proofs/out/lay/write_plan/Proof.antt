@@ -1,4 +1,4 @@
--- `planner::out::lay::write_plan` meets its contract, by the laws of PlanLaws. Assumes nothing.
+-- `planner::out::lay::write_plan` meets its contract, by the laws of PlanLaws.
 use Prim.Native.Nat.{_+_, _*_}
 use mathlib.Core.Path.{_≡_, refl, ap, _∙_}
 use lib.ListN.{length}

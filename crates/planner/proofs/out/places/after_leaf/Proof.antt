@@ -1,4 +1,4 @@
--- `planner::out::places::after_leaf` meets its contract. Assumes nothing.
+-- `planner::out::places::after_leaf` meets its contract.
 use mathlib.Core.Path.{sym, ap, _∙_}
 use mathlib.Core.Bool.{Bool}
 use Rattle.planner.specs.out.inner.Stack.{afterLeaf}

@@ -1,5 +1,5 @@
 -- `planner::out::places::close_lists` meets its contract: the invariant, its start, its step and its end are those of
--- CloseLoop and StackLaws. Assumes nothing.
+-- CloseLoop and StackLaws.
 use Rattle.planner.proofs.out.CloseLoop.{Closing, closing-start, closing-iteration, closing-end, closing-fits}
 use Rattle.planner.proofs.out.CloseLoop.{closing-fits-next}
 use mathlib.Core.Path.{_≡_, sym, ap, _∙_}

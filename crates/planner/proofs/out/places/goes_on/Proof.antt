@@ -1,4 +1,4 @@
--- `planner::out::places::goes_on` meets its contract, by the laws of StackLaws. Assumes nothing.
+-- `planner::out::places::goes_on` meets its contract, by the laws of StackLaws.
 use mathlib.Core.Path.{sym, ap, _∙_}
 use mathlib.Core.Bool.{Bool}
 use denote.Ref.{now}

@@ -1,4 +1,4 @@
--- `planner::out::places::node_on_top` meets its contract. Assumes nothing.
+-- `planner::out::places::node_on_top` meets its contract.
 use Prim.Native.Nat.{_+_, _*_}
 use native.Mathlib.Omega.{arith}
 use borrow.Author.Needs.{needs}

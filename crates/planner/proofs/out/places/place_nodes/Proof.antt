@@ -1,5 +1,5 @@
 -- `planner::out::places::place_nodes` meets its contract: the invariant, its start, its step and its end are those of
--- PlaceLoop. Assumes nothing.
+-- PlaceLoop.
 use Prim.Native.Nat.{_-_}
 use lib.ListN.{length}
 use Rattle.planner.proofs.out.PlaceLoop.{Placing, placing-start, placing-args, placing-iteration, placing-end}

@@ -1,4 +1,4 @@
--- `planner::out::places::push` meets its contract, by the laws of StackLaws. Assumes nothing.
+-- `planner::out::places::push` meets its contract, by the laws of StackLaws.
 use lib.ListN.{length-set}
 use Prim.Native.Nat.{_/_, _%_}
 use Rattle.planner.proofs.out.StackLaws.{stack-pushed}

@@ -1,4 +1,4 @@
--- `planner::out::places::put` meets its contract. Assumes nothing.
+-- `planner::out::places::put` meets its contract.
 use mathlib.Core.Path.{sym}
 use lib.Seq.{set-out}
 use native.Mathlib.Omega.{arith}

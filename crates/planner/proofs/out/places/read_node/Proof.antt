@@ -1,4 +1,4 @@
--- `planner::out::places::read_node` meets its contract, by the laws of PlaceLoop. Assumes nothing.
+-- `planner::out::places::read_node` meets its contract, by the laws of PlaceLoop.
 use denote.Ref.{now}
 use Rattle.planner.proofs.out.PlaceLoop.{node-inner, node-leaf, leaf-args, next-fits}
 use native.Mathlib.Omega.{arith}

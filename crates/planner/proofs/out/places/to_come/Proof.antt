@@ -1,4 +1,4 @@
--- `planner::out::places::to_come` meets its contract, by the laws of StackLaws. Assumes nothing.
+-- `planner::out::places::to_come` meets its contract, by the laws of StackLaws.
 use mathlib.Core.Path.{sym}
 use Rattle.planner.proofs.out.StackLaws.{afterTop-top}
 use denote.Ref.{now}

@@ -1,4 +1,4 @@
--- `first_differing` meets its contract. Assumes nothing.
+-- `first_differing` meets its contract.
 use Prim.Native.Nat.{_+_, _-_}
 use mathlib.Core.Path.{refl}
 use native.Mathlib.Omega.{arith}

@@ -1,4 +1,4 @@
--- `over_lines` meets its contract. Assumes nothing.
+-- `over_lines` meets its contract.
 use Prim.Native.Nat.{_+_, _-_}
 use mathlib.Core.Path.{_∙_}
 use native.Mathlib.Omega.{arith}

@@ -1,4 +1,4 @@
--- `pair_step` meets its contract. Assumes nothing.
+-- `pair_step` meets its contract.
 use Prim.Native.Nat.{_+_, _*_}
 use native.Mathlib.Omega.{arith}
 use borrow.Author.Needs.{needs}

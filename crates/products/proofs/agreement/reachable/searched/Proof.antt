@@ -1,4 +1,4 @@
--- `searched` meets its contract. Assumes nothing.
+-- `searched` meets its contract.
 use Prim.Native.Nat.{_+_, _-_}
 use mathlib.Core.Path.{sym, _∙_}
 use native.Mathlib.Omega.{arith}

@@ -1,5 +1,4 @@
 -- `screens::in_place::load::any_busy` meets its contract.
--- Assumes nothing.
 use Prim.Native.Nat.{_-_, _≤_}
 use lib.ListN.{length}
 use borrow.Kind.Array.{eStruct, good-length}

@@ -1,5 +1,4 @@
 -- `screens::in_place::load::is_busy` meets its contract.
--- Assumes nothing.
 use Rattle.screens.proofs.in_place.BusyLaws.{busy-broken, busy-valid}
 use native.Mathlib.Omega.{arith}
 use borrow.Author.Needs.{needs}

@@ -1,5 +1,4 @@
 -- `screens::in_place::load::load` meets its contract.
--- Assumes nothing.
 use mathlib.Core.Path.{_≡_, sym, _∙_}
 use lib.ListN.{length}
 use borrow.Kind.Array.{eStruct, good-length}

@@ -1,5 +1,4 @@
 -- `session::state::Session::advance` meets its contract: its step is found by the record's head and arrays.
--- Assumes nothing.
 use mathlib.Core.Logic.{inl, inr}
 use Rattle.formats.specs.Inputs.{Inputs}
 use Rattle.model.specs.Calls.{advance}

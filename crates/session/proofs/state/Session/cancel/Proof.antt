@@ -1,5 +1,4 @@
 -- `session::state::Session::cancel` meets its contract. Each return cites the law of its answer.
--- Assumes nothing.
 use mathlib.Core.Path.{_≡_}
 use mathlib.Core.Bool.{_&&_}
 use Rattle.model.specs.Calls.{isRunning}

@@ -1,5 +1,4 @@
 -- `session::state::Session::fresh` meets its contract. Its record is the definition's, field by field; the limits are the constants'.
--- Assumes nothing.
 use mathlib.Core.Path.{refl, ap, _∙_}
 use Rattle.session.specs.declared.state.Phase.the-variants.{Empty}
 use Rattle.session.specs.declared.state.Last.{Last}

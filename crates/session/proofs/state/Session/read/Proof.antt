@@ -1,5 +1,4 @@
 -- `session::state::Session::read` meets its contract. Each return cites the law of its answer.
--- Assumes nothing.
 use Rattle.session.specs.inner.Shapes.{Shaped}
 use Rattle.session.proofs.ShapeLaws.{shaped}
 use Rattle.session.proofs.ReadLaws.{read-no, read-yes}

@@ -1,4 +1,4 @@
--- `list_inner` meets its contract. The loop's invariant: the inner nodes passed are listed. Assumes nothing.
+-- `list_inner` meets its contract. The loop's invariant: the inner nodes passed are listed.
 use Prim.Native.Nat.{ℕ, _-_, _≤_}
 use mathlib.Core.Path.{_≡_, refl, subst, _∙_}
 use lib.ListN.{length, length-set}

@@ -1,4 +1,4 @@
--- `build_node_table` meets its contract: the pass up, then the pass down. Assumes nothing.
+-- `build_node_table` meets its contract: the pass up, then the pass down.
 use lib.ListN.{length}
 use Rattle.tables.specs.node_tables.Cells.{NodeTableArgs}
 use Rattle.tables.proofs.node_tables.CellLaws.{down-args, passes}

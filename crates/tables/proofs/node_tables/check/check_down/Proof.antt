@@ -1,4 +1,4 @@
--- `check_down` meets its contract. The loop's invariant: depths and jumps are right from v on. Assumes nothing.
+-- `check_down` meets its contract. The loop's invariant: depths and jumps are right from v on.
 use Prim.Native.Nat.{ℕ, _<_, _+_, _-_, _*_}
 use mathlib.Core.Path.{_≡_, sym, _∙_, subst}
 use borrow.Author.Tests.{not-true, not-false}

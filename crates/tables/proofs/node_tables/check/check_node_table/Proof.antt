@@ -1,4 +1,4 @@
--- `check_node_table` meets its contract: the pass up, then the pass down. Assumes nothing.
+-- `check_node_table` meets its contract: the pass up, then the pass down.
 use mathlib.Core.Path.{subst}
 use mathlib.Core.Bool.{Bool, true}
 use borrow.Author.Tests.{not-true, not-false}

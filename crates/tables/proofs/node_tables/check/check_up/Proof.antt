@@ -1,5 +1,4 @@
 -- `check_up` meets its contract. The loop's invariant: sizes and parents are right as far as the pass has come.
--- Assumes nothing.
 use Prim.Native.Nat.{_≤_, _-_, _*_}
 use mathlib.Core.Path.{_≡_, refl, sym, _∙_}
 use lib.ListN.{length}

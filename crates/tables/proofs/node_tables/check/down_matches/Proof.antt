@@ -1,4 +1,4 @@
--- `down_matches` meets its contract, by the way each test went. Assumes nothing.
+-- `down_matches` meets its contract, by the way each test went.
 use borrow.Author.Tests.{eq-eqb, ne-eqb}
 use Rattle.tables.specs.node_tables.inner.CheckPass.{downMatches}
 use borrow.Author.Needs.{needs}

@@ -1,4 +1,4 @@
--- `inner_matches` meets its contract, by the way each test went. Assumes nothing.
+-- `inner_matches` meets its contract, by the way each test went.
 use Prim.Native.Nat.{_-_, _*_}
 use mathlib.Core.Path.{_∙_}
 use borrow.Author.Tests.{eq-eqb, ne-eqb}

@@ -1,4 +1,4 @@
--- `up_matches` meets its contract, by the kind. Assumes nothing.
+-- `up_matches` meets its contract, by the kind.
 use borrow.Author.Tests.{eq-eqb, ne-eqb}
 use Rattle.tables.specs.node_tables.inner.CheckPass.{upMatches}
 use borrow.Author.Needs.{needs}

@@ -1,4 +1,4 @@
--- `by_distances` meets its contract: the two-distances rule, by the test's two ways. Assumes nothing.
+-- `by_distances` meets its contract: the two-distances rule, by the test's two ways.
 use Prim.Native.Nat.{_+_, _*_}
 use native.Mathlib.Omega.{arith}
 use borrow.Author.Needs.{needs}

@@ -1,4 +1,4 @@
--- `child_jump` meets its contract: by the table of lengths below its end, and by the two distances past it. Assumes nothing.
+-- `child_jump` meets its contract: by the table of lengths below its end, and by the two distances past it.
 use borrow.Author.Needs.{needs}
 use Rattle.tables.proofs.node_tables.JumpLengthLaws.{by-table, past-table}
 use Rattle.tables.proofs.node_tables.down.child_jump.Statement.{statement}

@@ -1,4 +1,4 @@
--- `write_node` meets its contract. Assumes nothing.
+-- `write_node` meets its contract.
 use lib.ListN.{length-set}
 use native.Mathlib.Omega.{arith}
 use borrow.Author.Needs.{needs}

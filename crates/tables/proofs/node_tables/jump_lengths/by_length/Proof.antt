@@ -1,4 +1,4 @@
--- `by_length` meets its contract, by the test. Assumes nothing.
+-- `by_length` meets its contract, by the test.
 use borrow.Author.Tests.{eq-eqb, ne-eqb}
 use Rattle.tables.proofs.node_tables.jump_lengths.by_length.Statement.{statement}
 use Rattle.tables.proofs.node_tables.jump_lengths.by_length.Tie as tie

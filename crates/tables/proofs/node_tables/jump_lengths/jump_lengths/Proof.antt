@@ -1,4 +1,4 @@
--- `jump_lengths` meets its contract: the constant's entries are the definition's. Assumes nothing.
+-- `jump_lengths` meets its contract: the constant's entries are the definition's.
 use mathlib.Core.Path.{refl}
 use Rattle.tables.specs.node_tables.JumpLengths.{jumpLengths}
 use Rattle.tables.proofs.node_tables.jump_lengths.jump_lengths.Statement.{statement}

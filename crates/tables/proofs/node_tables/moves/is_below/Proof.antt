@@ -1,4 +1,4 @@
--- `is_below` meets its contract. Assumes nothing.
+-- `is_below` meets its contract.
 use Rattle.tables.proofs.node_tables.MoveCases.{below-no, below-yes}
 use borrow.Author.Needs.{needs}
 use Rattle.tables.proofs.node_tables.moves.is_below.Statement.{statement}

@@ -1,4 +1,4 @@
--- `next_move` meets its contract, by the way each test went. Assumes nothing.
+-- `next_move` meets its contract, by the way each test went.
 use mathlib.Core.Path.{sym, _∙_}
 use Rattle.tables.specs.node_tables.Cells.{cellForest}
 use Rattle.tables.proofs.node_tables.MoveCases.{outside, by-jump, no-jump, to-parent, no-parent}

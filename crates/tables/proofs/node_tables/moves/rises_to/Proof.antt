@@ -1,4 +1,4 @@
--- `rises_to` meets its contract. Assumes nothing.
+-- `rises_to` meets its contract.
 use borrow.Author.Tests.{lt-ltb, le-ltb}
 use borrow.Author.Needs.{needs}
 use Rattle.tables.proofs.node_tables.moves.rises_to.Statement.{statement}

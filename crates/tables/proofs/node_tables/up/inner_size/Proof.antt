@@ -1,4 +1,4 @@
--- `inner_size` meets its contract. Assumes nothing.
+-- `inner_size` meets its contract.
 use mathlib.Core.Path.{ap}
 use Rattle.tables.specs.node_tables.Cells.{sizeCell}
 use native.Mathlib.Omega.{arith}

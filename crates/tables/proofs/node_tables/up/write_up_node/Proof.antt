@@ -1,4 +1,4 @@
--- `write_up_node` meets its contract: the right child's parent is written first. Assumes nothing.
+-- `write_up_node` meets its contract: the right child's parent is written first.
 use lib.ListN.{length-set}
 use Rattle.tables.proofs.node_tables.UpLoop.{size-beside, right-first}
 use native.Mathlib.Omega.{arith}
