@@ -30,7 +30,8 @@ use Rattle.questions.proofs.ready.PartsRun.{RunGiven}
 use Rattle.colours.specs.StateSets.{setOf, member, setStep}
 use Rattle.colours.proofs.BitLaws.{member-setOf}
 use Rattle.colours.proofs.SetLaws.{setStep-down}
-use Rattle.colours.proofs.Theorems.{SetAnswer, set-targets}
+use Rattle.colours.proofs.Theorems.{set-targets}
+use Rattle.colours.specs.Answers.{SetAnswer}
 use Rattle.colour_questions.specs.parts.Sides.{SideFound}
 use Rattle.colour_questions.proofs.parts.SideLaws.{side-found}
 use Rattle.colour_tables.specs.rule.Build.{setColoursFit, ruleColourChecks, builtSetNumbers, builtSetBytes}

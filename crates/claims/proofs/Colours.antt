@@ -30,17 +30,19 @@ use Rattle.branches.specs.declared.answers.Branching.{Branching}
 use Rattle.branches.specs.Question.{branchNumber}
 use Rattle.branches.specs.Promise.{wordAnswer}
 use Rattle.colours.specs.marks.Marks.{marksIn, marksAt}
-use Rattle.colours.proofs.marks.NextMark.{NextMark, next-mark, next-mark-limit}
+use Rattle.colours.proofs.marks.NextMark.{next-mark, next-mark-limit}
+use Rattle.colours.specs.marks.NextMarks.{NextMark}
 use Rattle.colours.specs.Colouring.{lowestFree, takes, recolour, placeOf, Colouring}
 use Rattle.colours.specs.Copies.{topCopy, copy, copyAbove, landsAt, dropsDown}
 use Rattle.colours.specs.Words.{withUpper, belowUpper}
 use Rattle.colours.specs.StateSets.{setStep, setCount}
-use Rattle.colours.proofs.ColouringLaws.{Free, lowest-free}
+use Rattle.colours.proofs.ColouringLaws.{lowest-free}
+use Rattle.colours.specs.Colouring.{Free}
 use Rattle.colours.proofs.TurnLaws.{recolour-turn}
 use Rattle.colours.proofs.CopyLaws.{top-colour, copyAbove-root}
 use Rattle.colours.proofs.RootLaws.{set-root}
-use Rattle.colours.proofs.DescentLaws.{AllLe}
-use Rattle.colours.proofs.WordLaws.{WordAnswer}
+use Rattle.colours.specs.Descents.{AllLe}
+use Rattle.colours.specs.Answers.{WordAnswer}
 use Rattle.colours.proofs.Theorems.{colours-one-each, colours-only-fall, drops-below-colours, word-upper, word-below}
 use Rattle.colours.proofs.Theorems.{links-limit}
 use Rattle.colour_tables.specs.branch.Build.{coloursFit, branchColourChecks, builtColourNumbers, builtCopies, BranchColoured}

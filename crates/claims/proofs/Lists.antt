@@ -19,8 +19,8 @@ use Rattle.formats.specs.Rules.{labelCount}
 use Rattle.formats.specs.Checks.{firstNo, listChecks, ruleTableChecks}
 use Rattle.formats.specs.Inputs.{Inputs, Sizes, stateTableBuilt}
 use Rattle.formats.specs.inner.InnerChecks.{listsFit}
-use Rattle.formats.proofs.PlanLaws.{PlanPasses}
-use Rattle.formats.proofs.InputsLaws.{Built}
+use Rattle.formats.specs.Passing.{PlanPasses}
+use Rattle.formats.specs.Passing.{Built}
 use Rattle.changes.specs.Entries.{Entry, entries, nodesListed, labelsListed, lastLabel, superseded, laidOver, RisingNodes}
 use Rattle.changes.specs.LayOver.{laid, layNumber}
 use Rattle.changes.specs.ChangedPlan.{changedPlan}
@@ -29,9 +29,11 @@ use Rattle.changes.proofs.DifferingLaws.{differing-is, unlisted-same}
 use Rattle.questions.specs.ready.Members.{roots}
 use Rattle.questions.specs.ready.Parts.{partsOf, lastState}
 use Rattle.changes.proofs.LaidLaws.{superseded-only, laid-rises, laid-labels, laid-only, over-assoc, over-empty, over-self}
-use Rattle.changes.proofs.LaidLaws.{over-swap, Apart}
+use Rattle.changes.proofs.LaidLaws.{over-swap}
+use Rattle.changes.specs.Entries.{Apart}
 use Rattle.changes.proofs.ChangedLaws.{changed-superseded}
-use Rattle.changes.proofs.Theorems.{LeftFirst, RightFirst, lay-assoc, lay-empty, lay-self, lay-swap}
+use Rattle.changes.proofs.Theorems.{lay-assoc, lay-empty, lay-self, lay-swap}
+use Rattle.changes.specs.LayOver.{LeftFirst, RightFirst}
 use Rattle.changes.proofs.PlanOver.{plan-over, plan-passes}
 use Rattle.model.specs.Calls.{Answer}
 use Rattle.reference.specs.Reference.{Question, rootsOf, partCount, givenBy}
@@ -39,8 +41,9 @@ use Rattle.reference.specs.Undisturbed.{EveryOutcomeAfter}
 use Rattle.reference.proofs.FreshLaws.{whole-state, whole-before}
 use Rattle.reference.proofs.Ceilings.{parts-never-rise}
 use Rattle.reference.proofs.Controls.{inputsFive, withLeft, withListed, links-either-way}
-use Rattle.reference.proofs.QuestionTheorem.{CleanOutcomes}
-use Rattle.reference.proofs.OverTheorem.{Tells, question-over}
+use Rattle.reference.specs.Outcomes.{CleanOutcomes}
+use Rattle.reference.proofs.OverTheorem.{question-over}
+use Rattle.reference.specs.Outcomes.{Tells}
 use Rattle.session.specs.Records.{freshSession}
 use Rattle.session.specs.CallsByValue.{CallByValue}
 use Rattle.session.specs.in_place.CallsInPlace.{CallInPlace}

@@ -32,9 +32,11 @@ use Rattle.model.specs.Sound.{Sound}
 use Rattle.model.specs.Model.{stageOf}
 use Rattle.reference.specs.Reference.{Reference, settled, step}
 use Rattle.reference.specs.Demand3.{Demand3}
-use Rattle.reference.proofs.QuestionTheorem.{CleanOutcomes, QuestionsAnswered, outcome-order}
+use Rattle.reference.proofs.QuestionTheorem.{outcome-order}
+use Rattle.reference.specs.Outcomes.{CleanOutcomes, QuestionsAnswered}
 use Rattle.reference.proofs.Theorems.{start-settled}
-use Rattle.reference.proofs.Sample.{row, startRow, sample-rows}
+use Rattle.reference.proofs.Sample.{sample-rows}
+use Rattle.reference.specs.Sample.{row, startRow}
 use Rattle.session.specs.declared.state.Session.{Session}
 use Rattle.session.specs.Records.{recordOf, valid, freshSession}
 use Rattle.session.specs.CallsByValue.{CallByValue}

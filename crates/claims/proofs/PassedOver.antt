@@ -23,8 +23,8 @@ use Rattle.questions.specs.ready.Parts.{questionLinks, questionPassed}
 use Rattle.questions.proofs.ready.PassedLaws.{question-passed}
 use Rattle.model.specs.Calls.{Call, Answer, parts, more, finished, outcomeAnswer}
 use Rattle.reference.specs.Undisturbed.{EveryOutcomeAfter}
-use Rattle.reference.proofs.QuestionTheorem.{CleanOutcomes}
-use Rattle.reference.proofs.Sample.{seen}
+use Rattle.reference.specs.Outcomes.{CleanOutcomes}
+use Rattle.reference.specs.Sample.{seen}
 use Rattle.reference.proofs.Controls.{all}
 use Rattle.controls.proofs.PassedControls.{gapCalls, gap-told}
 use Rattle.session.specs.declared.state.Session.{Session}
