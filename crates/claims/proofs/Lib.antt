@@ -1,9 +1,8 @@
-pub mod RefusalLaws
-pub mod SupersededForms
-pub mod Main
-pub mod Lists
+pub mod laws
 pub mod BrokenBytes
 pub mod QuestionForms
+pub mod Main
+pub mod Lists
 pub mod Kept
 pub mod PassedOver
 pub mod EightScreens

@@ -45,7 +45,8 @@ use Rattle.session.specs.Records.{freshSession}
 use Rattle.session.specs.CallsByValue.{CallByValue}
 use Rattle.session.specs.in_place.CallsInPlace.{CallInPlace}
 use Rattle.capi_session.specs.DecodedAnswers.{Exports}
-use Rattle.claims.proofs.SupersededForms.{Superseded, superseded-by-value, superseded-in-place, superseded-exported}
+use Rattle.claims.specs.Histories.{Superseded}
+use Rattle.claims.proofs.laws.SupersededForms.{superseded-by-value, superseded-in-place, superseded-exported}
 
 -- ---- S-4
 

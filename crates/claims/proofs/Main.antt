@@ -44,18 +44,18 @@ use Rattle.session.proofs.in_place.InPlaceTheorem.{in-place-demand-3, in-place-
 use Rattle.capi_session.specs.DecodedAnswers.{Exports}
 use Rattle.capi_session.proofs.ExportedTheorem.{exported-demand-3, exported-questions}
 use Rattle.claims.specs.Refusals.{RefusedInOrder}
-use Rattle.claims.proofs.RefusalLaws.{refused-in-order, start-refused-18, build-refused}
+use Rattle.claims.proofs.laws.RefusalLaws.{refused-in-order, start-refused-18, build-refused}
 
 -- ---- demand 1. "Malformed input, short buffers, table values that lead outside and calls that the session's state forbids are refused
 -- first, by number, in a fixed order; a refusal alters nothing; everything else is accepted; every call ends." That every call ends, and
 -- has no premise, is part of each function's proof.
 
-refusals : (s : Session) (c : Call) (a : Answer) (s′ : Session) → CallByValue s c a s′ → RefusedInOrder s c a s′
+refusals : (s s′ : Session) (c : Call) (a : Answer) → CallByValue s c a s′ → RefusedInOrder s c a s′
 refusals = refused-in-order
 
 -- document 02, S-11: "give 18 at its old place exactly when the tables aren't what the build writes from that plan and those rules, or when these no longer
 -- pass 2 to 10 or name another N, S or K than the record"
-start-18 : (s : Session) (x : Inputs) (vs bs : List ℕ) (a : Answer) (s′ : Session) → CallByValue s (start x vs bs) a s′ → valid s ≡ true
+start-18 : (s s′ : Session) (x : Inputs) (vs bs : List ℕ) (a : Answer) → CallByValue s (start x vs bs) a s′ → valid s ≡ true
     → (a ≡ refused 18) ↔ ((firstNo (checksBefore18 (stageOf (recordOf s)) x vs bs) ≡ 0) × (Sound (recordOf s .sizes) x → ⊥))
 start-18 = start-refused-18
 

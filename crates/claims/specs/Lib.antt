@@ -1,2 +1,4 @@
 pub mod Refusals
+pub mod Lent
+pub mod Histories
 pub mod ProvedToo

@@ -1,0 +1,12 @@
+pub mod ByteAnswers
+pub mod RefusalLaws
+pub mod LoadTables
+pub mod LoadedBytes
+pub mod StartAfterLoad
+pub mod SupersededForms
+pub mod ReadsAlikeLaws
+pub mod QuestionEnds
+pub mod LeftOpenLaws
+pub mod ScreenRefusals
+pub mod ScreenHistories
+pub mod LayCalls

@@ -1,0 +1,47 @@
+-- A Start that is given what an accepted Load left is accepted with any list that passes 12 to 14, in every history.
+--     after-load            an accepted Load leaves the reference model loaded, with the sizes of what it was given
+--     starts-after-load     so it is of any form of the calls that has demand 3
+use Prim.Native.Nat.{ℕ, zero, suc}
+use mathlib.Core.Path.{_≡_, refl, sym, ap, subst}
+use mathlib.Core.List.{List, [], _∷_, _++_}
+use mathlib.Core.Option.{none}
+use Rattle.list_laws.proofs.BoolLaws.{true-false}
+use Rattle.formats.specs.Inputs.{Inputs, sizesIn}
+use Rattle.model.specs.Calls.{Call, load, start, Answer, isRefused, mayStart}
+use Rattle.model.specs.Refusals.{refusal}
+use Rattle.reference.specs.Reference.{Reference, State, stageOf, newReference, phase, step, decided, proceed}
+use Rattle.reference.specs.Demand3.{Conforms, after, Demand3}
+use Rattle.reference.specs.Undisturbed.{referenceAt}
+use Rattle.reference.proofs.Simulation.{referenceOf}
+use Rattle.reference.proofs.UndisturbedLaws.{agrees-split}
+use Rattle.reference.proofs.WrittenSound.{loaded, start-written}
+use Rattle.screens.specs.Statements.{leftBy}
+use Rattle.claims.specs.Histories.{StartsAfterLoad}
+
+module _ (b : Reference) (x : Inputs) where
+  after-load : Conforms (step b (load x)) Answer.accepted
+      → (refusal (stageOf b) (load x) ≡ 0)
+      × (after (step b (load x)) Answer.accepted ≡ referenceOf State.loaded (sizesIn x) none)
+  unfolding step decided proceed
+  after-load e = go (refusal (stageOf b) (load x)) e
+    where
+      go : (n : ℕ) → Conforms (decided n b (load x)) Answer.accepted
+          → (n ≡ 0) × (after (decided n b (load x)) Answer.accepted ≡ referenceOf State.loaded (sizesIn x) none)
+      go zero e = (refl, refl)
+      go (suc n) e = absurd (true-false (sym (ap isRefused e)))
+
+left-is : (x : Inputs) → leftBy x ≡ loaded x
+unfolding loaded
+left-is x = refl
+
+pub starts-after-load : {R : Type 0} (fresh : R) (Step : R → Call → Answer → R → Type 0) → Demand3 fresh Step
+    → StartsAfterLoad fresh Step
+unfolding phase mayStart loaded
+starts-after-load fresh Step D cs xs x vs bs a ds ys l ok h =
+    let b : Reference = referenceAt newReference cs xs in
+    let A = agrees-split newReference cs (load x ∷ start (leftBy x) vs bs ∷ ds) xs (Answer.accepted ∷ a ∷ ys) l
+    (D _ _ h) in
+    let L = after-load b x (A .0) in
+    let C : Conforms (step (referenceOf State.loaded (sizesIn x) none) (start (leftBy x) vs bs)) a =
+    subst (λ (k : Reference). Conforms (step k (start (leftBy x) vs bs)) a) (L .1) (A .1 .0) in
+    subst (λ k. Conforms k a) (start-written (stageOf b) x State.loaded none vs bs (L .0) refl ok) C
