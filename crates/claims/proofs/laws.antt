@@ -2,8 +2,9 @@ pub mod ByteAnswers
 pub mod RefusalLaws
 pub mod LoadTables
 pub mod LoadedBytes
-pub mod StartAfterLoad
+pub mod StartLaws
 pub mod SupersededForms
+pub mod ReorderedLaws
 pub mod ReadsAlikeLaws
 pub mod QuestionEnds
 pub mod LeftOpenLaws

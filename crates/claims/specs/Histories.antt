@@ -3,6 +3,9 @@
 --
 -- Superseded fresh Step == the calls as listed and the calls with each question's list superseded have the same answers
 -- AnyOrder fresh Step == so have any two lists of calls that are the same once each question's list is superseded
+-- ReorderedCall c d == call d is call c, or a Start with the same list without repeats in another order
+-- Reordered cs ds == each call of the list ds is so of the list cs
+-- OrderFree fresh Step == then the two lists of calls have the same answers
 -- ReadsAlike fresh Step == from one Read on every Read is answered as it was, until a call replaces the last answer
 -- StartsAfterLoad fresh Step == a Start right after an accepted Load, given what that Load left, is accepted with any
 --   list that passes 12 to 14, and answers its number of parts
@@ -21,9 +24,10 @@
 -- `AllSame` and `toTheEnd`: reference/specs/Finished; `ownCalls`, `ownAnswers`: screens/specs/Projection.
 use Prim.Native.Nat.{ℕ, _<_}
 use mathlib.Core.Path.{_≡_}
-use mathlib.Core.Bool.{Bool, false}
-use mathlib.Core.List.{List, [], _∷_, _++_}
+use mathlib.Core.Bool.{Bool, true, false}
+use mathlib.Core.List.{List, [], _∷_, _++_, zip, List·Permᴰ}
 use lib.ListN.{length}
+use Rattle.list_laws.specs.Tests.{distinct}
 use Rattle.formats.specs.Checks.{firstNo, listChecks}
 use Rattle.formats.specs.Inputs.{Inputs, sizesIn}
 use Rattle.runs.specs.declared.answer.Running.{Running}
@@ -45,16 +49,33 @@ use Rattle.screens.specs.Statements.{leftBy}
 
 -- ---- one session
 
+pub data ReorderedCall : Call → Call → Type 0 where
+  same : {c : Call} → ReorderedCall c c
+  permuted : {x : Inputs} {vs bs ws ls : List ℕ} → length vs ≡ length bs → length ws ≡ length ls
+      → List·Permᴰ (zip vs bs) (zip ws ls) → distinct vs ≡ true → ReorderedCall (start x vs bs) (start x ws ls)
+
+abbrev pub Reordered : List Call → List Call → Type 0
+Reordered [] [] = Unit {0}
+Reordered [] (d ∷ ds) = ⊥
+Reordered (c ∷ cs) [] = ⊥
+Reordered (c ∷ cs) (d ∷ ds) = ReorderedCall c d × Reordered cs ds
+
 module _ {R : Type 0} (fresh : R) (Step : R → Call → Answer → R → Type 0) where
   -- "with repeats the answer is that of the list after superseding"
   abbrev pub Superseded : Type 0
   Superseded = (cs : List Call) (xs ys : List Answer) → History Step fresh cs xs
       → History Step fresh (supersededCalls freshRecord cs) ys → ys ≡ xs
 
-  -- "A list without repeats may still be given in any order"
+  -- "A list without repeats may still be given in any order; with repeats the answer is that of the list after
+  -- superseding"
   abbrev pub AnyOrder : Type 0
   AnyOrder = (cs ds : List Call) (xs ys : List Answer)
       → supersededCalls freshRecord cs ≡ supersededCalls freshRecord ds
+      → History Step fresh cs xs → History Step fresh ds ys → xs ≡ ys
+
+  -- "A list without repeats may still be given in any order"
+  abbrev pub OrderFree : Type 0
+  OrderFree = (cs ds : List Call) (xs ys : List Answer) → Reordered cs ds
       → History Step fresh cs xs → History Step fresh ds ys → xs ≡ ys
 
   -- "The last finished answer survives a Cancel": cs and xs are the calls and answers before the first Read, a its

@@ -7,6 +7,7 @@
 --   that are not laid out as a record
 -- RefusedOnBytes b c a b′ == the same of record bytes, whatever they hold
 -- Start18 r x vs bs a == the answer a of a Start on record r is 18 exactly where document 02, S-11, has it
+-- StartSettled b x vs bs == the reference model's reply to a Start: the number of parts, or the first no's number
 --
 -- Which checks a call asks, and in which order, is `refusalOn` (crate session, Promises), by `refusal` (crate model,
 -- Refusals). An advance's 18 is not among them: it is left to the program.
@@ -17,10 +18,12 @@ use mathlib.Core.List.{List}
 use mathlib.Core.Logic.{_↔_}
 use Rattle.formats.specs.Checks.{firstNo}
 use Rattle.formats.specs.Inputs.{Inputs}
-use Rattle.model.specs.Calls.{Call, advance, Answer, refused, isRefused}
-use Rattle.model.specs.Refusals.{checksBefore18}
+use Rattle.model.specs.Calls.{Call, start, advance, Answer, refused, parts, isRefused}
+use Rattle.model.specs.Refusals.{checksBefore18, refusal}
 use Rattle.model.specs.Sound.{Sound}
 use Rattle.model.specs.Model.{Record, stageOf}
+use Rattle.reference.specs.Reference.{Reference, State, settled, inState, partCount, asked, step}
+use Rattle.reference.specs.Reference as reference
 use Rattle.session.specs.declared.state.Session.{Session}
 use Rattle.session.specs.Promises.{refusalOn}
 use Rattle.records.specs.Layout.{decoded, laidOut}
@@ -49,3 +52,13 @@ RefusedOnBytes b c a b′ = RefusedBy (refusalFor b c) b c a b′
 abbrev pub Start18 : Record → Inputs → List ℕ → List ℕ → Answer → Type 0
 Start18 r x vs bs a =
     (a ≡ refused 18) ↔ ((firstNo (checksBefore18 (stageOf r) x vs bs) ≡ 0) × (Sound (r .sizes) x → ⊥))
+
+-- "Nothing about Start is left to the program then": its reply does not ask for the program's answer
+pub record StartSettled (b : Reference) (x : Inputs) (vs bs : List ℕ) : Type 0 where
+  -- "Start: running, count 0, clean if sound; clean, it tells the number of parts."
+  pub accepted : refusal (reference.stageOf b) (start x vs bs) ≡ 0
+      → step b (start x vs bs)
+      ≡ settled (parts (partCount (asked x vs bs))) (inState b (State.running (asked x vs bs)))
+  -- "the first such number; the book stays"
+  pub denied : (n : ℕ) → refusal (reference.stageOf b) (start x vs bs) ≡ suc n
+      → step b (start x vs bs) ≡ settled (refused (suc n)) b

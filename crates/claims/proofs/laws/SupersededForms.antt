@@ -30,7 +30,7 @@ use Rattle.capi_session.specs.DecodedAnswers.{Exports}
 use Rattle.capi_session.proofs.ExportedRefines.{Held, exported-refines, fresh-held}
 use Rattle.claims.specs.Histories.{Superseded, AnyOrder}
 
-history-answers : (r : Record) (cs : List Call) (xs : List Answer) → History Does r cs xs → xs ≡ answersOf r cs
+pub history-answers : (r : Record) (cs : List Call) (xs : List Answer) → History Does r cs xs → xs ≡ answersOf r cs
 unfolding answersOf
 history-answers r [] [] done = refl
 history-answers r (c ∷ cs) (x ∷ xs) (call {r′ = s} d h) =

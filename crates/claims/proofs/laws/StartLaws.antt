@@ -1,22 +1,31 @@
--- A Start that is given what an accepted Load left is accepted with any list that passes 12 to 14, in every history.
+-- Start against the reference model.
+--     start-settled         its answer is settled: the number of parts, or the first no's number
 --     after-load            an accepted Load leaves the reference model loaded, with the sizes of what it was given
---     starts-after-load     so it is of any form of the calls that has demand 3
+--     starts-after-load     so a Start given what that Load left is accepted, in any form of the calls that has demand 3
 use Prim.Native.Nat.{ℕ, zero, suc}
-use mathlib.Core.Path.{_≡_, refl, sym, ap, subst}
+use mathlib.Core.Path.{_≡_, refl, sym, ap, _∙_, subst}
 use mathlib.Core.List.{List, [], _∷_, _++_}
 use mathlib.Core.Option.{none}
 use Rattle.list_laws.proofs.BoolLaws.{true-false}
 use Rattle.formats.specs.Inputs.{Inputs, sizesIn}
 use Rattle.model.specs.Calls.{Call, load, start, Answer, isRefused, mayStart}
 use Rattle.model.specs.Refusals.{refusal}
-use Rattle.reference.specs.Reference.{Reference, State, stageOf, newReference, phase, step, decided, proceed}
+use Rattle.reference.specs.Reference.{Reference, State, stageOf, newReference, phase, step, decided, proceed, starting}
 use Rattle.reference.specs.Demand3.{Conforms, after, Demand3}
 use Rattle.reference.specs.Undisturbed.{referenceAt}
 use Rattle.reference.proofs.Simulation.{referenceOf}
 use Rattle.reference.proofs.UndisturbedLaws.{agrees-split}
 use Rattle.reference.proofs.WrittenSound.{loaded, start-written}
 use Rattle.screens.specs.Statements.{leftBy}
+use Rattle.claims.specs.Refusals.{StartSettled}
 use Rattle.claims.specs.Histories.{StartsAfterLoad}
+
+pub start-settled : (b : Reference) (x : Inputs) (vs bs : List ℕ) → StartSettled b x vs bs
+unfolding step decided proceed starting
+start-settled b x vs bs = record {
+  accepted = λ e. ap (λ (n : ℕ). decided n b (start x vs bs)) e;
+  denied = λ n e. ap (λ (m : ℕ). decided m b (start x vs bs)) e;
+}
 
 module _ (b : Reference) (x : Inputs) where
   after-load : Conforms (step b (load x)) Answer.accepted
@@ -29,10 +38,6 @@ module _ (b : Reference) (x : Inputs) where
           → (n ≡ 0) × (after (decided n b (load x)) Answer.accepted ≡ referenceOf State.loaded (sizesIn x) none)
       go zero e = (refl, refl)
       go (suc n) e = absurd (true-false (sym (ap isRefused e)))
-
-left-is : (x : Inputs) → leftBy x ≡ loaded x
-unfolding loaded
-left-is x = refl
 
 pub starts-after-load : {R : Type 0} (fresh : R) (Step : R → Call → Answer → R → Type 0) → Demand3 fresh Step
     → StartsAfterLoad fresh Step
