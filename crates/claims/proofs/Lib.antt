@@ -2,6 +2,8 @@ pub mod laws
 pub mod BrokenBytes
 pub mod QuestionForms
 pub mod Main
+pub mod Forms
+pub mod Session
 pub mod Lists
 pub mod Kept
 pub mod PassedOver
