@@ -10,4 +10,5 @@ pub mod PassedOver
 pub mod EightScreens
 pub mod Colours
 pub mod ColourSets
+pub mod Controls
 pub mod ProvedToo

@@ -1,5 +1,6 @@
--- Refusals of the eight screens' exported calls, on any bytes.
---     another-length, number-above-7    25 before everything else, and the run is as it was
+-- Refusals of the eight screens' calls: on any run of structs, and of the exported calls on any bytes.
+--     structs-another-length, structs-above-7, another-length, number-above-7    25 before everything else, and the run is
+--                                       as it was
 --     start-kept, read-kept, finished-kept   a refused call leaves each output parameter as it was
 --     deal-next-kept, load-next-kept    and so the screen to try first
 use Prim.Native.Nat.{ℕ, zero, suc, _<_}
@@ -11,28 +12,65 @@ use native.Mathlib.Omega.{arith}
 use native.Mathlib.Decide.{ℕ-discrete}
 use lib.Dec.{eqb, ltb}
 use lib.ListN.{length}
+use borrow.Author.Tests.{eq-eqb, ne-eqb}
 use Rattle.list_laws.proofs.BoolLaws.{true-false}
 use Rattle.formats.specs.Checks.{firstNo}
 use Rattle.formats.specs.Inputs.{Inputs}
 use Rattle.model.specs.Calls.{advance, Answer, refused, more, finished, parts, outcome, isRefused}
 use Rattle.model.specs.Calls as calls
 use Rattle.screens.specs.ScreenCalls.{ScreenCall, loadAll, startOn, cancelOn, readOn, deal, ScreenAnswer, one, deals}
-use Rattle.screens.specs.ScreenCalls.{answerIn, onePast, loadAllChecks, loadTarget, screen, nobody, dealTarget}
+use Rattle.screens.specs.ScreenCalls.{answerIn, refuses, onePast, loadAllChecks, loadTarget, screen, nobody, dealTarget}
 use Rattle.screens.specs.ScreenCalls.{nextRunning, numbered, target, turnAnswer}
 use Rattle.screens.specs.Turns.{numberAfter}
 use Rattle.screens.proofs.TargetLaws.{number-out}
+use Rattle.session.specs.declared.state.Session.{Session}
+use Rattle.screens.specs.in_place.OnStructs as on
+use Rattle.screens.specs.in_place.ScreensInPlace.{ScreenInPlace, does, reads}
 use Rattle.capi_session.specs.SessionExported.{answerFor, answerNumber, partsOf, finishedOf, answeredPlaces, Places}
 use Rattle.capi_session.specs.DecodedAnswers.{decodedDone, decodedStart, decodedRead}
 use Rattle.capi_screens.specs.RunLayout.{runLength, recordAt, runs, busy}
 use Rattle.capi_screens.specs.ScreensExported.{targetIn, answerOf, answerAllFor, ScreensStartExported}
 use Rattle.capi_screens.specs.ScreensExported.{ScreensDealExported, ScreensReadExported, ScreensLoadExported}
-use Rattle.capi_screens.specs.DecodedScreens.{decodedLoad, decodedDeal, ScreensExports, loads-all, starts-on, cancels-on}
-use Rattle.capi_screens.specs.DecodedScreens.{reads-on, deals-one}
+use Rattle.capi_screens.specs.DecodedScreens.{decodedLoad, decodedDeal, ScreensExports, loads-all, starts-on}
+use Rattle.capi_screens.specs.DecodedScreens.{cancels-on, reads-on, deals-one}
 use Rattle.capi_screens.proofs.ExportedLaws.{not-run-answer, answer-by}
 use Rattle.claims.specs.Histories.{Beyond}
 use Rattle.claims.proofs.laws.ByteAnswers.{refused-only}
 
--- ---- 25
+-- ---- 25, on structs
+
+structs-25 : (ss ss′ : List Session) (c : ScreenCall) (a : ScreenAnswer) → ScreenInPlace ss c a ss′
+    → on.answerAll ss c ≡ one (refused 25) → (a ≡ one (refused 25)) × (ss′ ≡ ss)
+unfolding answerIn
+structs-25 ss ss′ c a (does d) q = (d .tells ∙ q, d .unchanged (ap refuses (d .tells ∙ q)))
+structs-25 ss ss′ c a (reads i e) q = (e ∙ q, refl)
+
+pub structs-another-length : (ss ss′ : List Session) (c : ScreenCall) (a : ScreenAnswer) → ScreenInPlace ss c a ss′
+    → (length ss ≡ 8 → ⊥) → (a ≡ one (refused 25)) × (ss′ ≡ ss)
+unfolding on.answerAll
+structs-another-length ss ss′ c a d h = structs-25 ss ss′ c a d (rw (ne-eqb (length ss) 8 h))
+
+by-target : (ss : List Session) (c : ScreenCall) → length ss ≡ 8 → on.targetIn ss c ≡ nobody 25
+    → on.answerAll ss c ≡ one (refused 25)
+unfolding on.answerAll on.answerOf
+by-target ss c l e = rw (eq-eqb (length ss) 8 l) (ap (on.answerOf ss) e)
+
+structs-beyond : (ss : List Session) (c : ScreenCall) → Beyond c → on.targetIn ss c ≡ nobody 25
+unfolding on.targetIn target
+structs-beyond ss (loadAll x) h = absurd h
+structs-beyond ss (startOn i x vs bs) h = number-out i (screen i (calls.start x vs bs)) h
+structs-beyond ss (cancelOn i) h = number-out i (screen i calls.cancel) h
+structs-beyond ss (readOn i) h = number-out i (screen i calls.read) h
+structs-beyond ss (deal k x) h = number-out k (dealTarget (nextRunning (on.runs ss) k) x) h
+
+pub structs-above-7 : (ss ss′ : List Session) (c : ScreenCall) (a : ScreenAnswer) → ScreenInPlace ss c a ss′
+    → Beyond c → (a ≡ one (refused 25)) × (ss′ ≡ ss)
+structs-above-7 ss ss′ c a d h = elim (ℕ-discrete (length ss) 8) [
+  | yes l ↦ structs-25 ss ss′ c a d (by-target ss c l (structs-beyond ss c h))
+  | no l ↦ structs-another-length ss ss′ c a d l
+]
+
+-- ---- 25, on bytes
 
 beyond-answer : (b : List ℕ) (c : ScreenCall) → length b ≡ runLength → Beyond c → answerAllFor b c ≡ one (refused 25)
 unfolding targetIn target answerOf
