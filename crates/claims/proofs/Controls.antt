@@ -1,26 +1,25 @@
 -- Controls of the statements' words: a premise that can be met, and a wrong answer that is turned down.
---     undisturbed-met, refused-undisturbed, outcome-after    Undisturbed, OnlyOutcomeAfter
+--     undisturbed-met, refused-undisturbed, cancel-disturbs, outcome-after    Undisturbed, OnlyOutcomeAfter
 --     last-answer, no-answer, as-anew            AnswerLasts, NoAnswerYet, SameButReads
 --     few-parts                                  Few
 --     to-the-end-met                             ToTheEnd
 --     reordered-met, superseded-met              Reordered, and the premise of AnyOrder
---     tables-met, blank-tables, excess-kept, refused-tables    TablesAfterLoadCall and TablesAfterLoad
---     unnumbered, wrong-number, not-kept         RefusedBy
+--     tables-met, blank-tables, refused-tables, refused-tables-by-value    TablesAfterLoadCall and TablesAfterLoad
+--     wrong-number, not-kept, no-18              RefusedBy
 --     handed-met, handed-number, handed-refused  HandedOn
 --     until-turn, twice-between, again-after     until, in TurnsApart and BetweenTurns
 --     beyond-met, not-beyond                     Beyond
--- The words of demand 3 have theirs in reference/proofs/Controls and LastControls, those of S-8 in screens/proofs/Sample.
-use Prim.Native.Nat.{ℕ, zero, suc, _*_, _-_, _≤_, _<_}
-use mathlib.Core.Path.{_≡_, refl, sym, ap, _∙_}
+-- The words of demand 3 have theirs in reference/proofs/Controls and LastControls, S-8's in screens/proofs/Sample.
+use Prim.Native.Nat.{ℕ}
+use mathlib.Core.Path.{_≡_, refl, sym, ap}
 use mathlib.Core.Bool.{Bool, true, false}
 use mathlib.Core.List.{List, [], _∷_, _++_, zip, zipWith, List·Permᴰ, List·Permᴰ·swap}
 use native.Mathlib.Omega.{arith}
-use lib.Dec.{eqb}
-use lib.ListN.{length, getD}
+use lib.ListN.{getD}
 use Rattle.list_laws.specs.Tests.{holds, distinct}
 use Rattle.list_laws.proofs.BoolLaws.{true-false}
 use Rattle.formats.specs.Inputs.{Inputs, Sizes}
-use Rattle.model.specs.Calls.{Call, load, start, advance, cancel, read, Answer, refused, parts, more, finished, Outcome}
+use Rattle.model.specs.Calls.{Call, load, start, advance, cancel, read, Answer, refused, more, finished, Outcome}
 use Rattle.model.specs.Calls.{outcome, outcomeAnswer}
 use Rattle.model.specs.Model.{freshRecord, Does}
 use Rattle.reference.specs.Undisturbed.{Undisturbed, UndisturbedBy, OnlyOutcomeAfter}
@@ -30,12 +29,12 @@ use Rattle.reference.specs.Superseding.{supersededCalls}
 use Rattle.reference.proofs.Ceilings.{Few}
 use Rattle.reference.proofs.AgreementTestLaws.{history-of}
 use Rattle.reference.proofs.Sample.{computing, loadA, inputsA}
-use Rattle.screens.specs.ScreenCalls.{ScreenCall, loadAll, startOn, cancelOn, readOn, deal, ScreenAnswer, one, deals}
+use Rattle.screens.specs.ScreenCalls.{loadAll, cancelOn, readOn, deal, ScreenAnswer, one, deals}
 use Rattle.screens.specs.Turns.{HandedOn, until}
 use Rattle.screens.proofs.Sample as sample
 use Rattle.claims.specs.Refusals.{RefusedBy}
 use Rattle.claims.specs.Lent.{TablesAfterLoad, TablesAfterLoadCall}
-use Rattle.claims.specs.Histories.{ReorderedCall, same, permuted, Reordered, ToTheEnd, Beyond}
+use Rattle.claims.specs.Histories.{same, permuted, Reordered, ToTheEnd, Beyond}
 
 -- ---- Undisturbed
 
@@ -103,16 +102,17 @@ to-the-end-met = record {
 
 -- ---- Reordered, and the premise of AnyOrder: 0→0 2→0 and 2→0 0→0
 
-two-orders : (u v : ℕ) → List·Permᴰ (zip (u ∷ v ∷ []) (u ∷ u ∷ [])) (zip (v ∷ u ∷ []) (u ∷ u ∷ []))
+two-orders : (u v b : ℕ) → List·Permᴰ (zip (u ∷ v ∷ []) (b ∷ b ∷ [])) (zip (v ∷ u ∷ []) (b ∷ b ∷ []))
 unfolding zip zipWith
-two-orders u v = List·Permᴰ·swap refl refl
+two-orders u v b = List·Permᴰ·swap refl refl
 
 reordered-met : (x y : Inputs) → Reordered (load x ∷ start y (0 ∷ 2 ∷ []) (0 ∷ 0 ∷ []) ∷ read ∷ [])
     (load x ∷ start y (2 ∷ 0 ∷ []) (0 ∷ 0 ∷ []) ∷ read ∷ [])
 unfolding distinct holds
-reordered-met x y = (same, (permuted refl refl (two-orders 0 2) refl, (same, tt)))
+reordered-met x y = (same, (permuted refl refl (two-orders 0 2 0) refl, (same, tt)))
 
-superseded-met : supersededCalls freshRecord (load loadA ∷ start inputsA (0 ∷ 2 ∷ []) (0 ∷ 0 ∷ []) ∷ advance inputsA ∷ [])
+superseded-met :
+    supersededCalls freshRecord (load loadA ∷ start inputsA (0 ∷ 2 ∷ []) (0 ∷ 0 ∷ []) ∷ advance inputsA ∷ [])
     ≡ supersededCalls freshRecord (load loadA ∷ start inputsA (2 ∷ 0 ∷ []) (0 ∷ 0 ∷ []) ∷ advance inputsA ∷ [])
 unfolding computing supersededCalls loadA inputsA
 superseded-met = refl

@@ -181,8 +181,8 @@ between-turns-on-structs = structs-hold .between-turns
 between-turns-on-bytes : say.BetweenTurns freshRun ScreensExports
 between-turns-on-bytes = bytes-hold .between-turns
 
--- ---- "While plan, rules and tables are as Load left them" every deal with a screen running is accepted; how Load leaves
--- them: tables-after-load-..
+-- ---- "While plan, rules and tables are as Load left them" every deal with a screen running is accepted; how Load
+-- leaves them: tables-after-load-..
 
 deal-taken-on-structs : say.DealTaken eightSessions ScreenInPlace
 deal-taken-on-structs = structs-hold .deal-taken

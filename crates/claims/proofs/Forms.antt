@@ -1,8 +1,8 @@
--- Demands 1 and 2, and what Load leaves in the tables, of the calls by value and in place. The same on record bytes: Main.
+-- Demands 1 and 2, and what Load leaves in the tables, of the calls by value and in place. On record bytes: Main.
 --     refusals, refusals-in-place               demand 1
 --     start-18, start-18-in-place               document 02, S-11
 --     undisturbed-by-value, undisturbed-in-place   demand 2, of a question that Start accepted
---     tables-after-load                         demand 3's last sentence: load and load in place have one promise, LoadDone
+--     tables-after-load                         demand 3's last sentence; load by value and in place promise LoadDone
 use Prim.Native.Nat.{ℕ}
 use mathlib.Core.Path.{_≡_}
 use mathlib.Core.Bool.{true}
@@ -31,8 +31,8 @@ refusals = refusal.refused-in-order
 refusals-in-place : (s s′ : Session) (c : Call) (a : Answer) → CallInPlace s c a s′ → RefusedInOrder s c a s′
 refusals-in-place = refusal.refused-in-place
 
--- ---- "give 18 at its old place exactly when the tables aren't what the build writes from that plan and those rules, or
--- when these no longer pass 2 to 10 or name another N, S or K than the record"
+-- ---- "give 18 at its old place exactly when the tables aren't what the build writes from that plan and those rules,
+-- or when these no longer pass 2 to 10 or name another N, S or K than the record"
 
 start-18 : (s s′ : Session) (x : Inputs) (vs bs : List ℕ) (a : Answer) → CallByValue s (start x vs bs) a s′
     → valid s ≡ true → Start18 (recordOf s) x vs bs a

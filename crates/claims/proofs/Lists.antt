@@ -3,8 +3,10 @@
 --     lay-tied, lay-numbers, lay-lists, lay-refused     what the exported call whatif_lay_over returns
 --     changed-by, repeats-..                    a list with repeats is as good as its superseded form
 --     left-out, left, as-before, fewer-parts, either-way    changes that change nothing
---     associative, empty, itself, swapped       the laws of laying over; associative-call .. swapped-call with its numbers
---     associative-calls, empty-below-call, empty-above-call, itself-calls, swapped-calls    of what the exported call returns
+--     associative, empty, itself, swapped       the laws of laying over
+--     associative-call, empty-call, itself-call, swapped-call    with its numbers
+--     associative-calls, empty-below-calls, empty-above-calls, itself-calls, swapped-calls    of what exported calls
+--                                               return
 --     twice-changed, still-a-plan               plans
 --     on-a-changed-plan, over-by-value, over-in-place, over-on-bytes    questions
 -- Where each word of a statement is defined: README, *Reading order*; docs/NAMES.md.
@@ -127,8 +129,8 @@ repeats-on-record-bytes = superseded-exported
 
 -- ---- S-5
 
--- "A listed node whose label equals the plan's is left out of W from now on, after superseding.": what is not left has the
--- label that it had
+-- "A listed node whose label equals the plan's is left out of W from now on, after superseding.": what is not left has
+-- the label that it had
 left-out : (ls vs bs : List ℕ) (v : ℕ) → holds v (differing ls vs bs) ≡ false
     → getD (changed ls vs bs) v 0 ≡ getD ls v 0
 left-out = unlisted-same
@@ -138,8 +140,8 @@ left : (ls vs bs : List ℕ) (v : ℕ) → length vs ≡ length bs → v < lengt
     → holds v (differing ls vs bs) ≡ differs ls vs bs v
 left = differing-is
 
--- "On tables as built the answer is as before": the last part, the plan's root, has the state that it has with all listed
--- nodes in W
+-- "On tables as built the answer is as before": the last part, the plan's root, has the state that it has with all
+-- listed nodes in W
 as-before : (z : Sizes) (q : Question) → Built z (q .inputs) → stateTableBuilt z (q .inputs) ≡ true
     → lastState (partsOf (givenBy z q (q .inputs)) (rootsOf q)) 0
     ≡ lastState (partsOf (givenBy z q (q .inputs)) (roots (planTree (q .inputs .plan)) (q .nodes))) 0
@@ -160,8 +162,8 @@ either-way = links-either-way
 
 -- ---- S-12
 
--- "laying over is associative, the empty list on either side gives the other's superseded form in rising node number, and
--- so does a list over itself, and two lists that share no node may be swapped"
+-- "laying over is associative, the empty list on either side gives the other's superseded form in rising node number,
+-- and so does a list over itself, and two lists that share no node may be swapped"
 associative : (a b c : List Entry) → laidOver (laidOver a b) c ≡ laidOver a (laidOver b c)
 associative = over-assoc
 
@@ -194,8 +196,8 @@ swapped-call : (lvs lbs uvs ubs : List ℕ) → Apart (entries lvs lbs) (entries
     → (layNumber lvs lbs uvs ubs ≡ layNumber uvs ubs lvs lbs) × (laid lvs lbs uvs ubs ≡ laid uvs ubs lvs lbs)
 swapped-call = lay-swap
 
--- and of what accepted calls of whatif_lay_over hand back: b over a is handed back and c laid over that, c over b is handed
--- back and that laid over a
+-- and of what accepted calls of whatif_lay_over hand back: b over a is handed back and c laid over that, c over b is
+-- handed back and that laid over a
 associative-calls : (avs abs bvs bbs cvs cbs n₁ l₁ n₂ l₂ n₃ l₃ n₄ l₄ : List ℕ) (c₁ c₂ c₃ c₄ : ℕ)
     (n₁′ l₁′ n₂′ l₂′ n₃′ l₃′ n₄′ l₄′ : List ℕ) (c₁′ c₂′ c₃′ c₄′ : ℕ)
     → LayExported avs abs bvs bbs n₁ l₁ c₁ 0 n₁′ l₁′ c₁′
@@ -206,13 +208,13 @@ associative-calls : (avs abs bvs bbs cvs cbs n₁ l₁ n₂ l₂ n₃ l₃ n₄ 
 associative-calls = ties.told-associative
 
 module _ (vs bs nodes labels : List ℕ) (count : ℕ) (nodes′ labels′ : List ℕ) (count′ : ℕ) where
-  empty-below-call : LayExported [] [] vs bs nodes labels count 0 nodes′ labels′ count′
+  empty-below-calls : LayExported [] [] vs bs nodes labels count 0 nodes′ labels′ count′
       → HandsBack (superseded (entries vs bs)) nodes′ labels′ count′
-  empty-below-call = calls.empty-below vs bs nodes labels count nodes′ labels′ count′
+  empty-below-calls = calls.empty-below vs bs nodes labels count nodes′ labels′ count′
 
-  empty-above-call : LayExported vs bs [] [] nodes labels count 0 nodes′ labels′ count′
+  empty-above-calls : LayExported vs bs [] [] nodes labels count 0 nodes′ labels′ count′
       → HandsBack (superseded (entries vs bs)) nodes′ labels′ count′
-  empty-above-call = calls.empty-above vs bs nodes labels count nodes′ labels′ count′
+  empty-above-calls = calls.empty-above vs bs nodes labels count nodes′ labels′ count′
 
   itself-calls : LayExported vs bs vs bs nodes labels count 0 nodes′ labels′ count′
       → HandsBack (superseded (entries vs bs)) nodes′ labels′ count′
@@ -236,9 +238,9 @@ still-a-plan : (p r vs bs : List ℕ) → firstNo (ruleTableChecks p r) ≡ 0
     → firstNo (ruleTableChecks (changedPlan p vs bs) r) ≡ 0
 still-a-plan = plan-passes
 
--- "a question with the second on the plan changed by the first has the state of a question with the second laid over the
--- first on the plan itself, each on tables built from its own plan and left alone": whatever came of the two questions,
--- CleanOutcomes is what finished-answers (Main) and undisturbed-.. (Forms) give of each
+-- "a question with the second on the plan changed by the first has the state of a question with the second laid over
+-- the first on the plan itself, each on tables built from its own plan and left alone": whatever came of the two
+-- questions, CleanOutcomes is what finished-answers (Main) and undisturbed-.. (Forms) give of each
 on-a-changed-plan : (x y : Inputs) (vs bs us cs : List ℕ) → PlanPasses (x .plan)
     → y .plan ≡ changedPlan (x .plan) vs bs → y .rules ≡ x .rules
     → (n m : ℕ) (ys zs : List Answer) → CleanOutcomes y us cs n ys

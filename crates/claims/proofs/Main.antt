@@ -3,7 +3,7 @@
 --     finished-answers, run-at-each-node, branch-answers           demand 2
 --     by-value, in-place, on-record-bytes, start-is-settled, tables-after-load-on-bytes   demand 3
 --     sample                                                       the sample clearance
--- Forms: demands 1 and 2 of the calls by value and in place. Session: further statements about the session. The requests:
+-- Forms: demands 1 and 2 of the calls by value and in place. Session: further statements about the session. Requests:
 -- Kept (S-1), Lists (S-4, S-5, S-12), PassedOver (S-7), EightScreens (S-8). What 01 wants proved besides: ProvedToo.
 -- Where each word of a statement is defined: README, *Reading order*; docs/NAMES.md.
 use Prim.Native.Nat.{ℕ, suc, _<_}
@@ -45,9 +45,9 @@ use Rattle.claims.proofs.laws.RefusalLaws as refusal
 use Rattle.claims.proofs.laws.StartLaws.{start-settled}
 use Rattle.claims.proofs.laws.LoadTables.{tables-on-bytes}
 
--- ---- demand 1. "Malformed input, short buffers, table values that lead outside and calls that the session's state forbids
--- are refused first, by number, in a fixed order; a refusal alters nothing; everything else is accepted; every call ends."
--- That every call ends, and has no premise, is part of each function's proof.
+-- ---- demand 1. "Malformed input, short buffers, table values that lead outside and calls that the session's state
+-- forbids are refused first, by number, in a fixed order; a refusal alters nothing; everything else is accepted; every
+-- call ends." That every call ends, and has no premise, is part of each function's proof.
 
 refusals-on-bytes : (b b′ : List ℕ) (c : Call) (a : Answer) → Exports b c a b′ → RefusedOnBytes b c a b′
 refusals-on-bytes = refusal.refused-on-bytes
@@ -62,8 +62,8 @@ builds-refuse : (n : ℕ) (nodes states x y : List ℕ) (a : Building) (x′ y�
     → BuildDone n nodes states x y a x′ y′ → (buildingNumber a ≡ n) × ((m : ℕ) → n ≡ suc m → (x′ ≡ x) × (y′ ≡ y))
 builds-refuse = refusal.build-refused
 
--- ---- demand 2. "On tables as built, a finished answer is the automaton's run on the changed plan (source document 002); a
--- branch answer is the word automaton's."
+-- ---- demand 2. "On tables as built, a finished answer is the automaton's run on the changed plan (source document
+-- 002); a branch answer is the word automaton's."
 
 -- of a question that Start accepted, undisturbed: Read's outcome is the fresh run's, after as many advances as parts
 finished-answers : QuestionsAnswered (replicate 983 0) Exports
@@ -73,14 +73,14 @@ finished-answers = exported-questions
 run-at-each-node : (A : Automaton) (t : Tree) (v : ℕ) → v < size t → labelAt (run A t) v ≡ state A (sub t v)
 run-at-each-node = run-at
 
--- document 02, S-9: "Demand 2 holds for each on its own word": with the upper node's label, and from below the upper node
+-- document 02, S-9: "Demand 2 holds for each on its own word": with the upper node's label, and from below that node
 branch-answers : (reading : Reading) (p r nodeTable stateTable : List ℕ) → BranchBuilt p r nodeTable stateTable
     → (u l : ℕ) → u < nodeCount p → l < nodeCount p → AtOrBelow (planTree p) u l
     → askAnswer reading p r nodeTable stateTable u l ≡ wordAnswer reading p r u l
 branch-answers = ask-built
 
--- ---- demand 3. "For every list of the five calls, refused ones included, whatever is lent, the answers are those of the
--- panel book."
+-- ---- demand 3. "For every list of the five calls, refused ones included, whatever is lent, the answers are those of
+-- the panel book."
 
 by-value : Demand3 freshSession CallByValue
 by-value = by-value-demand-3
@@ -100,8 +100,8 @@ tables-after-load-on-bytes : (b b′ : List ℕ) (x : Inputs) (r : ℕ) (nodeTab
     → LoadExported b x r b′ nodeTable′ stateTable′ → TablesAfterLoadCall x r nodeTable′ stateTable′
 tables-after-load-on-bytes = tables-on-bytes
 
--- ---- "Sample clearance, to be proved as one table": state, yes or no, parts, links and nodes passed over (02, S-7), or the
--- refusal's number
+-- ---- "Sample clearance, to be proved as one table": state, yes or no, parts, links, nodes passed over (02, S-7), or
+-- the refusal's number
 
 sample :
     row [] [] 1 ∷ row (0 ∷ []) (0 ∷ []) 2 ∷ row (0 ∷ 2 ∷ []) (0 ∷ 0 ∷ []) 3 ∷ row (0 ∷ 3 ∷ []) (0 ∷ 1 ∷ []) 5

@@ -1,7 +1,7 @@
 -- Further statements about the session's calls, in the three forms of the calls where they are about lists of calls.
 --     start-place, advance-place, read-places     a refused call leaves every output parameter as it was
---     load-leaves-bytes, cancel-leaves-bytes      the record's bytes after a Load and after a Cancel
---     starts-by-value, starts-in-place, starts-on-bytes    a Start right after a Load is accepted
+--     load-leaves, load-leaves-in-place, load-leaves-bytes     the record after a Load; after a Cancel: Kept
+--     load-leaves-inputs, starts-by-value, starts-in-place, starts-on-bytes    a Start right after a Load is accepted
 --     reordered-.., order-.., permuted-superseded, refused-reordered, order    the order of a list makes no difference
 --     fresh-run-ends, fresh-run-..                Read's state and yes or no are those of the call fresh_run
 --     each-part, links-of-parts                   the ceiling on the links, for each part
@@ -15,7 +15,7 @@ use lib.ListN.{length, replicate}
 use Rattle.list_laws.specs.Tests.{holds, distinct}
 use Rattle.trees.specs.Tree.{Tree, height}
 use Rattle.trees.specs.Climb.{digits}
-use Rattle.formats.specs.Inputs.{Inputs, sizesIn}
+use Rattle.formats.specs.Inputs.{Inputs, inputsOf, sizesIn}
 use Rattle.runs.specs.declared.answer.Running.{Running}
 use Rattle.runs.specs.declared.answer.Running.the-variants.{Ended}
 use Rattle.runs.specs.FreshRun.{FreshRunDone}
@@ -24,9 +24,9 @@ use Rattle.questions.specs.ready.Members.{roots}
 use Rattle.questions.specs.ready.Parts.{partLinks, questionLinks, sumOf}
 use Rattle.questions.proofs.ready.PartsRun.{Members}
 use Rattle.questions.proofs.ready.ListLaws.{list-members}
-use Rattle.model.specs.Calls.{Call, load, start, cancel, Answer}
+use Rattle.model.specs.Calls.{Call, load, start, Answer}
 use Rattle.model.specs.Refusals.{Stage, refusal}
-use Rattle.model.specs.Model.{loadedRecord, withLast}
+use Rattle.model.specs.Model.{loadedRecord}
 use Rattle.model.specs.LeftOpen.{LeftOpen}
 use Rattle.reference.specs.Reference.{freshAnswer, asked}
 use Rattle.reference.proofs.Ceilings.{part-links}
@@ -43,11 +43,13 @@ use Rattle.records.specs.Layout.{encoded, decoded, validBytes, Bytes}
 use Rattle.capi_session.specs.SessionExported.{Places, StartExported, AdvanceExported, ReadExported}
 use Rattle.capi_session.specs.DecodedAnswers.{Exports}
 use Rattle.capi_session.proofs.ExportedTheorem.{exported-demand-3}
+use Rattle.screens.specs.Statements.{leftBy}
+use Rattle.claims.specs.Lent.{Written}
 use Rattle.claims.specs.Histories.{AnyOrder, OrderFree, StartsAfterLoad, answerState, answerYes, FreshRunAgrees}
 use Rattle.claims.proofs.QuestionForms.{finishes-by-value, finishes-in-place, finishes-on-bytes}
 use Rattle.claims.proofs.laws.ByteAnswers.{start-kept, advance-kept, read-kept}
-use Rattle.claims.proofs.laws.LoadedBytes.{after-load, after-cancel}
-use Rattle.claims.proofs.laws.StartLaws.{starts-after-load}
+use Rattle.claims.proofs.laws.LoadedRecords as records
+use Rattle.claims.proofs.laws.StartLaws.{left-is, starts-after-load}
 use Rattle.claims.proofs.laws.SupersededForms.{any-order-by-value, any-order-in-place, any-order-on-bytes}
 use Rattle.claims.proofs.laws.SupersededForms as order-laws
 use Rattle.claims.proofs.laws.ReorderedLaws as reordered
@@ -69,18 +71,27 @@ read-places : (b : List ℕ) (r : ℕ) (before after : Places) → ReadExported 
     → after ≡ before
 read-places = read-kept
 
--- ---- "Load and Cancel end in loaded with the record exactly as after a first Load of that plan.": whatever the bytes
--- were. Of Cancel document 02, S-1: "it equals it in all but that answer"
+-- ---- "Load and Cancel end in loaded with the record exactly as after a first Load of that plan.": whatever the record
+-- was. Of Cancel, "in all but that answer", it is cancel-leaves (Kept)
+
+load-leaves : (s s′ : Session) (x : Inputs) (a : Answer) → CallByValue s (load x) a s′ → a ≡ Answer.accepted
+    → s′ ≡ sessionOf (loadedRecord (sizesIn x))
+load-leaves = records.value-after-load
+
+load-leaves-in-place : (s s′ : Session) (x : Inputs) (a : Answer) → CallInPlace s (load x) a s′ → a ≡ Answer.accepted
+    → s′ ≡ sessionOf (loadedRecord (sizesIn x))
+load-leaves-in-place = records.place-after-load
 
 load-leaves-bytes : (b b′ : List ℕ) (x : Inputs) (a : Answer) → Exports b (load x) a b′ → a ≡ Answer.accepted
     → b′ ≡ encoded (sessionOf (loadedRecord (sizesIn x)))
-load-leaves-bytes = after-load
+load-leaves-bytes = records.after-load
 
-cancel-leaves-bytes : (b b′ : List ℕ) (a : Answer) → Exports b cancel a b′ → a ≡ Answer.accepted
-    → b′ ≡ encoded (sessionOf (withLast (recordOf (decoded b) .last) (loadedRecord (recordOf (decoded b) .sizes))))
-cancel-leaves-bytes = after-cancel
+-- ---- "it may lend what Load wrote"
 
--- ---- "it may lend what Load wrote": what that is, is tables-after-load-on-bytes (Main) and tables-after-load (Forms)
+-- by tables-after-load-on-bytes (Main) and tables-after-load (Forms) an accepted Load leaves the buffers Written
+load-leaves-inputs : (x : Inputs) (nodeTable′ stateTable′ : List ℕ) → Written x nodeTable′ stateTable′
+    → inputsOf (x .plan) (x .rules) nodeTable′ stateTable′ ≡ leftBy x
+load-leaves-inputs = left-is
 
 starts-by-value : StartsAfterLoad freshSession CallByValue
 starts-by-value = starts-after-load freshSession CallByValue by-value-demand-3
@@ -146,8 +157,8 @@ fresh-run-in-place = ends.fresh-run-agrees freshSession CallInPlace in-place-dem
 fresh-run-on-bytes : FreshRunAgrees (replicate 983 0) Exports
 fresh-run-on-bytes = ends.fresh-run-agrees (replicate 983 0) Exports exported-demand-3 finishes-on-bytes
 
--- ---- "at most three times the binary digits of the plan's greatest depth for each part": of each part of a question with
--- the nodes vs in W
+-- ---- "Only those climbs count as links.": at most three for each binary digit of the plan's greatest depth, of each
+-- part of a question with the nodes vs in W
 
 each-part : (t : Tree) (vs : List ℕ) (v : ℕ) → List·Memᴰ v (roots t vs)
     → partLinks t (roots t vs) v ≤ 3 * digits (height t)
@@ -161,8 +172,8 @@ links-of-parts : (t : Tree) (ms : List ℕ) → questionLinks t ms ≡ sumOf (pa
 unfolding questionLinks
 links-of-parts t ms = refl
 
--- ---- "For anything left to the program, its name and its properties stand in the contract": an advance's state, links and
--- nodes passed over, and its 18, of the record after it as the caller has it
+-- ---- "For anything left to the program, its name and its properties stand in the contract": an advance's state, links
+-- and nodes passed over, and its 18, of the record after it as the caller has it
 
 left-open-by-value : (s s′ : Session) (c : Call) (a : Answer) → Shaped s → valid s ≡ true → CallByValue s c a s′
     → LeftOpen (recordOf s) c a (recordOf s′)

@@ -1,7 +1,7 @@
 pub mod ByteAnswers
 pub mod RefusalLaws
 pub mod LoadTables
-pub mod LoadedBytes
+pub mod LoadedRecords
 pub mod StartLaws
 pub mod SupersededForms
 pub mod ReorderedLaws

@@ -1,5 +1,5 @@
 -- Statements about every list of calls, for any form of the calls: `Step` is a call's contract, `fresh` the record, or
--- the run of eight, before the first call.
+-- the run of eight records, before the first call.
 --
 -- Superseded fresh Step == the calls as listed and the calls with each question's list superseded have the same answers
 -- AnyOrder fresh Step == so have any two lists of calls that are the same once each question's list is superseded
@@ -7,18 +7,14 @@
 -- Reordered cs ds == each call of the list ds is so of the list cs
 -- OrderFree fresh Step == then the two lists of calls have the same answers
 -- ReadsAlike fresh Step == from one Read on every Read is answered as it was, until a call replaces the last answer
--- StartsAfterLoad fresh Step == a Start right after an accepted Load, given what that Load left, is accepted with any
---   list that passes 12 to 14, and answers its number of parts
+-- StartsAfterLoad fresh Step == a Start given what an accepted Load just left is accepted if its list passes 12 to 14
 -- answerState a, answerYes a == the state, and the yes or no, of a Read's answer; 0 and no of any other
--- ToTheEnd fresh Step x vs bs n ys == a question with the list vs, bs on the inputs x was accepted with n parts and carried
---   to its end: n advances given the same and a Read, answered ys
--- FreshRunAgrees fresh Step == the Read of such a question has the state, and the yes or no, of the call fresh_run on
---   Start's plan, rules and list
--- StateOver fresh Step == two such questions, the second list on the plan changed by the first and the second list laid
---   over the first on the plan itself, have the same state, and the same yes or no
+-- ToTheEnd fresh Step x vs bs n ys == a question on inputs x, accepted with n parts; ys answer n advances and a Read
+-- FreshRunAgrees fresh Step == such a Read has the state and the yes or no of fresh_run on Start's plan, rules and list
+-- StateOver fresh Step == two such questions, on a changed plan and with lists laid over, have one state
 -- Beyond c == a call of the screens that names a screen above 7, the one to try first included
 -- ScreenHistory fresh Step == what a screen is answered, in every list of calls of the eight, is a single session's
--- ScreenFinishes fresh Step == a question of a screen that is carried to its end, whatever the other screens do between
+-- ScreenFinishes fresh Step == a question of a screen, carried to its end, is answered as a single session's
 --
 -- What `supersededCalls` are: reference/specs/Superseding; `AnswerLasts`: reference/specs/Lasting; `advancesOf`,
 -- `AllSame` and `toTheEnd`: reference/specs/Finished; `ownCalls`, `ownAnswers`: screens/specs/Projection.
@@ -145,7 +141,7 @@ module _ {Run : Type 0} (fresh : Run) (Step : Run → ScreenCall → ScreenAnswe
   ScreenHistory = (i : ℕ) → i < 8 → (cs : List ScreenCall) (xs : List ScreenAnswer) → History Step fresh cs xs
       → History Does freshRecord (ownCalls i nobodyRuns cs xs) (ownAnswers i nobodyRuns cs xs)
 
-  -- of screen i: before and given are its calls and answers before a Start that answered n parts, given the inputs x; ws
+  -- of screen i: before and given are its calls and answers before a Start on the inputs x that answered n parts; ws
   -- are the inputs of its n turns after it, the same as x; ys are the answers of these and of the Read after them
   abbrev pub ScreenFinishes : Type 0
   ScreenFinishes = (i : ℕ) → i < 8 → (cs : List ScreenCall) (xs : List ScreenAnswer) → History Step fresh cs xs

@@ -1,6 +1,6 @@
 -- What calls leave in the buffers that their caller passes in: Load's two tables, and the lists of laying over.
 --
--- filled table entry == a buffer that held entry: the table at its front, behind it what it held
+-- filled table entry == what a buffer that held entry holds then: the table at its front, behind it what it held
 -- Unwritten x nodeTable′ stateTable′ == both buffers hold what they held
 -- Written x nodeTable′ stateTable′ == both hold the tables of the plan and the rules given, excess untouched
 -- TablesAfterLoad x denied nodeTable′ stateTable′ == the buffers after a Load given x, denied: whether it was refused

@@ -1,10 +1,8 @@
 -- Demand 1 as a property of one call.
 --
--- RefusedBy n before c a after == n is the number of call c's first failing check, 0 where none fails: the answer a and
---   what it leaves are that check's. A session, or the bytes of a record, is before and after the call
+-- RefusedBy n before c a after == call c is answered as its first failing check, number n or 0 for none, has it
 -- RefusedInOrder s c a s′ == the same of a session, by value or in place
--- refusalFor b c == the number of the first failing check of call c on record bytes b, 0 where none fails; 1 for bytes
---   that are not laid out as a record
+-- refusalFor b c == the number of call c's first failing check on record bytes b, or 0; 1 for bytes that are no record
 -- RefusedOnBytes b c a b′ == the same of record bytes, whatever they hold
 -- Start18 r x vs bs a == the answer a of a Start on record r is 18 exactly where document 02, S-11, has it
 -- StartSettled b x vs bs == the reference model's reply to a Start: the number of parts, or the first no's number
@@ -47,8 +45,8 @@ refusalFor b c = cond (laidOut b) (refusalOn (decoded b) c) 1
 abbrev pub RefusedOnBytes : List ℕ → Call → Answer → List ℕ → Type 0
 RefusedOnBytes b c a b′ = RefusedBy (refusalFor b c) b c a b′
 
--- "give 18 at its old place exactly when the tables aren't what the build writes from that plan and those rules, or when
--- these no longer pass 2 to 10 or name another N, S or K than the record"
+-- "give 18 at its old place exactly when the tables aren't what the build writes from that plan and those rules, or
+-- when these no longer pass 2 to 10 or name another N, S or K than the record"
 abbrev pub Start18 : Record → Inputs → List ℕ → List ℕ → Answer → Type 0
 Start18 r x vs bs a =
     (a ≡ refused 18) ↔ ((firstNo (checksBefore18 (stageOf r) x vs bs) ≡ 0) × (Sound (r .sizes) x → ⊥))

@@ -6,7 +6,7 @@ use mathlib.Core.Path.{_≡_, refl, sym, ap, _∙_, subst}
 use mathlib.Core.Bool.{true}
 use mathlib.Core.List.{List}
 use Rattle.list_laws.proofs.BoolLaws.{and-left}
-use Rattle.model.specs.Calls.{Call, load, start, advance, cancel, read, Answer}
+use Rattle.model.specs.Calls.{Call, advance, Answer}
 use Rattle.model.specs.Model.{Record, act}
 use Rattle.model.specs.LeftOpen.{AdvanceProperties, LeftOpen}
 use Rattle.session.specs.declared.state.Session.{Session}
@@ -14,8 +14,8 @@ use Rattle.session.specs.Records.{recordOf, valid}
 use Rattle.session.specs.inner.Shapes.{Shaped}
 use Rattle.session.specs.CallsByValue.{CallByValue, loads, starts, advances, cancels, reads}
 use Rattle.session.specs.in_place.CallsInPlace.{CallInPlace}
-use Rattle.session.proofs.Refine.{Seen, by-value-refines}
-use Rattle.records.specs.Layout.{encoded, decoded, laidOut, validBytes, Bytes}
+use Rattle.session.proofs.Refine.{by-value-refines}
+use Rattle.records.specs.Layout.{decoded, laidOut, validBytes, Bytes}
 use Rattle.records.proofs.Theorems.{decode-encode, encode-decode, decoded-valid, decoded-types}
 use Rattle.records.proofs.ValidTypes.{valid-types}
 use Rattle.capi_session.specs.DecodedAnswers as exported

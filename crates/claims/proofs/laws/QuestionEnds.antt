@@ -1,10 +1,10 @@
 -- Questions that are carried to their end: against the call fresh_run, and two of them against one another.
---     fresh-run-ends       on what an accepted Start was given, fresh_run answers the fresh answer's state and yes or no
+--     fresh-run-ends       on what an accepted Start was given, fresh_run has the fresh answer's state and yes or no
 --     fresh-run-agrees     so it does in any form of the calls
 --     state-over-ends      the second list on the plan changed by the first, and the second laid over the first
-use Prim.Native.Nat.{ℕ, zero, suc}
-use mathlib.Core.Path.{_≡_, refl, ap, ap₂, _∙_, subst}
-use mathlib.Core.List.{List, [], _∷_, _++_}
+use Prim.Native.Nat.{ℕ}
+use mathlib.Core.Path.{_≡_, ap, ap₂, _∙_}
+use mathlib.Core.List.{List, _∷_}
 use native.Mathlib.Omega.{arith}
 use Rattle.formats.specs.Plan.{nodeCount}
 use Rattle.formats.specs.Rules.{labelCount}
@@ -24,7 +24,7 @@ use Rattle.model.specs.Refusals.{Stage, refusal}
 use Rattle.model.specs.Sound.{Sound}
 use Rattle.model.proofs.ModelLaws.{start-list, start-sound}
 use Rattle.model.proofs.SoundLaws.{sound-yes}
-use Rattle.reference.specs.Reference.{Reference, newReference, stageOf, freshAnswer, asked}
+use Rattle.reference.specs.Reference.{newReference, stageOf, freshAnswer, asked}
 use Rattle.reference.specs.Undisturbed.{referenceAt}
 use Rattle.reference.specs.Demand3.{Demand3}
 use Rattle.reference.specs.Finished.{toTheEnd, QuestionsFinish}

@@ -1,5 +1,5 @@
--- From one Read on every Read is answered as it was, until a call replaces the last finished answer: of the model, so of
--- the three forms of the calls. A refused Read too: it stays refused until an advance finishes.
+-- From one Read on every Read is answered as it was, until a call replaces the last finished answer: of the model, so
+-- of the three forms of the calls. A refused Read too: it stays refused until an advance finishes.
 --     read-is       a Read answers the record's last finished answer, or is refused with 1
 --     kept          a call that does not replace it keeps it
 --     lasts         so it lasts over a list of calls
@@ -16,9 +16,9 @@ use Rattle.list_laws.proofs.BoolLaws.{true-false}
 use Rattle.tables.specs.declared.answers.Reached.{Reached}
 use Rattle.formats.specs.Checks.{firstNo}
 use Rattle.formats.specs.Inputs.{Inputs}
-use Rattle.model.specs.Calls.{Call, load, start, advance, cancel, read, Answer, refused, more, finished, Outcome, Phase}
+use Rattle.model.specs.Calls.{Call, load, start, advance, cancel, read, Answer, more, finished, Outcome, Phase}
 use Rattle.model.specs.Refusals.{refusal}
-use Rattle.model.specs.History.{History, done, call}
+use Rattle.model.specs.History.{History, call}
 use Rattle.model.specs.Model.{Record, Acted, acted, stageOf, freshRecord, Does, stepped, marksBy, advanceWith, partNext}
 use Rattle.model.specs.Model.{lastAnswer, proceeds, unless, act}
 use Rattle.reference.specs.Lasting.{ReadTells, replaces, AnswerLasts}
@@ -52,12 +52,14 @@ on-advance r x (some y) f = go (eqb (suc (length (r .states))) (length (r .roots
     yes : Bool
     yes = eqb (getD (marksBy (r .sizes) x) (y .state) 0) 1
 
-    go : (t : Bool)
-        → replaces (advance x)
-        (cond t (acted finished (stepped r Phase.answered y yes)) (acted more (stepped r Phase.running y false)) .answer)
-        ≡ false
-        → cond t (acted finished (stepped r Phase.answered y yes)) (acted more (stepped r Phase.running y false))
-        .record′ .last ≡ r .last
+    last : Acted
+    last = acted finished (stepped r Phase.answered y yes)
+
+    next : Acted
+    next = acted more (stepped r Phase.running y false)
+
+    go : (t : Bool) → replaces (advance x) (cond t last next .answer) ≡ false
+        → cond t last next .record′ .last ≡ r .last
     go true f = absurd (true-false f)
     go false f = refl
 
@@ -83,8 +85,8 @@ kept-after r r′ c a d f =
 
 -- ---- lists of calls
 
-lasts : (r : Record) (a : Answer) → a ≡ lastAnswer (r .last) → (es : List Call) (zs : List Answer) → History Does r es zs
-    → AnswerLasts a es zs
+lasts : (r : Record) (a : Answer) → a ≡ lastAnswer (r .last) → (es : List Call) (zs : List Answer)
+    → History Does r es zs → AnswerLasts a es zs
 lasts r a e [] zs h = tt
 lasts r a e (c ∷ es) (z ∷ zs) (call {r′} d h) = (
   one c d,

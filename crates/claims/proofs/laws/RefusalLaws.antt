@@ -1,7 +1,7 @@
 -- Demand 1, call by call, in the three forms of the calls.
 --     as-by-value         a call in place is the call by value on the record at entry
---     refused-in-order, refused-in-place, refused-on-bytes    each of the five calls refuses by its first failing check, and
---                         a refusal alters nothing
+--     refused-in-order, refused-in-place, refused-on-bytes    each of the five calls refuses by its first failing
+--                         check, and a refusal alters nothing
 --     start-refused-18, start-18-in-place, start-18-on-bytes   Start's 18, exactly where its other checks pass and the
 --                         inputs are not sound
 --     build-refused       a build's number is its first failing check's, and where one fails both buffers stay
@@ -23,11 +23,11 @@ use Rattle.model.specs.Calls.{Call, load, start, advance, cancel, read, Answer,
 use Rattle.model.specs.Calls.{isRefused, isSome, Phase}
 use Rattle.model.specs.Refusals.{refusal}
 use Rattle.model.proofs.SoundLaws.{start-18}
-use Rattle.model.specs.Model.{Record, Acted, acted, stageOf, marksBy, stepped, advanceWith, lastAnswer, proceeds, unless}
-use Rattle.model.specs.Model.{act}
+use Rattle.model.specs.Model.{Record, Acted, acted, stageOf, marksBy, stepped, advanceWith, lastAnswer, proceeds}
+use Rattle.model.specs.Model.{unless, act}
 use Rattle.session.specs.declared.state.Session.{Session}
 use Rattle.session.specs.Records.{recordOf, valid}
-use Rattle.session.specs.Promises.{answerOn, refusalOn, CallDone, LoadDone}
+use Rattle.session.specs.Promises.{answerOn, refusalOn, CallDone}
 use Rattle.session.specs.CallsByValue.{CallByValue, loads, starts, advances, cancels, reads}
 use Rattle.session.specs.in_place.CallsInPlace as in-place
 use Rattle.records.specs.Layout.{decoded, laidOut, validBytes}

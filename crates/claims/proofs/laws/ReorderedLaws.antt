@@ -3,20 +3,18 @@
 --     reordered-..       lists of calls, in the three forms
 use Prim.Native.Nat.{ℕ, zero, suc}
 use mathlib.Core.Path.{_≡_, refl, sym, ap, ap₂, _∙_}
-use mathlib.Core.Bool.{Bool, true, false, cond}
+use mathlib.Core.Bool.{Bool, true, cond}
 use mathlib.Core.List.{List, [], _∷_, zip, List·Permᴰ}
 use native.Mathlib.Decide.{ℕ-discrete}
-use lib.Dec.{eqb}
 use lib.ListN.{length, replicate}
 use borrow.Author.Tests.{eq-eqb}
 use Rattle.list_laws.specs.Tests.{distinct}
 use Rattle.formats.specs.Checks.{firstNo, listChecks}
 use Rattle.formats.specs.Inputs.{Inputs}
 use Rattle.runs.proofs.OrderLaws.{list-order}
-use Rattle.changes.specs.Entries.{Entry, entries, nodesListed, labelsListed, superseded}
+use Rattle.changes.specs.Entries.{Entry, nodesListed, labelsListed}
 use Rattle.model.specs.Calls.{Call, start, Answer}
 use Rattle.model.specs.Refusals.{refusal}
-use Rattle.model.specs.History.{History}
 use Rattle.model.specs.Model.{Record, Acted, acted, stageOf, freshRecord, Does, unless, act}
 use Rattle.model.proofs.ModelLaws.{start-list}
 use Rattle.reference.specs.AgreementTest.{answersOf}
@@ -62,7 +60,8 @@ module _ (s : Record) (x : Inputs) (vs bs ws ls : List ℕ) (g : length vs ≡ l
       let n : ℕ = firstNo (listChecks (s .sizes .n) (s .sizes .k) vs bs) in
       let m : ℕ = firstNo (listChecks (s .sizes .n) (s .sizes .k) ws ls) in
       let f : m ≡ 0 = sym (list-order vs bs ws ls g h d (s .sizes .n) (s .sizes .k)) ∙ e in
-      ap (λ (b : Bool). cond b (start x (supersededNodes vs bs) (supersededLabels vs bs)) (start x vs bs)) (eq-eqb n 0 e)
+      ap (λ (b : Bool). cond b (start x (supersededNodes vs bs) (supersededLabels vs bs)) (start x vs bs))
+      (eq-eqb n 0 e)
       ∙ ap (λ (l : List Entry). start x (nodesListed l) (labelsListed l)) (permuted-superseded vs bs ws ls g h d u)
       ∙ sym (ap (λ (b : Bool). cond b (start x (supersededNodes ws ls) (supersededLabels ws ls)) (start x ws ls))
       (eq-eqb m 0 f))

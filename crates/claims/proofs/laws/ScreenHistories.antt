@@ -1,8 +1,7 @@
 -- What a screen is answered is a history of a single session, in both forms of the screens' calls.
 --     screen-on-structs, screen-on-bytes    so it is
 --     screen-finishes    so a question of a screen that is carried to its end is answered as one of a single session
-use Prim.Native.Nat.{ℕ, _<_}
-use mathlib.Core.Path.{_≡_, subst}
+use mathlib.Core.Path.{subst}
 use mathlib.Core.List.{List, [], _∷_, _++_}
 use Rattle.model.specs.Calls.{Call, start, read, Answer}
 use Rattle.model.specs.History.{History}
@@ -27,15 +26,18 @@ of-records = fresh-alone
 
 pub screen-on-structs : ScreenHistory eightSessions ScreenInPlace
 screen-on-structs i h cs xs k =
-    of-records i h cs xs (refines ScreenInPlace DoesAll SeenAll run-refines eightSessions eightFresh cs xs eight-seen k)
+    of-records i h cs xs
+    (refines ScreenInPlace DoesAll SeenAll run-refines eightSessions eightFresh cs xs eight-seen k)
 
 pub screen-on-bytes : ScreenHistory freshRun ScreensExports
 screen-on-bytes i h cs xs k =
-    of-records i h cs xs (refines ScreensExports DoesAll HeldAll screens-refine freshRun eightFresh cs xs fresh-run-held k)
+    of-records i h cs xs
+    (refines ScreensExports DoesAll HeldAll screens-refine freshRun eightFresh cs xs fresh-run-held k)
 
 pub screen-finishes : {Run : Type 0} (fresh : Run) (Step : Run → ScreenCall → ScreenAnswer → Run → Type 0)
     → ScreenHistory fresh Step → ScreenFinishes fresh Step
 screen-finishes fresh Step S i h cs xs k before given x vs bs n ws ys c a l m s =
     questions-finish layers before given x vs bs n ws ys l m s
-    (subst (λ (z : List Answer). History Does freshRecord (before ++ (start x vs bs ∷ (advancesOf ws ++ (read ∷ [])))) z) a
+    (subst
+    (λ (z : List Answer). History Does freshRecord (before ++ (start x vs bs ∷ (advancesOf ws ++ (read ∷ [])))) z) a
     (subst (λ (z : List Call). History Does freshRecord z (ownAnswers i nobodyRuns cs xs)) c (S i h cs xs k)))

@@ -1,9 +1,9 @@
 -- Refusals of the eight screens' calls: on any run of structs, and of the exported calls on any bytes.
---     structs-another-length, structs-above-7, another-length, number-above-7    25 before everything else, and the run is
---                                       as it was
+--     structs-another-length, structs-above-7, another-length, number-above-7    25 before everything else, and the run
+--                                       is as it was
 --     start-kept, read-kept, finished-kept   a refused call leaves each output parameter as it was
 --     deal-next-kept, load-next-kept    and so the screen to try first
-use Prim.Native.Nat.{ℕ, zero, suc, _<_}
+use Prim.Native.Nat.{ℕ, zero, suc}
 use mathlib.Core.Path.{_≡_, refl, ap, _∙_}
 use mathlib.Core.Bool.{Bool, true, false, cond}
 use mathlib.Core.List.{List}

@@ -1,13 +1,15 @@
 -- Start against the reference model.
 --     start-settled         its answer is settled: the number of parts, or the first no's number
 --     after-load            an accepted Load leaves the reference model loaded, with the sizes of what it was given
---     starts-after-load     so a Start given what that Load left is accepted, in any form of the calls that has demand 3
+--     starts-after-load     so a Start given what that Load left is accepted, in any form that has demand 3
+--     left-is               what that is, by the tables after the Load (specs/Lent)
 use Prim.Native.Nat.{ℕ, zero, suc}
-use mathlib.Core.Path.{_≡_, refl, sym, ap, _∙_, subst}
-use mathlib.Core.List.{List, [], _∷_, _++_}
+use mathlib.Core.Path.{_≡_, refl, sym, ap, ap₂, subst}
+use mathlib.Core.List.{List, _∷_}
 use mathlib.Core.Option.{none}
 use Rattle.list_laws.proofs.BoolLaws.{true-false}
-use Rattle.formats.specs.Inputs.{Inputs, sizesIn}
+use Rattle.formats.specs.Inputs.{Inputs, inputsOf, sizesIn}
+use Rattle.tables.specs.Answers.{written}
 use Rattle.model.specs.Calls.{Call, load, start, Answer, isRefused, mayStart}
 use Rattle.model.specs.Refusals.{refusal}
 use Rattle.reference.specs.Reference.{Reference, State, stageOf, newReference, phase, step, decided, proceed, starting}
@@ -18,6 +20,7 @@ use Rattle.reference.proofs.UndisturbedLaws.{agrees-split}
 use Rattle.reference.proofs.WrittenSound.{loaded, start-written}
 use Rattle.screens.specs.Statements.{leftBy}
 use Rattle.claims.specs.Refusals.{StartSettled}
+use Rattle.claims.specs.Lent.{Written}
 use Rattle.claims.specs.Histories.{StartsAfterLoad}
 
 pub start-settled : (b : Reference) (x : Inputs) (vs bs : List ℕ) → StartSettled b x vs bs
@@ -38,6 +41,11 @@ module _ (b : Reference) (x : Inputs) where
           → (n ≡ 0) × (after (decided n b (load x)) Answer.accepted ≡ referenceOf State.loaded (sizesIn x) none)
       go zero e = (refl, refl)
       go (suc n) e = absurd (true-false (sym (ap isRefused e)))
+
+pub left-is : (x : Inputs) (nodeTable′ stateTable′ : List ℕ) → Written x nodeTable′ stateTable′
+    → inputsOf (x .plan) (x .rules) nodeTable′ stateTable′ ≡ leftBy x
+unfolding written
+left-is x nodeTable′ stateTable′ w = ap₂ (inputsOf (x .plan) (x .rules)) (w .0) (w .1)
 
 pub starts-after-load : {R : Type 0} (fresh : R) (Step : R → Call → Answer → R → Type 0) → Demand3 fresh Step
     → StartsAfterLoad fresh Step

@@ -4,14 +4,13 @@
 --     superseded-..       of the calls as listed, and with each question's list superseded
 --     any-order-..        of two lists of calls whose lists supersede to the same
 --     permuted-superseded   two lists without repeats, one the other in another order, do
-use mathlib.Core.Path.{_≡_, refl, sym, ap, ap₂, _∙_, subst}
 use Prim.Native.Nat.{ℕ}
+use mathlib.Core.Path.{_≡_, refl, sym, ap, ap₂, _∙_}
 use mathlib.Core.Bool.{true}
-use mathlib.Core.Option.{orElse}
 use mathlib.Core.List.{List, [], _∷_, zip, List·Permᴰ}
 use lib.ListN.{length, replicate}
 use Rattle.list_laws.specs.Tests.{distinct}
-use Rattle.changes.specs.Entries.{Entry, entries, lastLabel, superseded, laidOver, RisingNodes}
+use Rattle.changes.specs.Entries.{entries, superseded}
 use Rattle.changes.proofs.LaidLaws.{superseded-only, superseded-rises, superseded-labels}
 use Rattle.model.specs.Calls.{Call, Answer}
 use Rattle.model.specs.History.{History, done, call}
@@ -65,11 +64,12 @@ superseded-exported cs xs ys h k =
 
 any-order-model : AnyOrder freshRecord Does
 any-order-model cs ds xs ys e h k =
-    history-answers freshRecord cs xs h ∙ sym (superseding-tells cs) ∙ ap (answersOf freshRecord) e ∙ superseding-tells ds
-    ∙ sym (history-answers freshRecord ds ys k)
+    history-answers freshRecord cs xs h ∙ sym (superseding-tells cs) ∙ ap (answersOf freshRecord) e
+    ∙ superseding-tells ds ∙ sym (history-answers freshRecord ds ys k)
 
 pub any-order-by-value : AnyOrder freshSession CallByValue
-any-order-by-value cs ds xs ys e h k = any-order-model cs ds xs ys e (by-value-history cs xs h) (by-value-history ds ys k)
+any-order-by-value cs ds xs ys e h k =
+    any-order-model cs ds xs ys e (by-value-history cs xs h) (by-value-history ds ys k)
 
 pub any-order-in-place : AnyOrder freshSession CallInPlace
 any-order-in-place cs ds xs ys e h k =
