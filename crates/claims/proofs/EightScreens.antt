@@ -16,16 +16,16 @@
 -- `ScreenHistory`, `ScreenFinishes`, `Beyond`: specs/Histories; the tables after a Load: specs/Lent.
 use Prim.Native.Nat.{ℕ, _<_}
 use mathlib.Core.Path.{_≡_}
-use mathlib.Core.Bool.{true}
+use mathlib.Core.Bool.{true, false}
 use mathlib.Core.List.{List}
 use mathlib.Core.Option.{some}
-use lib.ListN.{length}
+use lib.ListN.{length, replicate}
 use Rattle.list_laws.specs.Rows.{rows}
 use Rattle.formats.specs.Inputs.{Inputs, sizesIn}
 use Rattle.model.specs.Model.{loadedRecord}
 use Rattle.model.specs.Calls.{refused}
-use Rattle.screens.specs.ScreenCalls.{ScreenCall, startOn, cancelOn, readOn, deal, ScreenAnswer, one, answerIn}
-use Rattle.screens.specs.ScreenCalls.{refuses, nextRunning, Another}
+use Rattle.screens.specs.ScreenCalls.{ScreenCall, loadAll, startOn, cancelOn, readOn, deal, ScreenAnswer, one, loads}
+use Rattle.screens.specs.ScreenCalls.{answerIn, refuses, nextRunning, Another}
 use Rattle.screens.specs.EightReferences.{ScreensDemand3}
 use Rattle.screens.specs.Statements as say
 use Rattle.screens.proofs.Theorems as of-records
@@ -50,6 +50,7 @@ use Rattle.claims.specs.Lent.{TablesAfterLoad, TablesAfterLoadCall}
 use Rattle.claims.specs.Histories.{Beyond, ScreenHistory, ScreenFinishes}
 use Rattle.claims.proofs.laws.LoadTables.{tables-on-structs, tables-of-screens}
 use Rattle.claims.proofs.laws.ScreenRefusals as refusal
+use Rattle.claims.proofs.laws.ScreenLoads.{structs-wait, structs-clear}
 use Rattle.claims.proofs.laws.ScreenHistories as history
 
 -- ---- "A screen number above 7, the one to try first included, or a run of another length, gives 25, before everything
@@ -201,11 +202,19 @@ load-clears-on-records = of-records.load-clears
 load-empties-on-records : say.LoadEmpties
 load-empties-on-records = of-records.load-empties
 
--- on any run of 8 x 983 bytes: a screen that runs, or whose bytes are no record
+-- on any run of eight structs, or of 8 x 983 bytes: a screen that runs, or is no record
+load-waits-on-structs : (ss ss′ : List Session) (x : Inputs) (a : ScreenAnswer) → ScreenDone ss (loadAll x) a ss′
+    → (i : ℕ) → length ss ≡ 8 → i < 8 → on.busy ss i ≡ true → (a ≡ one (refused 1)) × (ss′ ≡ ss)
+load-waits-on-structs = structs-wait
+
 load-waits-on-bytes : (b b′ : List ℕ) (x : Inputs) (r k₀ k₁ : ℕ) (nodeTable′ stateTable′ : List ℕ)
     → ScreensLoadExported b x r b′ nodeTable′ stateTable′ k₀ k₁ → (i : ℕ) → length b ≡ runLength → i < 8
     → busy b i ≡ true → (r ≡ 1) × (b′ ≡ b)
 load-waits-on-bytes = load-waits
+
+load-clears-on-structs : (ss ss′ : List Session) (x : Inputs) (a : ScreenAnswer) → ScreenDone ss (loadAll x) a ss′
+    → refuses a ≡ false → (a ≡ loads 0) × (ss′ ≡ replicate 8 (sessionOf (loadedRecord (sizesIn x))))
+load-clears-on-structs = structs-clear
 
 load-clears-on-bytes : (b b′ : List ℕ) (x : Inputs) (r k₀ k₁ : ℕ) (nodeTable′ stateTable′ : List ℕ)
     → ScreensLoadExported b x r b′ nodeTable′ stateTable′ k₀ k₁ → r ≡ 0

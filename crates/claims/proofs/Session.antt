@@ -1,7 +1,8 @@
 -- Further statements about the session's calls, in the three forms of the calls where they are about lists of calls.
 --     start-place, advance-place, read-places     a refused call leaves every output parameter as it was
 --     load-leaves, load-leaves-in-place, load-leaves-bytes     the record after a Load; after a Cancel: Kept
---     load-leaves-inputs, starts-by-value, starts-in-place, starts-on-bytes    a Start right after a Load is accepted
+--     load-leaves-inputs, load-then-start, starts-by-value, starts-in-place, starts-on-bytes    a Start right after a
+--                                                 Load is accepted
 --     reordered-.., order-.., permuted-superseded, refused-reordered, order    the order of a list makes no difference
 --     fresh-run-ends, fresh-run-..                Read's state and yes or no are those of the call fresh_run
 --     each-part, links-of-parts                   the ceiling on the links, for each part
@@ -15,6 +16,7 @@ use lib.ListN.{length, replicate}
 use Rattle.list_laws.specs.Tests.{holds, distinct}
 use Rattle.trees.specs.Tree.{Tree, height}
 use Rattle.trees.specs.Climb.{digits}
+use Rattle.formats.specs.Checks.{firstNo, listChecks}
 use Rattle.formats.specs.Inputs.{Inputs, inputsOf, sizesIn}
 use Rattle.runs.specs.declared.answer.Running.{Running}
 use Rattle.runs.specs.declared.answer.Running.the-variants.{Ended}
@@ -24,11 +26,11 @@ use Rattle.questions.specs.ready.Members.{roots}
 use Rattle.questions.specs.ready.Parts.{partLinks, questionLinks, sumOf}
 use Rattle.questions.proofs.ready.PartsRun.{Members}
 use Rattle.questions.proofs.ready.ListLaws.{list-members}
-use Rattle.model.specs.Calls.{Call, load, start, Answer}
+use Rattle.model.specs.Calls.{Call, load, start, Answer, parts}
 use Rattle.model.specs.Refusals.{Stage, refusal}
 use Rattle.model.specs.Model.{loadedRecord}
 use Rattle.model.specs.LeftOpen.{LeftOpen}
-use Rattle.reference.specs.Reference.{freshAnswer, asked}
+use Rattle.reference.specs.Reference.{partCount, freshAnswer, asked}
 use Rattle.reference.proofs.Ceilings.{part-links}
 use Rattle.reference.proofs.OrderLaws.{start-order}
 use Rattle.reference.proofs.QuestionTheorem.{CleanOutcomes, outcome-order}
@@ -40,7 +42,7 @@ use Rattle.session.proofs.SessionTheorem.{by-value-demand-3}
 use Rattle.session.specs.in_place.CallsInPlace.{CallInPlace}
 use Rattle.session.proofs.in_place.InPlaceTheorem.{in-place-demand-3}
 use Rattle.records.specs.Layout.{encoded, decoded, validBytes, Bytes}
-use Rattle.capi_session.specs.SessionExported.{Places, StartExported, AdvanceExported, ReadExported}
+use Rattle.capi_session.specs.SessionExported.{Places, LoadExported, StartExported, AdvanceExported, ReadExported}
 use Rattle.capi_session.specs.DecodedAnswers.{Exports}
 use Rattle.capi_session.proofs.ExportedTheorem.{exported-demand-3}
 use Rattle.screens.specs.Statements.{leftBy}
@@ -50,6 +52,7 @@ use Rattle.claims.proofs.QuestionForms.{finishes-by-value, finishes-in-
 use Rattle.claims.proofs.laws.ByteAnswers.{start-kept, advance-kept, read-kept}
 use Rattle.claims.proofs.laws.LoadedRecords as records
 use Rattle.claims.proofs.laws.StartLaws.{left-is, starts-after-load}
+use Rattle.claims.proofs.laws.LoadThenStart as two-calls
 use Rattle.claims.proofs.laws.SupersededForms.{any-order-by-value, any-order-in-place, any-order-on-bytes}
 use Rattle.claims.proofs.laws.SupersededForms as order-laws
 use Rattle.claims.proofs.laws.ReorderedLaws as reordered
@@ -93,6 +96,14 @@ load-leaves-inputs : (x : Inputs) (nodeTable′ stateTable′ : List ℕ) → Wr
     → inputsOf (x .plan) (x .rules) nodeTable′ stateTable′ ≡ leftBy x
 load-leaves-inputs = left-is
 
+-- two exported calls in a row, on any record: an accepted Load, and a Start that is passed the buffers as it left them
+load-then-start : (b b′ b″ : List ℕ) (x : Inputs) (nodeTable′ stateTable′ vs bs : List ℕ) (a : Answer) → Bytes b
+    → LoadExported b x 0 b′ nodeTable′ stateTable′ → firstNo (listChecks (sizesIn x .n) (sizesIn x .k) vs bs) ≡ 0
+    → Exports b′ (start (inputsOf (x .plan) (x .rules) nodeTable′ stateTable′) vs bs) a b″
+    → a ≡ parts (partCount (asked (leftBy x) vs bs))
+load-then-start = two-calls.load-then-start
+
+-- and in every history
 starts-by-value : StartsAfterLoad freshSession CallByValue
 starts-by-value = starts-after-load freshSession CallByValue by-value-demand-3
 

@@ -11,3 +11,5 @@ pub mod LeftOpenLaws
 pub mod ScreenRefusals
 pub mod ScreenHistories
 pub mod LayCalls
+pub mod ScreenLoads
+pub mod LoadThenStart

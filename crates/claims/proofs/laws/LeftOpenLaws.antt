@@ -48,7 +48,7 @@ left-open-in-place s s′ c a shaped v d = left-open-by-value s s′ c a shaped 
 
 -- ---- record bytes
 
-held : (b : List ℕ) → validBytes b ≡ true → Bytes b → Held b (recordOf (decoded b))
+pub held : (b : List ℕ) → validBytes b ≡ true → Bytes b → Held b (recordOf (decoded b))
 unfolding validBytes
 held b v fits =
     let T = decoded-types b (laid-length b (and-left (laidOut b) (valid (decoded b)) v)) fits in
