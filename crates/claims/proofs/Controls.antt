@@ -8,6 +8,7 @@
 --     wrong-number, not-kept, no-18              RefusedBy
 --     handed-met, handed-number, handed-refused  HandedOn
 --     until-turn, twice-between, again-after     until, in TurnsApart and BetweenTurns
+--     screen-finishes-met                        the premises of ScreenFinishes
 --     beyond-met, not-beyond                     Beyond
 -- The words of demand 3 have theirs in reference/proofs/Controls and LastControls, S-8's in screens/proofs/Sample.
 use Prim.Native.Nat.{ℕ}
@@ -20,16 +21,19 @@ use Rattle.list_laws.specs.Tests.{holds, distinct}
 use Rattle.list_laws.proofs.BoolLaws.{true-false}
 use Rattle.formats.specs.Inputs.{Inputs, Sizes}
 use Rattle.model.specs.Calls.{Call, load, start, advance, cancel, read, Answer, refused, more, finished, Outcome}
-use Rattle.model.specs.Calls.{outcome, outcomeAnswer}
+use Rattle.model.specs.Calls.{parts, outcome, outcomeAnswer}
 use Rattle.model.specs.Model.{freshRecord, Does}
 use Rattle.reference.specs.Undisturbed.{Undisturbed, UndisturbedBy, OnlyOutcomeAfter}
-use Rattle.reference.specs.Finished.{advancesOf, AllSame}
+use Rattle.reference.specs.Finished.{advancesOf, AllSame, toTheEnd}
 use Rattle.reference.specs.Lasting.{AnswerLasts, NoAnswerYet, SameButReads}
 use Rattle.reference.specs.Superseding.{supersededCalls}
 use Rattle.reference.proofs.Ceilings.{Few}
 use Rattle.reference.proofs.AgreementTestLaws.{history-of}
 use Rattle.reference.proofs.Sample.{computing, loadA, inputsA}
-use Rattle.screens.specs.ScreenCalls.{loadAll, cancelOn, readOn, deal, ScreenAnswer, one, deals}
+use Rattle.screens.specs.ScreenCalls.{ScreenCall, loadAll, startOn, cancelOn, readOn, deal, ScreenAnswer, one, loads}
+use Rattle.screens.specs.ScreenCalls.{deals, nobodyRuns}
+use Rattle.screens.specs.EightRecords.{eightFresh}
+use Rattle.screens.specs.Projection.{ownCalls, ownAnswers}
 use Rattle.screens.specs.Turns.{HandedOn, until}
 use Rattle.screens.proofs.Sample as sample
 use Rattle.claims.specs.Refusals.{RefusedBy}
@@ -204,6 +208,27 @@ twice-between e = true-false (sym e)
 again-after : distinct (until 2 (0 ∷ 2 ∷ 0 ∷ [])) ≡ true
 unfolding until distinct holds
 again-after = refl
+
+-- ---- ScreenFinishes: two screens ask, and screen 5 is served twice and reads
+
+unfoldable screenCalls : List ScreenCall
+screenCalls =
+    loadAll loadA ∷ startOn 0 inputsA (0 ∷ []) (0 ∷ []) ∷ startOn 5 inputsA (4 ∷ []) (0 ∷ [])
+    ∷ deal 0 inputsA ∷ deal 1 inputsA ∷ deal 6 inputsA ∷ deal 1 inputsA ∷ readOn 5 ∷ []
+
+unfoldable screenAnswers : List ScreenAnswer
+screenAnswers =
+    loads 0 ∷ one (parts 2) ∷ one (parts 2)
+    ∷ deals 1 more ∷ deals 6 more ∷ deals 1 finished ∷ deals 6 finished ∷ one (outcomeAnswer 0 false 2 1 1) ∷ []
+
+screen-finishes-met :
+    (sample.answersAll eightFresh screenCalls ≡ screenAnswers)
+    × (ownCalls 5 nobodyRuns screenCalls screenAnswers
+    ≡ (load loadA ∷ []) ++ (start inputsA (4 ∷ []) (0 ∷ []) ∷ (advancesOf (inputsA ∷ inputsA ∷ []) ++ (read ∷ []))))
+    × (ownAnswers 5 nobodyRuns screenCalls screenAnswers
+    ≡ (Answer.accepted ∷ []) ++ (parts 2 ∷ toTheEnd 2 (outcomeAnswer 0 false 2 1 1)))
+unfolding sample.computingScreens screenCalls screenAnswers loadA inputsA
+screen-finishes-met = (refl, refl, refl)
 
 -- ---- Beyond
 
