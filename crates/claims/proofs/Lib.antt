@@ -7,6 +7,7 @@ pub mod QuestionForms
 pub mod Kept
 pub mod PassedOver
 pub mod EightScreens
+pub mod Calls
 pub mod Colours
 pub mod ColourSets
 pub mod ProvedToo
