@@ -8,6 +8,9 @@ pub mod Kept
 pub mod PassedOver
 pub mod EightScreens
 pub mod Calls
+pub mod Tables
+pub mod Branches
+pub mod Jumps
 pub mod Colours
 pub mod ColourSets
 pub mod ProvedToo

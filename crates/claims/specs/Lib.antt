@@ -1,3 +1,4 @@
 pub mod Refusals
 pub mod CallAnswers
+pub mod BranchAnswers
 pub mod ProvedToo
