@@ -11,6 +11,8 @@ pub mod Calls
 pub mod Tables
 pub mod Branches
 pub mod Jumps
+pub mod PlannerLaws
+pub mod Planner
 pub mod Colours
 pub mod ColourSets
 pub mod ProvedToo
