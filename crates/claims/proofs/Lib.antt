@@ -13,6 +13,7 @@ pub mod Branches
 pub mod Jumps
 pub mod PlannerLaws
 pub mod Planner
+pub mod Products
 pub mod Colours
 pub mod ColourSets
 pub mod ProvedToo

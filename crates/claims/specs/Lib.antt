@@ -2,4 +2,5 @@ pub mod Refusals
 pub mod CallAnswers
 pub mod BranchAnswers
 pub mod PlannerFiles
+pub mod ProductBuffers
 pub mod ProvedToo
