@@ -14,6 +14,7 @@ pub mod Jumps
 pub mod PlannerLaws
 pub mod Planner
 pub mod Products
+pub mod Choices
 pub mod Colours
 pub mod ColourSets
 pub mod ProvedToo
