@@ -15,6 +15,7 @@ pub mod PlannerLaws
 pub mod Planner
 pub mod Products
 pub mod Choices
+pub mod ColourLaws
 pub mod Colours
 pub mod ColourSets
 pub mod ProvedToo
