@@ -129,7 +129,7 @@ module _ (reading : Reading) (p r nodeTable stateTable : List ℕ) (u l n s₀ y
       }
 
   -- "lower node at or below upper? 16", by the size that was passed in
-  lent-16 : headedBuffersFit branchTables p r (length nodeTable) (length stateTable) ≡ true → u < nodeCount p
+  pub lent-16 : headedBuffersFit branchTables p r (length nodeTable) (length stateTable) ≡ true → u < nodeCount p
       → l < nodeCount p → (n ≡ 16) ↔ (isInSubtreeOn nodeTable u l ≡ false)
   lent-16 f hu hl =
       let w = E .done .not-below f hu hl in
@@ -170,7 +170,7 @@ module _ (reading : Reading) (p r nodeTable stateTable : List ℕ) (u l n s₀ y
         rw d (E .done .passed-most B)
 
     -- "nodes below N? 13"
-    not-in-plan : (nodeCount p ≤ u → n ≡ 13) × (nodeCount p ≤ l → n ≡ 13)
+    pub not-in-plan : (nodeCount p ≤ u → n ≡ 13) × (nodeCount p ≤ l → n ≡ 13)
     unfolding branchNumber
     not-in-plan =
         let f = fits-built p r nodeTable stateTable B in (
@@ -183,7 +183,7 @@ module _ (reading : Reading) (p r nodeTable stateTable : List ℕ) (u l n s₀ y
     module _ (hu : u < nodeCount p) (hl : l < nodeCount p) where
       -- "build and put a branch question (it tells state, yes or no, and the links of the climb from the lower node to
       -- the upper's depth)"; document 02, S-7: "Question and branch answers carry the total over their climbs"
-      answers : AtOrBelow (planTree p) u l → BranchAnswered reading p r u l n s₁ y₁ k₁ d₁
+      pub answers : AtOrBelow (planTree p) u l → BranchAnswered reading p r u l n s₁ y₁ k₁ d₁
       unfolding climbMoves
       answers A =
           let W : WordTold reading p r nodeTable stateTable u l n s₀ y₀ k₀ d₀ s₁ y₁ k₁ d₁ E =
