@@ -9,18 +9,18 @@
 --     few-links, few-passed          the ceilings on tables as built
 --     answers-lent, lent-16, cause-of-18, usable-never-18   what holds on any tables
 -- The numbers, and that a refused call alters nothing: Calls. Questions by colours: Colours.
-use Prim.Native.Nat.{ℕ, zero, suc, _-_, _*_, _≤_, _<_}
+use Prim.Native.Nat.{ℕ, zero, suc, _*_, _≤_, _<_}
 use mathlib.Core.Path.{_≡_, refl, sym, ap, _∙_, subst}
-use mathlib.Core.Bool.{Bool, true, false}
-use mathlib.Core.List.{List, [], _∷_, _++_}
+use mathlib.Core.Bool.{true, false}
+use mathlib.Core.List.{List, _∷_, _++_}
 use mathlib.Core.Logic.{_↔_}
 use mathlib.Core.Option.{Option, none, some}
 use native.Mathlib.Omega.{arith}
 use lib.ListN.{length, drop}
 use Rattle.trees.specs.Tree.{Tree, size, height, labelAt}
-use Rattle.trees.specs.Automaton.{WordAutomaton, wordRun}
-use Rattle.trees.specs.Numbering.{depth, ancestor, word, wordBelow, AtOrBelow}
-use Rattle.trees.specs.Climb.{Move, forestOf, climb, digits}
+use Rattle.trees.specs.Automaton.{wordRun}
+use Rattle.trees.specs.Numbering.{ancestor, word, wordBelow, AtOrBelow}
+use Rattle.trees.specs.Climb.{digits}
 use Rattle.trees.proofs.WordLaws.{word-below, wordBelow-same}
 use Rattle.trees.proofs.HeightLaws.{height-limit}
 use Rattle.trees.proofs.Digits.{digits-limit}
@@ -35,7 +35,7 @@ use Rattle.branches.specs.declared.answers.Reading.{Reading}
 use Rattle.branches.specs.declared.answers.Reading.the-variants.{WithUpper, BelowUpper}
 use Rattle.branches.specs.declared.answers.Branched.{Branched}
 use Rattle.branches.specs.declared.answers.Branching.{Branching}
-use Rattle.branches.specs.declared.answers.Branching.the-variants.{Answered, Refused}
+use Rattle.branches.specs.declared.answers.Branching.the-variants.{Answered}
 use Rattle.branches.specs.OutOfRange.{BranchOutOfRange}
 use Rattle.branches.specs.Question.{branchNumber, branchAnswer, branchOn, askNumber, askAnswer}
 use Rattle.branches.specs.Promise.{BranchKept, AnswerKept, BranchUsable, linksTold, passedTold}

@@ -134,7 +134,7 @@ unfolding branchBuildChecks branchTableChecks planChecks branchChecks
 branch-build-order p r nodeTable stateTable = refl
 
 -- "A branch question takes N, S and K from the lent headers: 17, also for a header cut short or a number outside its
--- limits; 13; lower node at or below upper? 16; 18", in the words of document 01 without its marks of type
+-- limits; 13; lower node at or below upper? 16; 18."
 branch-order : (reading : Reading) (p r nodeTable stateTable : List ℕ) (u l : ℕ)
     → numbersOf (askChecks reading p r nodeTable stateTable u l) ≡ 17 ∷ 13 ∷ 16 ∷ 18 ∷ []
 unfolding askChecks

@@ -7,8 +7,8 @@
 --     count-promised, count-cause-of-18, count-by-parts   what holds on any tables: the named result's properties, what 18
 --                                    means, and the counts part by part where the bytes are any below S
 -- The numbers 17, 12, 13, 15, 26, 18, 11 and that a refused call alters nothing: Calls.
-use Prim.Native.Nat.{ℕ, _-_, _^_, _≤_, _<_}
-use mathlib.Core.Path.{_≡_, refl, sym, ap, _∙_}
+use Prim.Native.Nat.{ℕ, _^_, _<_}
+use mathlib.Core.Path.{_≡_, sym, ap, _∙_}
 use mathlib.Core.Bool.{Bool, true, false}
 use mathlib.Core.List.{List, [], _∷_, _++_}
 use native.Mathlib.Decide.{ℕ-discrete}

@@ -3,14 +3,13 @@
 --     part-drops, part-sixty  the searches of a part are as many as its drops on the tree: at most 60 where it is
 --                             one-sided, none elsewhere
 --     all-drops               so of all parts together
-use Prim.Native.Nat.{ℕ, suc, _+_, _-_, _*_, _≤_, _<_}
-use mathlib.Core.Path.{_≡_, refl, sym, ap, ap₂, _∙_, subst}
+use Prim.Native.Nat.{ℕ, _+_, _-_, _*_, _≤_, _<_}
+use mathlib.Core.Path.{_≡_, refl, ap, ap₂, _∙_, subst}
 use mathlib.Core.Bool.{Bool, true, false, cond, not}
 use mathlib.Core.List.{List, [], _∷_, _++_, append-nil, List·Memᴰ, List·Memᴰ·head, List·Memᴰ·tail}
 use mathlib.Core.Option.{some}
 use native.Mathlib.Decide.{ℕ-discrete}
 use native.Mathlib.Omega.{arith}
-use lib.Dec.{eqb}
 use lib.ListN.{length, length-append}
 use borrow.Author.Tests.{eq-eqb, ne-eqb}
 use Rattle.trees.specs.Tree.{Tree, size, kindAt}
@@ -31,7 +30,6 @@ use Rattle.questions.proofs.ready.UnderLaws.{left-in, right-in}
 use Rattle.colours.specs.marks.Marks.{bit}
 use Rattle.colours.specs.Descents.{Descent}
 use Rattle.colours.proofs.DescentLaws.{AllLe}
-use Rattle.colours.proofs.WordLaws.{WordAnswer}
 use Rattle.colours.proofs.Theorems.{word-upper, word-below, links-limit, SetAnswer, set-targets}
 use Rattle.colour_questions.specs.branch.Promise.{wordDescent}
 use Rattle.colour_questions.specs.parts.Searches.{foundSearches, climbSearches, sideSearches, partSearches, gathered}

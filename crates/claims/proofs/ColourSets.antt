@@ -46,7 +46,7 @@ use Rattle.colours.proofs.Theorems.{SetAnswer, set-targets}
 use Rattle.colour_questions.specs.parts.Searches.{questionSearches}
 use Rattle.colour_questions.specs.parts.Sides.{SideFound}
 use Rattle.colour_questions.proofs.parts.SideLaws.{side-found}
-use Rattle.colour_tables.specs.rule.Build.{setColoursFit, ruleColourChecks, builtSetNumbers, builtSetBytes}
+use Rattle.colour_tables.specs.rule.Build.{setColoursFit, builtSetNumbers, builtSetBytes}
 use Rattle.colour_tables.proofs.rule.CheckAnswers.{states-refused, room-refused}
 use Rattle.colour_questions.specs.declared.rule.answers.RuleDescending.{RuleDescending}
 use Rattle.colour_questions.specs.rule.OutOfRange.{RuleColoursOutOfRange}

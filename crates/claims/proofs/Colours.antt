@@ -57,7 +57,7 @@ use Rattle.colours.proofs.DescentLaws.{AllLe}
 use Rattle.colours.proofs.WordLaws.{WordAnswer}
 use Rattle.colours.proofs.Theorems.{colours-one-each, colours-only-fall, drops-below-colours, word-upper, word-below}
 use Rattle.colours.proofs.Theorems.{links-limit}
-use Rattle.colour_tables.specs.branch.Build.{coloursFit, branchColourChecks, builtColourNumbers, builtCopies, BranchColoured}
+use Rattle.colour_tables.specs.branch.Build.{coloursFit, builtColourNumbers, builtCopies, BranchColoured}
 use Rattle.colour_tables.proofs.branch.BuildLaws.{room-no}
 use Rattle.colour_questions.specs.declared.branch.answers.Descending.{Descending}
 use Rattle.colour_questions.specs.branch.OutOfRange.{BranchColoursOutOfRange}

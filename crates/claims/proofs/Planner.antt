@@ -6,7 +6,7 @@
 --     place-of-node                each number of the places' table is that node's place
 -- The numbers 19, 20, 21 and that a refused call alters nothing: Calls. A file is bytes: `allBelow 256`.
 use Prim.Native.Nat.{ℕ, _+_, _-_, _*_, _≤_, _<_}
-use mathlib.Core.Path.{_≡_, refl, sym, ap, _∙_, subst}
+use mathlib.Core.Path.{_≡_, sym, ap, _∙_, subst}
 use mathlib.Core.Bool.{true}
 use mathlib.Core.List.{List, _++_}
 use mathlib.Core.Logic.{_↔_}
@@ -14,7 +14,7 @@ use mathlib.Core.Option.{none, some}
 use native.Mathlib.Omega.{arith}
 use lib.ListN.{length, getD, drop, List·getD-append}
 use Rattle.list_laws.specs.Tests.{allBelow}
-use Rattle.trees.specs.Tree.{Tree, size, labelAt}
+use Rattle.trees.specs.Tree.{size, labelAt}
 use Rattle.trees.specs.Numbering.{sub}
 use Rattle.formats.specs.Plan.{planLength, planTree}
 use Rattle.formats.proofs.PlanTrees.{tree-plan}
@@ -24,7 +24,7 @@ use Rattle.planner.specs.Conversion.{planOf, placesOf, fileOf, GoesHome}
 use Rattle.planner.specs.out.Out.{OutDone}
 use Rattle.planner.specs.home.Home.{HomeDone}
 use Rattle.planner.proofs.FileTrees.{file-tree}
-use Rattle.planner.proofs.ImageLaws.{size-image, unimage-image, length-places, place-item}
+use Rattle.planner.proofs.ImageLaws.{size-image, length-places, place-item}
 use Rattle.planner.proofs.CheckAnswers.{OutPasses, out-passes}
 use Rattle.planner.proofs.Theorems as planner
 use Rattle.capi.proofs.planner_calls.Theorems as calls

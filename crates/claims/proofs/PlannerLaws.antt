@@ -3,35 +3,33 @@
 --     file-of-plan    the file of a plan that goes home is accepted, and goes out as that plan
 --     place-subtree   what our tree has at the place of planner node v: the image of the siblings from v on
 use Prim.Native.Nat.{ℕ, zero, suc, _+_, _*_, _-_, _/_, _%_, _≤_, _<_}
-use mathlib.Core.Path.{_≡_, refl, sym, ap, ap₂, _∙_, subst}
-use mathlib.Core.Bool.{Bool, true, false, cond, _&&_}
-use mathlib.Core.List.{List, [], _∷_, _++_}
+use mathlib.Core.Path.{_≡_, refl, sym, ap, _∙_, subst}
+use mathlib.Core.Bool.{true}
+use mathlib.Core.List.{List, _++_}
 use native.Mathlib.Decide.{decLt}
 use native.Mathlib.Omega.{arith}
-use lib.Dec.{ltb, leb}
-use lib.ListN.{length, getD, drop, List·getD-append}
+use lib.Dec.{ltb}
+use lib.ListN.{length, getD, List·getD-append}
 use lib.Seq.{getD-append-add}
 use borrow.Author.Tests.{lt-ltb, le-ltb, le-leb}
 use Rattle.list_laws.specs.Tests.{allBelow}
 use Rattle.list_laws.proofs.BoolLaws.{and-both}
 use Rattle.list_laws.proofs.TestLaws.{allBelow-le}
-use Rattle.trees.specs.Tree.{Tree, leaf, node, size}
+use Rattle.trees.specs.Tree.{Tree, node, size}
 use Rattle.trees.specs.Numbering.{split, sub}
 use Rattle.trees.proofs.NodeLaws.{sub-root}
 use Rattle.formats.specs.Bytes.{le32Bytes}
 use Rattle.formats.specs.Plan.{planLength, planTree, planBytes}
-use Rattle.formats.specs.Checks.{firstNo}
 use Rattle.formats.proofs.PlanTrees.{tree-plan, length-planBytes}
 use Rattle.planner.specs.Siblings.{Siblings, empty, sibling, count, preLabels, preCounts, image, unimage, places}
 use Rattle.planner.specs.Siblings.{emptyLabel}
-use Rattle.planner.specs.File.{fileCount, fileLength, labelRun, fileTree, fileBytes, outRoom, outChecks}
-use Rattle.planner.specs.Conversion.{planOf, fileOf, Acceptable, GoesHome}
+use Rattle.planner.specs.File.{fileCount, fileLength, labelRun, fileTree, fileBytes, outRoom}
+use Rattle.planner.specs.Conversion.{fileOf, Acceptable, GoesHome}
 use Rattle.planner.proofs.PreorderLaws.{allBelow-append}
-use Rattle.planner.proofs.FileTrees.{WellFormed, formed-well, read-file, length-file, tree-file}
+use Rattle.planner.proofs.FileTrees.{formed-well, read-file, length-file, tree-file}
 use Rattle.planner.proofs.ImageLaws.{size-image, length-places, PlaceOf, place-item, unimage-image}
 use Rattle.planner.proofs.ConversionLaws.{image-home}
 use Rattle.planner.proofs.CheckAnswers.{out-good}
-use Rattle.planner.proofs.Theorems as planner
 use Rattle.claims.specs.PlannerFiles.{FileOf, siblingsFrom}
 
 -- ---- the file of a plan

@@ -15,10 +15,9 @@ use mathlib.Core.Logic.{_↔_}
 use native.Mathlib.Decide.{ℕ-discrete}
 use native.Mathlib.Omega.{arith}
 use lib.Dec.{eqb, leb}
-use lib.ListN.{length, getD, take, drop, length-append, List·getD-append}
+use lib.ListN.{length, getD, drop, length-append, List·getD-append}
 use lib.Seq.{take-at}
 use borrow.Author.Tests.{ne-eqb}
-use Rattle.list_laws.specs.Rows.{rows}
 use Rattle.list_laws.proofs.RowLaws.{length-rows, getD-rows}
 use Rattle.trees.specs.Tree.{Tree}
 use Rattle.trees.specs.Automaton.{rootLabel, run, state, accepts}
@@ -28,7 +27,7 @@ use Rattle.formats.proofs.RuleLaws.{RulesPass, pass-rules}
 use Rattle.products.specs.Product.{pairTree}
 use Rattle.products.specs.Plans.{PlanOf}
 use Rattle.products.specs.merging.Merged.{mergedBytes}
-use Rattle.products.specs.agreement.Lines.{Line, leafLine}
+use Rattle.products.specs.agreement.Lines.{Line}
 use Rattle.products.specs.agreement.Agreement.{Agree, Separates}
 use Rattle.products.specs.agreement.reachable.SearchRecord.{lineOf, lineFrom, linesFrom}
 use Rattle.products.specs.agreement.Reply as reply

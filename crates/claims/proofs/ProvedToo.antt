@@ -2,7 +2,8 @@
 --     climb-to                              where a climb ends, how many moves it makes, and its ceiling
 --     climb-six-to-one, climb-six-to-zero   "a climb from depth 6 to 1 takes 3 links, to 0 takes 2"
 --     one-node-accepted, two-nodes-refused  "N=1 is accepted with 14 bytes; N=2 gets 5", of the build with any rule table
---     empty-word                            document 02, S-9: a branch question from below the upper node, the same node twice
+--     empty-word                            document 02, S-9: a branch question from below the upper node, the same node twice,
+--                                           as the result that the promise names; as the exported call answers it: Branches
 --     roots-are-ready                       the roots that are computed are the ready set
 --     parts-partition                       each node is in exactly one part; what each part looks like: questions/proofs/ready/PartitionLaws
 --     answered-by-value, answered-in-place, answered-on-bytes   a question that Start accepted is answered to its end: nothing is refused
@@ -34,7 +35,7 @@ use Rattle.formats.specs.Checks.{firstNo, planChecks, ruleChecks, ruleTableChec
 use Rattle.formats.proofs.CheckLaws.{firstNo-append-suc}
 use Rattle.formats.proofs.RuleLaws.{rules-pass}
 use Rattle.formats.proofs.InputLaws.{passes-rule-table, passes-build}
-use Rattle.formats.proofs.PlanTrees.{planBytes-passes, labelsIn-planBytes, count-planBytes}
+use Rattle.formats.proofs.PlanTrees.{planBytes-passes, labelsIn-planBytes, count-planBytes, length-planBytes}
 use Rattle.formats.proofs.PlanTheorems.{two-nodes}
 use Rattle.tables.specs.node_tables.NodeCells.{NodeCells}
 use Rattle.branches.specs.declared.answers.Reading.the-variants.{BelowUpper}
@@ -88,13 +89,17 @@ climb-six-to-zero t w h e =
 -- ---- plans of one and of two nodes, by the build's checks
 
 one-node-accepted : (a : ℕ) (r : List ℕ) → firstNo (ruleChecks r) ≡ 0 → a < labelCount r → (nodeTable stateTable : ℕ)
-    → 4 ≤ nodeTable → stateCount r + 1 ≤ stateTable → firstNo (buildChecks (planBytes (leaf a)) r nodeTable stateTable) ≡ 0
+    → 4 ≤ nodeTable → stateCount r + 1 ≤ stateTable
+    → (length (planBytes (leaf a)) ≡ 14) × (firstNo (buildChecks (planBytes (leaf a)) r nodeTable stateTable) ≡ 0)
 one-node-accepted a r e h nodeTable stateTable n b =
-    let c : nodeCount (planBytes (leaf a)) ≡ 1 = count-planBytes (leaf a) (omega arith) in
-    passes-build (planBytes (leaf a)) r nodeTable stateTable
-    (passes-rule-table (planBytes (leaf a)) r (planBytes-passes (leaf a) (omega arith)) (rules-pass r e)
-    (rw (labelsIn-planBytes (leaf a) (omega arith)) (unfold allBelow in and-both (ltb a (labelCount r)) true (lt-ltb a (labelCount r) h) refl)))
-    (rw c n) (rw c (omega arith))
+    let c : nodeCount (planBytes (leaf a)) ≡ 1 = count-planBytes (leaf a) (omega arith) in (
+      length-planBytes (leaf a),
+      passes-build (planBytes (leaf a)) r nodeTable stateTable
+          (passes-rule-table (planBytes (leaf a)) r (planBytes-passes (leaf a) (omega arith)) (rules-pass r e)
+          (rw (labelsIn-planBytes (leaf a) (omega arith))
+          (unfold allBelow in and-both (ltb a (labelCount r)) true (lt-ltb a (labelCount r) h) refl)))
+          (rw c n) (rw c (omega arith)),
+    )
 
 two-nodes-refused : (p r : List ℕ) (nodeTable stateTable : ℕ) → length p ≡ 16 → nodeCount p ≡ 2 → le32 p 4 ≡ 12 → le32 p 8 ≡ 14
     → firstNo (buildChecks p r nodeTable stateTable) ≡ 5

@@ -11,7 +11,7 @@
 -- RuleColourAnswered p r vs bs n state yes drops links parts == on tables as built: the fresh run's answer, with the drops
 --   counted on the tree part by part and the links of its searches
 -- RuleTrialsAnswered .. == on run states that are any bytes below S: what the parts by their trials give on them
-use Prim.Native.Nat.{ℕ, suc, _-_, _*_, _≤_, _<_, _+_}
+use Prim.Native.Nat.{ℕ, suc, _-_, _*_, _≤_, _+_}
 use mathlib.Core.Path.{_≡_}
 use mathlib.Core.Bool.{cond}
 use mathlib.Core.List.{List, [], List·Memᴰ}
@@ -23,7 +23,7 @@ use Rattle.trees.specs.Automaton.{Automaton, wordRun, state}
 use Rattle.trees.specs.Numbering.{sub, depth}
 use Rattle.trees.specs.Climb.{walk}
 use Rattle.trees.specs.Tables.{stepUp}
-use Rattle.formats.specs.Plan.{nodeCount, planTree}
+use Rattle.formats.specs.Plan.{planTree}
 use Rattle.formats.specs.Rules.{stateCount, branchAutomaton, ruleAutomaton}
 use Rattle.branches.specs.declared.answers.Reading.{Reading}
 use Rattle.branches.specs.declared.answers.Reading.the-variants.{WithUpper, BelowUpper}
@@ -38,7 +38,6 @@ use Rattle.colours.specs.StateSets.{trialDrops, dropsFrom}
 use Rattle.colours.proofs.DescentLaws.{AllLe}
 use Rattle.colour_questions.specs.branch.Question.{colourIn}
 use Rattle.colour_questions.specs.branch.Promise.{wordDescent, wordDrops}
-use Rattle.colour_questions.specs.parts.Searches.{partSearches}
 use Rattle.colour_questions.specs.parts.OneSided.{isOneSided}
 use Rattle.colour_questions.specs.parts.Trials.{triedParts, trialsFrom}
 use Rattle.colour_questions.specs.rule.Promise.{rootsLeft, searchesLeft, givenLent}
