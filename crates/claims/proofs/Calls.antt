@@ -8,19 +8,14 @@
 --     plan-of-planner, planner-of-plan            whatif_plan_of_planner, whatif_planner_of_plan
 --     lay-over, count                             whatif_lay_over, whatif_count
 --     colour-branch-build, colour-branch, colour-branch-with-upper, colour-build, colour-ask   those by colours
---     version                                     whatif_version, which refuses nothing
 --     ..-order                                    the fixed order: the numbers of each call's checks, one after the other
--- That each promise is the function's own contract, as the prover reads it off the source: the Ties of capi,
--- capi_branch_upper and capi_colours. The session's calls: Main. What an accepted call answers: Tables, Branches,
--- Planner, Products, Choices, Lists, Colours, ColourSets. That every call ends is part of each function's proof.
+-- That each promise is the function's own contract: Contracts, and whatif_version there, which refuses nothing. The
+-- session's calls: Main. What an accepted call answers: Tables, Branches, Planner, Products, Choices, Lists, Colours,
+-- ColourSets. That every call ends is part of each function's proof.
 use Prim.Native.Nat.{ℕ}
 use mathlib.Core.Path.{_≡_, refl}
 use mathlib.Core.List.{List, [], _∷_}
 use lib.ListN.{length}
-use contract.Lifetimes.{Lfts}
-use borrow.Fn.World.{ArgsD, ResD}
-use borrow.Fn.Kinds.{endedOf}
-use denote.Triple.Clauses.{AtExit}
 use Rattle.formats.specs.Checks.{planChecks, ruleChecks, branchChecks, listChecks, ruleTableChecks, branchTableChecks}
 use Rattle.formats.specs.Checks.{buildChecks, branchBuildChecks, freshRunChecks}
 use Rattle.changes.specs.LayOver.{layChecks}
@@ -44,11 +39,6 @@ use Rattle.capi.specs.list_calls.ListsExported as lists
 use Rattle.capi.specs.list_calls.ListsExported.{LayExported}
 use Rattle.capi.specs.choice_calls.CountExported as choices
 use Rattle.capi.specs.choice_calls.CountExported.{CountExported}
-use Rattle.capi.specs.version.Version.{versionNumber}
-use Rattle.capi.proofs.version.whatif_version as version-fn
-use Rattle.capi.proofs.version.whatif_version.Kinds as version-kinds
-use Rattle.capi.proofs.version.whatif_version.Reads as version-reads
-use Rattle.capi.proofs.table_calls.Ties.{version-tied}
 use Rattle.capi.proofs.table_calls.Theorems.{build-number, build-kept, check-number, check-kept, run-number, run-kept}
 use Rattle.capi.proofs.branch_calls.Ties.{branch-build-number, branch-build-kept, branch-check-number, branch-check-kept}
 use Rattle.capi.proofs.branch_calls.Ties.{branch-number, branch-kept}
@@ -280,10 +270,3 @@ colour-order : (p r nodeTable stateTable numbers bytes vs bs : List ℕ) (x y : 
     ≡ 17 ∷ 27 ∷ 12 ∷ 13 ∷ 14 ∷ 18 ∷ [])
 unfolding ruleColourChecks planChecks ruleChecks ruleAskChecks askedChecks listChecks
 colour-order p r nodeTable stateTable numbers bytes vs bs x y = (refl, refl)
-
--- ---- the version
-
--- whatif_version takes nothing and refuses nothing: its contract, as the prover reads it off the source, is its number
-version : (κs : Lfts 0) (a : ArgsD version-fn.signature κs) (r : ResD version-fn.signature κs)
-    (s : AtExit (endedOf 0 version-kinds.ps version-kinds.r) κs) → version-reads.Post κs a r s → r ≡ versionNumber
-version = version-tied

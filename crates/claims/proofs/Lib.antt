@@ -7,6 +7,7 @@ pub mod QuestionForms
 pub mod Kept
 pub mod PassedOver
 pub mod EightScreens
+pub mod Contracts
 pub mod Calls
 pub mod Tables
 pub mod Branches
