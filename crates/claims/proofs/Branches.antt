@@ -1,5 +1,6 @@
 -- Branch tables and branch questions (document 01; document 02, S-7 and S-9), over the promises of the exported calls.
 --     build-writes, build-as-built   whatif_branch_build: the tables of the definitions, and behind them what was there
+--     build-cells                    which they are, node by node
 --     check-exactly, check-no        whatif_branch_check: yes exactly where the tables are what the build writes
 --     answers, below-upper, with-upper   demand 2: on tables as built the word automaton's answer, of either reading on
 --                                    its own word, with the links of the climb and the nodes passed over
@@ -9,28 +10,32 @@
 --     few-links, few-passed          the ceilings on tables as built
 --     answers-lent, lent-16, cause-of-18, usable-never-18   what holds on any tables
 -- The numbers, and that a refused call alters nothing: Calls. Questions by colours: Colours.
-use Prim.Native.Nat.{ℕ, zero, suc, _*_, _≤_, _<_}
+use Prim.Native.Nat.{ℕ, zero, suc, _+_, _*_, _≤_, _<_}
 use mathlib.Core.Path.{_≡_, refl, sym, ap, _∙_, subst}
 use mathlib.Core.Bool.{true, false}
 use mathlib.Core.List.{List, _∷_, _++_}
 use mathlib.Core.Logic.{_↔_}
 use mathlib.Core.Option.{Option, none, some}
 use native.Mathlib.Omega.{arith}
-use lib.ListN.{length, drop}
+use lib.ListN.{length, getD, take, drop}
 use Rattle.trees.specs.Tree.{Tree, size, height, labelAt}
 use Rattle.trees.specs.Automaton.{wordRun}
 use Rattle.trees.specs.Numbering.{ancestor, word, wordBelow, AtOrBelow}
 use Rattle.trees.specs.Climb.{digits}
+use Rattle.trees.specs.Tables.{branchState, branchMap}
+use Rattle.trees.proofs.TableRows.{branchTable-state, branchTable-map}
 use Rattle.trees.proofs.WordLaws.{word-below, wordBelow-same}
 use Rattle.trees.proofs.HeightLaws.{height-limit}
 use Rattle.trees.proofs.Digits.{digits-limit}
 use Rattle.formats.specs.Plan.{nodeCount, planTree}
-use Rattle.formats.specs.Rules.{branchAutomaton}
+use Rattle.formats.specs.Rules.{stateCount, branchAutomaton}
 use Rattle.formats.specs.Built.{builtNodeTable, builtBranchTable, BranchBuilt}
 use Rattle.formats.specs.Buffers.{headedBuffersFit, branchTables}
 use Rattle.formats.proofs.InputLaws.{branch-table-passes}
 use Rattle.tables.specs.declared.answers.Checking.{Checking}
 use Rattle.tables.specs.node_tables.Cells.{isInSubtreeOn}
+use Rattle.tables.specs.node_tables.NodeCells.{NodeCells}
+use Rattle.tables.specs.StateCells.{stateCell, mapCell}
 use Rattle.branches.specs.declared.answers.Reading.{Reading}
 use Rattle.branches.specs.declared.answers.Reading.the-variants.{WithUpper, BelowUpper}
 use Rattle.branches.specs.declared.answers.Branched.{Branched}
@@ -39,7 +44,7 @@ use Rattle.branches.specs.declared.answers.Branching.the-variants.{Answered}
 use Rattle.branches.specs.OutOfRange.{BranchOutOfRange}
 use Rattle.branches.specs.Question.{branchNumber, branchAnswer, branchOn, askNumber, askAnswer}
 use Rattle.branches.specs.Promise.{BranchKept, AnswerKept, BranchUsable, linksTold, passedTold}
-use Rattle.branches.proofs.AskBuilt.{size-is, fits-built}
+use Rattle.branches.proofs.AskBuilt.{size-is, fits-built, built-links}
 use Rattle.branches.proofs.AskChecks.{ask-13-upper, ask-13-lower}
 use Rattle.branches.proofs.AskRange.{built-usable}
 use Rattle.branches.proofs.AskTheorem as ask-theorem
@@ -68,6 +73,24 @@ module _ (p r nodeTable stateTable : List ℕ) (n : ℕ) (nodeTable′ stateTabl
 
   build-as-built : n ≡ 0 → BranchBuilt p r nodeTable′ stateTable′
   build-as-built = branch-build-as-built p r nodeTable stateTable n nodeTable′ stateTable′ E
+
+  build-cells : n ≡ 0 → NodeCells (planTree p) nodeTable′
+      × ((v : ℕ) → v < nodeCount p
+      → (stateCell (stateCount r) stateTable′ v ≡ branchState (branchAutomaton r) (planTree p) v)
+      × ((q : ℕ) → q < stateCount r
+      → mapCell (stateCount r) stateTable′ v q ≡ branchMap (branchAutomaton r) (planTree p) v q))
+  build-cells e =
+      let B = build-as-built e in
+      let z : size (planTree p) ≡ nodeCount p = size-is p r nodeTable′ stateTable′ B in
+      let states = ap (λ (m : ℕ). take (m * (stateCount r + 1)) stateTable′) z ∙ B .states in (
+        built-links p r nodeTable′ stateTable′ B,
+        λ v h. (
+          branchTable-state (branchAutomaton r) (planTree p) stateTable′ states v (omega (arith, z)),
+          λ q l. (let i : v * (stateCount r + 1) + (1 + q) ≡ v * (stateCount r + 1) + 1 + q = omega arith in
+              ap (λ (j : ℕ). getD stateTable′ j 0) i
+              ∙ branchTable-map (branchAutomaton r) (planTree p) stateTable′ states v (omega (arith, z)) q l),
+        ),
+      )
 
 -- ---- the full check
 
@@ -205,7 +228,7 @@ module _ (reading : Reading) (p r nodeTable stateTable : List ℕ) (u l n s₀ y
 
 -- ---- the two readings
 
--- "a branch answer is the word automaton's": "The plain call now reads the word from below the upper node"
+-- "a branch answer is the word automaton's"; "Demand 2 holds for each on its own word."; "The plain call now reads the word from below the upper node"
 below-upper : (p r nodeTable stateTable : List ℕ) (u l n s₀ y₀ k₀ d₀ s₁ y₁ k₁ d₁ : ℕ)
     → AskExported BelowUpper p r nodeTable stateTable u l n s₀ y₀ k₀ d₀ s₁ y₁ k₁ d₁
     → BranchBuilt p r nodeTable stateTable → u < nodeCount p → l < nodeCount p → AtOrBelow (planTree p) u l

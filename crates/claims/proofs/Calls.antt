@@ -13,9 +13,10 @@
 -- session's calls: Main. What an accepted call answers: Tables, Branches, Planner, Products, Choices, Lists, Colours,
 -- ColourSets. That every call ends is part of each function's proof.
 use Prim.Native.Nat.{ℕ}
-use mathlib.Core.Path.{_≡_, refl}
+use mathlib.Core.Path.{_≡_, refl, _∙_}
 use mathlib.Core.List.{List, [], _∷_}
 use lib.ListN.{length}
+use Rattle.formats.specs.Checks.{Check, firstNo}
 use Rattle.formats.specs.Checks.{planChecks, ruleChecks, branchChecks, listChecks, ruleTableChecks, branchTableChecks}
 use Rattle.formats.specs.Checks.{buildChecks, branchBuildChecks, freshRunChecks}
 use Rattle.changes.specs.LayOver.{layChecks}
@@ -52,8 +53,19 @@ use Rattle.capi_colours.specs.rule_calls.RuleExported.{RuleExported}
 use Rattle.capi_colours.proofs.branch_calls.Ties.{colour-branch-build-number, colour-branch-build-kept}
 use Rattle.capi_colours.proofs.branch_calls.Ties.{colour-branch-number, colour-branch-kept}
 use Rattle.capi_colours.proofs.rule_calls.Ties.{colour-build-number, colour-build-kept, colour-ask-number, colour-ask-kept}
-use Rattle.claims.specs.CallAnswers.{Answers, numbersOf, agreeCallChecks, BuildCall, CheckCall, BranchBuildCall}
+use Rattle.claims.specs.CallAnswers.{AllPass, Answers, numbersOf, agreeCallChecks, BuildCall, CheckCall, BranchBuildCall}
 use Rattle.claims.specs.CallAnswers.{BranchCheckCall, ColourBranchBuildCall, ColourBuildCall}
+
+-- what "everything else is accepted" adds: where every check passes, none is the first that fails
+none-fails : (cs : List Check) → AllPass cs → firstNo cs ≡ 0
+unfolding firstNo
+none-fails [] h = refl
+none-fails (c ∷ cs) h = rw (h .0) (none-fails cs (h .1))
+
+answers : (n : ℕ) (checks : List Check) (kept : Type 0) → n ≡ firstNo checks → ((n ≡ 0 → ⊥) → kept)
+    → Answers n checks kept
+answers n checks kept e k =
+    record { number = e; unaltered = k; else-accepted = λ h. e ∙ none-fails checks h }
 
 -- ---- tables and fresh runs
 
@@ -61,16 +73,19 @@ build : (p r nodeTable stateTable : List ℕ) (n : ℕ) (nodeTable′ stateTable
     → BuildCall p r nodeTable stateTable n nodeTable′ stateTable′
     → Answers n (buildChecks p r (length nodeTable) (length stateTable))
     ((nodeTable′ ≡ nodeTable) × (stateTable′ ≡ stateTable))
-build p r a b n a′ b′ E = record { number = build-number p r a b n a′ b′ E; unaltered = build-kept p r a b n a′ b′ E }
+build p r a b n a′ b′ E = answers _ _ _ (build-number p r a b n a′ b′ E)
+    (build-kept p r a b n a′ b′ E)
 
 full-check : (p r nodeTable stateTable : List ℕ) (n yes₀ yes₁ : ℕ) → CheckCall p r nodeTable stateTable n yes₀ yes₁
     → Answers n (buildChecks p r (length nodeTable) (length stateTable)) (yes₁ ≡ yes₀)
-full-check p r a b n y z E = record { number = check-number p r a b n y z E; unaltered = check-kept p r a b n y z E }
+full-check p r a b n y z E = answers _ _ _ (check-number p r a b n y z E)
+    (check-kept p r a b n y z E)
 
 fresh-run : (p r vs bs : List ℕ) (n state₀ yes₀ state₁ yes₁ : ℕ) → RunExported p r vs bs n state₀ yes₀ state₁ yes₁
     → Answers n (freshRunChecks p r vs bs) ((state₁ ≡ state₀) × (yes₁ ≡ yes₀))
 fresh-run p r vs bs n s y s′ y′ E =
-    record { number = run-number p r vs bs n s y s′ y′ E; unaltered = run-kept p r vs bs n s y s′ y′ E }
+    answers _ _ _ (run-number p r vs bs n s y s′ y′ E)
+    (run-kept p r vs bs n s y s′ y′ E)
 
 -- "both table buffers long enough? 11": the builds, and "The full check has 2 to 11"
 build-order : (p r : List ℕ) (nodeTable stateTable : ℕ)
@@ -92,31 +107,29 @@ branch-build : (p r nodeTable stateTable : List ℕ) (n : ℕ) (nodeTable′ sta
     → Answers n (branchBuildChecks p r (length nodeTable) (length stateTable))
     ((nodeTable′ ≡ nodeTable) × (stateTable′ ≡ stateTable))
 branch-build p r a b n a′ b′ E =
-    record { number = branch-build-number p r a b n a′ b′ E; unaltered = branch-build-kept p r a b n a′ b′ E }
+    answers _ _ _ (branch-build-number p r a b n a′ b′ E)
+    (branch-build-kept p r a b n a′ b′ E)
 
 branch-full-check : (p r nodeTable stateTable : List ℕ) (n yes₀ yes₁ : ℕ)
     → BranchCheckCall p r nodeTable stateTable n yes₀ yes₁
     → Answers n (branchBuildChecks p r (length nodeTable) (length stateTable)) (yes₁ ≡ yes₀)
 branch-full-check p r a b n y z E =
-    record { number = branch-check-number p r a b n y z E; unaltered = branch-check-kept p r a b n y z E }
+    answers _ _ _ (branch-check-number p r a b n y z E)
+    (branch-check-kept p r a b n y z E)
 
 branch : (p r nodeTable stateTable : List ℕ) (u l n s₀ y₀ k₀ d₀ s₁ y₁ k₁ d₁ : ℕ)
     → AskExported BelowUpper p r nodeTable stateTable u l n s₀ y₀ k₀ d₀ s₁ y₁ k₁ d₁
     → Answers n (askChecks BelowUpper p r nodeTable stateTable u l)
     ((s₁ ≡ s₀) × (y₁ ≡ y₀) × (k₁ ≡ k₀) × (d₁ ≡ d₀))
-branch p r a b u l n s y k d s′ y′ k′ d′ E = record {
-  number = branch-number BelowUpper p r a b u l n s y k d s′ y′ k′ d′ E;
-  unaltered = branch-kept BelowUpper p r a b u l n s y k d s′ y′ k′ d′ E;
-}
+branch p r a b u l n s y k d s′ y′ k′ d′ E = answers _ _ _ (branch-number BelowUpper p r a b u l n s y k d s′ y′ k′ d′ E)
+    (branch-kept BelowUpper p r a b u l n s y k d s′ y′ k′ d′ E)
 
 branch-with-upper : (p r nodeTable stateTable : List ℕ) (u l n s₀ y₀ k₀ d₀ s₁ y₁ k₁ d₁ : ℕ)
     → AskExported WithUpper p r nodeTable stateTable u l n s₀ y₀ k₀ d₀ s₁ y₁ k₁ d₁
     → Answers n (askChecks WithUpper p r nodeTable stateTable u l)
     ((s₁ ≡ s₀) × (y₁ ≡ y₀) × (k₁ ≡ k₀) × (d₁ ≡ d₀))
-branch-with-upper p r a b u l n s y k d s′ y′ k′ d′ E = record {
-  number = branch-upper-number p r a b u l n s y k d s′ y′ k′ d′ E;
-  unaltered = branch-upper-kept p r a b u l n s y k d s′ y′ k′ d′ E;
-}
+branch-with-upper p r a b u l n s y k d s′ y′ k′ d′ E = answers _ _ _ (branch-upper-number p r a b u l n s y k d s′ y′ k′ d′ E)
+    (branch-upper-kept p r a b u l n s y k d s′ y′ k′ d′ E)
 
 branch-build-order : (p r : List ℕ) (nodeTable stateTable : ℕ)
     → numbersOf (branchBuildChecks p r nodeTable stateTable) ≡ 2 ∷ 3 ∷ 4 ∷ 5 ∷ 6 ∷ 7 ∷ 8 ∷ 9 ∷ 10 ∷ 11 ∷ []
@@ -135,16 +148,15 @@ branch-order reading p r nodeTable stateTable u l = refl
 merge : (first second out : List ℕ) (n : ℕ) (out′ : List ℕ) → MergeExported first second out n out′
     → Answers n (mergeChecks first second (length out)) (out′ ≡ out)
 merge first second out n out′ E =
-    record { number = merge-number first second out n out′ E; unaltered = merge-kept first second out n out′ E }
+    answers _ _ _ (merge-number first second out n out′ E)
+    (merge-kept first second out n out′ E)
 
 agree : (first second lines : List ℕ) (agreed count n : ℕ) (lines′ : List ℕ) (agreed′ count′ : ℕ)
     → AgreeExported first second lines agreed count n lines′ agreed′ count′
     → Answers n (agreeCallChecks first second (length lines))
     ((lines′ ≡ lines) × (agreed′ ≡ agreed) × (count′ ≡ count))
-agree first second l a c n l′ a′ c′ E = record {
-  number = agree-number first second l a c n l′ a′ c′ E;
-  unaltered = agree-kept first second l a c n l′ a′ c′ E;
-}
+agree first second l a c n l′ a′ c′ E = answers _ _ _ (agree-number first second l a c n l′ a′ c′ E)
+    (agree-kept first second l a c n l′ a′ c′ E)
 
 -- "The order of checks is 6 to 9 for the first table, 6 to 9 for the second, then 23 for unequal K, 24 when the product
 -- of the state counts exceeds 16, and 11 for a short output."
@@ -164,11 +176,13 @@ agree-order first second room = refl
 plan-of-planner : (b plan places : List ℕ) (n : ℕ) (plan′ places′ : List ℕ) → OutDone b plan places n plan′ places′
     → Answers n (outChecks b (length plan) (length places)) ((plan′ ≡ plan) × (places′ ≡ places))
 plan-of-planner b p ps n q qs D =
-    record { number = out-number b p ps n q qs D; unaltered = out-kept b p ps n q qs D }
+    answers _ _ _ (out-number b p ps n q qs D)
+    (out-kept b p ps n q qs D)
 
 planner-of-plan : (p file : List ℕ) (n : ℕ) (file′ : List ℕ) → HomeDone p file n file′
     → Answers n (homeChecks p (length file)) (file′ ≡ file)
-planner-of-plan p b n c D = record { number = home-number p b n c D; unaltered = home-kept p b n c D }
+planner-of-plan p b n c D = answers _ _ _ (home-number p b n c D)
+    (home-kept p b n c D)
 
 -- "Refused are a malformed file, n of 0 included, or bytes that are no such image with 19, a label of 63 or more in a
 -- planner's file with 20, and n above 32,767 or a short output with 21, in that order."
@@ -184,14 +198,16 @@ lay-over : (lvs lbs uvs ubs nodes labels : List ℕ) (count n : ℕ) (nodes′ l
     → Answers n (lists.exportedChecks lvs lbs uvs ubs (length nodes) (length labels))
     ((nodes′ ≡ nodes) × (labels′ ≡ labels) × (count′ ≡ count))
 lay-over lvs lbs uvs ubs x y c n x′ y′ c′ E =
-    record { number = E .number; unaltered = refused-keeps lvs lbs uvs ubs x y c n x′ y′ c′ E }
+    answers _ _ _ (E .number)
+    (refused-keeps lvs lbs uvs ubs x y c n x′ y′ c′ E)
 
 count : (p r nodeTable stateTable vs counts : List ℕ) (parts links n : ℕ) (counts′ : List ℕ) (parts′ links′ : ℕ)
     → CountExported p r nodeTable stateTable vs counts parts links n counts′ parts′ links′
     → Answers n (choices.exportedChecks p r nodeTable stateTable vs (length counts))
     ((counts′ ≡ counts) × (parts′ ≡ parts) × (links′ ≡ links))
 count p r a b vs c m k n c′ m′ k′ E =
-    record { number = count-number p r a b vs c m k n c′ m′ k′ E; unaltered = count-kept p r a b vs c m k n c′ m′ k′ E }
+    answers _ _ _ (count-number p r a b vs c m k n c′ m′ k′ E)
+    (count-kept p r a b vs c m k n c′ m′ k′ E)
 
 -- "laying over gives 22 when more than 64 nodes would remain, after 12 for either list"; then 11 for a short buffer
 lay-over-order : (lvs lbs uvs ubs : List ℕ) (nodes labels : ℕ)
@@ -213,20 +229,16 @@ colour-branch-build : (p r numbers bytes : List ℕ) (n : ℕ) (numbers′ bytes
     → ColourBranchBuildCall p r numbers bytes n numbers′ bytes′
     → Answers n (branchColourChecks p r (length numbers) (length bytes))
     ((numbers′ ≡ numbers) × (bytes′ ≡ bytes))
-colour-branch-build p r a b n a′ b′ E = record {
-  number = colour-branch-build-number p r a b n a′ b′ E;
-  unaltered = colour-branch-build-kept p r a b n a′ b′ E;
-}
+colour-branch-build p r a b n a′ b′ E = answers _ _ _ (colour-branch-build-number p r a b n a′ b′ E)
+    (colour-branch-build-kept p r a b n a′ b′ E)
 
 -- of either reading: BelowUpper is whatif_colour_branch, WithUpper whatif_colour_branch_with_upper
 colour-branches : (reading : Reading) (p r nodeTable numbers bytes : List ℕ) (u l n s₀ y₀ d₀ k₀ s₁ y₁ d₁ k₁ : ℕ)
     → DescentExported reading p r nodeTable numbers bytes u l n s₀ y₀ d₀ k₀ s₁ y₁ d₁ k₁
     → Answers n (colourChecks reading p r nodeTable numbers bytes u l)
     ((s₁ ≡ s₀) × (y₁ ≡ y₀) × (d₁ ≡ d₀) × (k₁ ≡ k₀))
-colour-branches reading p r a x b u l n s y d k s′ y′ d′ k′ E = record {
-  number = colour-branch-number reading p r a x b u l n s y d k s′ y′ d′ k′ E;
-  unaltered = colour-branch-kept reading p r a x b u l n s y d k s′ y′ d′ k′ E;
-}
+colour-branches reading p r a x b u l n s y d k s′ y′ d′ k′ E = answers _ _ _ (colour-branch-number reading p r a x b u l n s y d k s′ y′ d′ k′ E)
+    (colour-branch-kept reading p r a x b u l n s y d k s′ y′ d′ k′ E)
 
 colour-branch : (p r nodeTable numbers bytes : List ℕ) (u l n s₀ y₀ d₀ k₀ s₁ y₁ d₁ k₁ : ℕ)
     → DescentExported BelowUpper p r nodeTable numbers bytes u l n s₀ y₀ d₀ k₀ s₁ y₁ d₁ k₁
@@ -244,16 +256,15 @@ colour-build : (p r numbers bytes : List ℕ) (n : ℕ) (numbers′ bytes′ : L
     → ColourBuildCall p r numbers bytes n numbers′ bytes′
     → Answers n (ruleColourChecks p r (length numbers) (length bytes)) ((numbers′ ≡ numbers) × (bytes′ ≡ bytes))
 colour-build p r a b n a′ b′ E =
-    record { number = colour-build-number p r a b n a′ b′ E; unaltered = colour-build-kept p r a b n a′ b′ E }
+    answers _ _ _ (colour-build-number p r a b n a′ b′ E)
+    (colour-build-kept p r a b n a′ b′ E)
 
 colour-ask : (p r nodeTable stateTable numbers bytes vs bs : List ℕ) (n s₀ y₀ d₀ k₀ m₀ s₁ y₁ d₁ k₁ m₁ : ℕ)
     → RuleExported p r nodeTable stateTable numbers bytes vs bs n s₀ y₀ d₀ k₀ m₀ s₁ y₁ d₁ k₁ m₁
     → Answers n (ruleAskChecks p r nodeTable stateTable numbers bytes vs bs)
     ((s₁ ≡ s₀) × (y₁ ≡ y₀) × (d₁ ≡ d₀) × (k₁ ≡ k₀) × (m₁ ≡ m₀))
-colour-ask p r a b x y vs bs n s₀ y₀ d₀ k₀ m₀ s₁ y₁ d₁ k₁ m₁ E = record {
-  number = colour-ask-number p r a b x y vs bs n s₀ y₀ d₀ k₀ m₀ s₁ y₁ d₁ k₁ m₁ E;
-  unaltered = colour-ask-kept p r a b x y vs bs n s₀ y₀ d₀ k₀ m₀ s₁ y₁ d₁ k₁ m₁ E;
-}
+colour-ask p r a b x y vs bs n s₀ y₀ d₀ k₀ m₀ s₁ y₁ d₁ k₁ m₁ E = answers _ _ _ (colour-ask-number p r a b x y vs bs n s₀ y₀ d₀ k₀ m₀ s₁ y₁ d₁ k₁ m₁ E)
+    (colour-ask-kept p r a b x y vs bs n s₀ y₀ d₀ k₀ m₀ s₁ y₁ d₁ k₁ m₁ E)
 
 -- "a short one gives 11 in the build and 17 in a question"
 colour-branch-order : (reading : Reading) (p r nodeTable numbers bytes : List ℕ) (u l : ℕ) (x y : ℕ)

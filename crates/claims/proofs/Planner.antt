@@ -1,31 +1,35 @@
 -- The bridge planner's files (document 02, S-2), over the promises of the two exported calls.
 --     out-writes, n-becomes-2n+1   whatif_plan_of_planner: the plan and the places of the definition, 2n+1 nodes
+--     out-malformed, out-no-nodes, out-label, out-room   what 19, 20 and 21 are given for
 --     home-restores-file           going out and home restores the file
 --     home-accepts, home-exactly   whatif_planner_of_plan accepts exactly the plans that come from a file: by trees, by files
 --     out-restores-plan            going home and out restores the plan
 --     place-of-node                each number of the places' table is that node's place
--- The numbers 19, 20, 21 and that a refused call alters nothing: Calls. A file is bytes: `allBelow 256`.
+-- The order of the numbers, and that a refused call alters nothing: Calls. A file is bytes: `allBelow 256`.
 use Prim.Native.Nat.{ℕ, _+_, _-_, _*_, _≤_, _<_}
 use mathlib.Core.Path.{_≡_, sym, ap, _∙_, subst}
-use mathlib.Core.Bool.{true}
+use mathlib.Core.Bool.{true, false}
 use mathlib.Core.List.{List, _++_}
 use mathlib.Core.Logic.{_↔_}
 use mathlib.Core.Option.{none, some}
 use native.Mathlib.Omega.{arith}
+use lib.Dec.{leb}
 use lib.ListN.{length, getD, drop, List·getD-append}
+use borrow.Author.Tests.{lt-leb}
 use Rattle.list_laws.specs.Tests.{allBelow}
+use Rattle.list_laws.proofs.BoolLaws.{and-no-left, and-no-right}
 use Rattle.trees.specs.Tree.{size, labelAt}
 use Rattle.trees.specs.Numbering.{sub}
 use Rattle.formats.specs.Plan.{planLength, planTree}
 use Rattle.formats.proofs.PlanTrees.{tree-plan}
 use Rattle.planner.specs.Siblings.{Siblings, count, image, unimage, items}
-use Rattle.planner.specs.File.{fileCount, fileLength, labelRun, fileTree}
+use Rattle.planner.specs.File.{fileCount, fileLength, labelRun, fileTree, wellFormed, outRoom}
 use Rattle.planner.specs.Conversion.{planOf, placesOf, fileOf, GoesHome}
 use Rattle.planner.specs.out.Out.{OutDone}
 use Rattle.planner.specs.home.Home.{HomeDone}
 use Rattle.planner.proofs.FileTrees.{file-tree}
 use Rattle.planner.proofs.ImageLaws.{size-image, length-places, place-item}
-use Rattle.planner.proofs.CheckAnswers.{OutPasses, out-passes}
+use Rattle.planner.proofs.CheckAnswers.{OutPasses, out-passes, out-19, out-20, out-21}
 use Rattle.planner.proofs.Theorems as planner
 use Rattle.capi.proofs.planner_calls.Theorems as calls
 use Rattle.claims.specs.PlannerFiles.{FileOf, siblingsFrom}
@@ -75,6 +79,36 @@ module _ (b p ps : List ℕ) (n : ℕ) (q qs : List ℕ) (D : OutDone b p ps n q
             ∙ planner.place-of-node b (length p) (length ps) bytes (sym (D .number) ∙ accepted) v h .0,
         ap (sub (image f)) z ∙ place-subtree f 0 v i,
       )
+
+-- "Refused are a malformed file, n of 0 included, .. with 19, a label of 63 or more in a planner's file with 20, and n
+-- above 32,767 or a short output with 21, in that order."
+module _ (b p ps : List ℕ) (n : ℕ) (q qs : List ℕ) (D : OutDone b p ps n q qs) where
+  out-malformed : wellFormed b ≡ false → n ≡ 19
+  out-malformed e = D .number ∙ out-19 b (length p) (length ps) e
+
+  out-no-nodes : fileCount b ≡ 0 → n ≡ 19
+  unfolding wellFormed
+  out-no-nodes e =
+      out-malformed (and-no-right (leb 12 (length b)) _ (and-no-left (leb 1 (fileCount b)) _ (lt-leb 1 (fileCount b)
+      (omega arith))))
+
+  out-label : wellFormed b ≡ true → allBelow 63 (labelRun b) ≡ false → n ≡ 20
+  out-label e f = D .number ∙ out-20 b (length p) (length ps) e f
+
+  out-room : wellFormed b ≡ true → allBelow 63 (labelRun b) ≡ true
+      → (32767 < fileCount b → n ≡ 21) × (length p < planLength (2 * fileCount b + 1) → n ≡ 21)
+      × (length ps < fileCount b → n ≡ 21)
+  unfolding outRoom
+  out-room e f = (
+    λ h. no-room (and-no-left (leb (fileCount b) 32767) _ (lt-leb (fileCount b) 32767 h)),
+    λ h. no-room (and-no-right (leb (fileCount b) 32767) _ (and-no-left (leb (planLength (2 * fileCount b + 1)) (length p))
+        _ (lt-leb (planLength (2 * fileCount b + 1)) (length p) h))),
+    λ h. no-room (and-no-right (leb (fileCount b) 32767) _ (and-no-right (leb (planLength (2 * fileCount b + 1)) (length p))
+        _ (lt-leb (fileCount b) (length ps) h))),
+  )
+    where
+      no-room : outRoom (fileCount b) (length p) (length ps) ≡ false → n ≡ 21
+      no-room g = D .number ∙ out-21 b (length p) (length ps) e f g
 
 -- ---- out and home
 

@@ -1,21 +1,31 @@
 -- Build, full check and fresh run: what an accepted call answers and writes.
 --     build-writes, build-as-built   whatif_build: the tables of the definitions, and behind them what was there
+--     build-cells                    which they are, node by node
 --     check-exactly, check-no        whatif_check: yes exactly where the tables are what the build writes, no elsewhere
 --     built-checked                  what the build leaves, the full check answers with yes
 --     run-answers, run-each-node     whatif_fresh_run: source document 002's run of the changed plan
 -- The numbers, and that a refused call alters nothing: Calls. The same of a branch table: Branches.
-use Prim.Native.Nat.{ℕ, _<_}
+use Prim.Native.Nat.{ℕ, _+_, _*_, _<_}
 use mathlib.Core.Path.{_≡_, refl, sym, ap, _∙_}
 use mathlib.Core.List.{List, _++_}
 use mathlib.Core.Logic.{_↔_}
-use lib.ListN.{length, drop}
+use native.Mathlib.Omega.{arith}
+use lib.ListN.{length, getD, take, drop}
 use Rattle.trees.specs.Tree.{size, labelAt}
 use Rattle.trees.specs.Automaton.{run, state}
 use Rattle.trees.specs.Numbering.{sub}
+use Rattle.trees.specs.Tables.{stateMap}
 use Rattle.trees.proofs.RunLaws.{run-at}
-use Rattle.formats.specs.Rules.{ruleAutomaton}
+use Rattle.trees.proofs.TableRows.{stateTableOf-state, stateTableOf-map}
+use Rattle.formats.specs.Plan.{nodeCount, planTree}
+use Rattle.formats.specs.Rules.{stateCount, ruleAutomaton}
 use Rattle.formats.specs.Built.{builtNodeTable, builtStateTable, AsBuilt}
+use Rattle.formats.proofs.PlanLaws.{size-planTree}
+use Rattle.formats.proofs.InputLaws.{rule-table-passes}
 use Rattle.tables.specs.declared.answers.Checking.{Checking}
+use Rattle.tables.specs.node_tables.NodeCells.{NodeCells}
+use Rattle.tables.specs.StateCells.{stateCell, mapCell}
+use Rattle.tables.proofs.node_tables.CellLaws.{link-cells}
 use Rattle.tables.proofs.CheckTheorems.{no-check}
 use Rattle.runs.specs.FreshRun.{changedTree, rootState, rootAccepted}
 use Rattle.capi.specs.numbers.Numbers.{bitOf, yesOf}
@@ -39,6 +49,26 @@ module _ (p r nodeTable stateTable : List ℕ) (n : ℕ) (nodeTable′ stateTabl
   -- so both buffers are "as built from the plan and rules lent", for any excess
   build-as-built : n ≡ 0 → AsBuilt p r nodeTable′ stateTable′
   build-as-built = calls.build-as-built p r nodeTable stateTable n nodeTable′ stateTable′ E
+
+  -- the four numbers of each node, and its bytes: "The map gives, for each state assumed at the node, the state that
+  -- follows at its jump, with the plan's labels and the run's states beside the path."
+  build-cells : n ≡ 0 → NodeCells (planTree p) nodeTable′
+      × ((v : ℕ) → v < nodeCount p
+      → (stateCell (stateCount r) stateTable′ v ≡ state (ruleAutomaton r) (sub (planTree p) v))
+      × ((q : ℕ) → q < stateCount r
+      → mapCell (stateCount r) stateTable′ v q ≡ stateMap (ruleAutomaton r) (planTree p) v q))
+  build-cells e =
+      let B = build-as-built e in
+      let z : size (planTree p) ≡ nodeCount p = size-planTree p (rule-table-passes p r (B .accepted) .0) in
+      let states = ap (λ (m : ℕ). take (m * (stateCount r + 1)) stateTable′) z ∙ B .states in (
+        link-cells (planTree p) (nodeCount p) nodeTable′ (sym z) (B .links),
+        λ v h. (
+          stateTableOf-state (ruleAutomaton r) (planTree p) stateTable′ states v (omega (arith, z)),
+          λ q l. (let i : v * (stateCount r + 1) + (1 + q) ≡ v * (stateCount r + 1) + 1 + q = omega arith in
+              ap (λ (j : ℕ). getD stateTable′ j 0) i
+              ∙ stateTableOf-map (ruleAutomaton r) (planTree p) stateTable′ states v (omega (arith, z)) q l),
+        ),
+      )
 
 -- ---- the full check
 

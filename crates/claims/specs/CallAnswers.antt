@@ -1,6 +1,7 @@
 -- Demand 1 as a property of one call outside the session, in one form for all of them, and the promises of the calls
 -- whose checks and tables are parameters of a shared promise.
 --
+-- AllPass checks == each check of the list passes
 -- Answers n checks kept == the number n is that of the first check that fails, 0 where none does; where it is not 0,
 --   `kept` holds: every buffer and every output parameter is as it was
 -- numbersOf checks == the numbers of a list of checks, in their order
@@ -13,6 +14,7 @@
 -- capi), OutDone, HomeDone (crate planner), DescentExported and RuleExported (crate capi_colours).
 use Prim.Native.Nat.{ℕ, _*_}
 use mathlib.Core.Path.{_≡_}
+use mathlib.Core.Bool.{true}
 use mathlib.Core.List.{List, [], _∷_, _++_}
 use lib.Dec.{leb}
 use lib.ListN.{length}
@@ -24,11 +26,17 @@ use Rattle.colour_tables.specs.branch.Build.{branchColourChecks, builtColourNum
 use Rattle.colour_tables.specs.rule.Build.{ruleColourChecks, builtSetNumbers, builtSetBytes}
 use Rattle.capi.specs.numbers.Numbers.{BuildExported, CheckExported}
 
+abbrev pub AllPass : List Check → Type 0
+AllPass [] = Unit {0}
+AllPass (c ∷ cs) = (c .passes ≡ true) × AllPass cs
+
 pub record Answers (n : ℕ) (checks : List Check) (kept : Type 0) : Type 0 where
-  -- "refused first, by number, in a fixed order"; "everything else is accepted": where no check fails the number is 0
+  -- "refused first, by number, in a fixed order"
   pub number : n ≡ firstNo checks
   -- "a refusal alters nothing"
   pub unaltered : (n ≡ 0 → ⊥) → kept
+  -- "everything else is accepted"
+  pub else-accepted : AllPass checks → n ≡ 0
 
 abbrev pub numbersOf : List Check → List ℕ
 numbersOf [] = []
