@@ -1,11 +1,11 @@
 -- Branch tables and branch questions (document 01; document 02, S-7 and S-9), over the promises of the exported calls.
 --     build-writes, build-as-built   whatif_branch_build: the tables of the definitions, and behind them what was there
---     build-cells                    which they are, node by node
+--     build-cells, build-sample      which they are, node by node; a plan and a branch table that are accepted
 --     check-exactly, check-no        whatif_branch_check: yes exactly where the tables are what the build writes
 --     answers, below-upper, with-upper   demand 2: on tables as built the word automaton's answer, of either reading on
 --                                    its own word, with the links of the climb and the nodes passed over
 --     empty-word, one-letter         the same node twice
---     not-below, not-in-plan         16 where the lower node is not at or below the upper, 13 where one is not in the plan
+--     not-below, not-in-plan         16 where the lower node is not at or below the upper, 13 where one is no node
 --     never-18                       18 never comes on tables as built
 --     few-links, few-passed          the ceilings on tables as built
 --     answers-lent, lent-16, cause-of-18, usable-never-18   what holds on any tables
@@ -23,12 +23,15 @@ use Rattle.trees.specs.Automaton.{wordRun}
 use Rattle.trees.specs.Numbering.{ancestor, word, wordBelow, AtOrBelow}
 use Rattle.trees.specs.Climb.{digits}
 use Rattle.trees.specs.Tables.{branchState, branchMap}
+use Rattle.trees.specs.Postorder.{isPostorder}
+use Rattle.list_laws.specs.Tests.{allBelow}
 use Rattle.trees.proofs.TableRows.{branchTable-state, branchTable-map}
 use Rattle.trees.proofs.WordLaws.{word-below, wordBelow-same}
 use Rattle.trees.proofs.HeightLaws.{height-limit}
 use Rattle.trees.proofs.Digits.{digits-limit}
 use Rattle.formats.specs.Plan.{nodeCount, planTree}
 use Rattle.formats.specs.Rules.{stateCount, branchAutomaton}
+use Rattle.formats.specs.Checks.{firstNo, planChecks, branchChecks, branchTableChecks, branchBuildChecks}
 use Rattle.formats.specs.Built.{builtNodeTable, builtBranchTable, BranchBuilt}
 use Rattle.formats.specs.Buffers.{headedBuffersFit, branchTables}
 use Rattle.formats.proofs.InputLaws.{branch-table-passes}
@@ -50,6 +53,7 @@ use Rattle.branches.proofs.AskRange.{built-usable}
 use Rattle.branches.proofs.AskTheorem as ask-theorem
 use Rattle.branches.proofs.BranchTheorems as branch-theorems
 use Rattle.questions.specs.ready.Parts.{movesOf, climbMoves}
+use Rattle.reference.proofs.Sample.{planA}
 use Rattle.capi.specs.numbers.Numbers.{bitOf, yesOf}
 use Rattle.capi.specs.branch_calls.BranchExported.{AskExported, endOf, acceptedOf, linksOf, passedOf}
 use Rattle.capi.proofs.numbers.BuildExportedLaws.{exported-lists}
@@ -57,7 +61,7 @@ use Rattle.capi.proofs.branch_calls.Ties.{branch-build-as-built, branch-check-e
 use Rattle.capi.proofs.branch_calls.Ties.{WordTold, branch-told, branch-apart}
 use Rattle.capi_branch_upper.proofs.Ties.{branch-upper-told}
 use Rattle.claims.specs.CallAnswers.{BranchBuildCall, BranchCheckCall}
-use Rattle.claims.specs.BranchAnswers.{BranchAnswered, BranchAnsweredOn}
+use Rattle.claims.specs.BranchAnswers.{BranchAnswered, BranchAnsweredOn, branchTableA}
 
 -- ---- the build
 
@@ -91,6 +95,13 @@ module _ (p r nodeTable stateTable : List ℕ) (n : ℕ) (nodeTable′ stateTabl
               ∙ branchTable-map (branchAutomaton r) (planTree p) stateTable′ states v (omega (arith, z)) q l),
         ),
       )
+
+-- the sample's plan (document 01) with a branch table is accepted with 28 numbers and 21 bytes, and with no fewer
+build-sample : (firstNo (branchBuildChecks planA branchTableA 28 21) ≡ 0)
+    × (firstNo (branchBuildChecks planA branchTableA 27 21) ≡ 11)
+    × (firstNo (branchBuildChecks planA branchTableA 28 20) ≡ 11)
+unfolding planA branchTableA branchBuildChecks branchTableChecks planChecks branchChecks firstNo allBelow isPostorder
+build-sample = (refl, refl, refl)
 
 -- ---- the full check
 
@@ -129,8 +140,9 @@ module _ (reading : Reading) (p r nodeTable stateTable : List ℕ) (u l n s₀ y
 
   -- ---- on any tables
 
-  -- an accepted answer's state is a state, yes is its mark, its links are those "of the climb from the lower node to the
-  -- upper's depth" by the table that was passed in, and it passed over "the depth of its start less the depth of its end"
+  -- an accepted answer's state is a state, yes is its mark, its links are those "of the climb from the lower node to
+  -- the upper's depth" by the table that was passed in, and it passed over "the depth of its start less the depth of
+  -- its end"
   answers-lent : n ≡ 0 → BranchAnsweredOn p r nodeTable u l s₁ y₁ k₁ d₁
   answers-lent z =
       let w = answered z in
@@ -228,7 +240,8 @@ module _ (reading : Reading) (p r nodeTable stateTable : List ℕ) (u l n s₀ y
 
 -- ---- the two readings
 
--- "a branch answer is the word automaton's"; "Demand 2 holds for each on its own word."; "The plain call now reads the word from below the upper node"
+-- "a branch answer is the word automaton's"; "Demand 2 holds for each on its own word."; "The plain call now reads
+-- the word from below the upper node"
 below-upper : (p r nodeTable stateTable : List ℕ) (u l n s₀ y₀ k₀ d₀ s₁ y₁ k₁ d₁ : ℕ)
     → AskExported BelowUpper p r nodeTable stateTable u l n s₀ y₀ k₀ d₀ s₁ y₁ k₁ d₁
     → BranchBuilt p r nodeTable stateTable → u < nodeCount p → l < nodeCount p → AtOrBelow (planTree p) u l

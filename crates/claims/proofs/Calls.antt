@@ -8,7 +8,7 @@
 --     plan-of-planner, planner-of-plan            whatif_plan_of_planner, whatif_planner_of_plan
 --     lay-over, count                             whatif_lay_over, whatif_count
 --     colour-branch-build, colour-branch, colour-branch-with-upper, colour-build, colour-ask   those by colours
---     ..-order                                    the fixed order: the numbers of each call's checks, one after the other
+--     ..-order                                    the fixed order: the numbers of each call's checks
 -- That each promise is the function's own contract: Contracts, and whatif_version there, which refuses nothing. The
 -- session's calls: Main. What an accepted call answers: Tables, Branches, Planner, Products, Choices, Lists, Colours,
 -- ColourSets. That every call ends is part of each function's proof.
@@ -41,7 +41,8 @@ use Rattle.capi.specs.list_calls.ListsExported.{LayExported}
 use Rattle.capi.specs.choice_calls.CountExported as choices
 use Rattle.capi.specs.choice_calls.CountExported.{CountExported}
 use Rattle.capi.proofs.table_calls.Theorems.{build-number, build-kept, check-number, check-kept, run-number, run-kept}
-use Rattle.capi.proofs.branch_calls.Ties.{branch-build-number, branch-build-kept, branch-check-number, branch-check-kept}
+use Rattle.capi.proofs.branch_calls.Ties.{branch-build-number, branch-build-kept, branch-check-number}
+use Rattle.capi.proofs.branch_calls.Ties.{branch-check-kept}
 use Rattle.capi.proofs.branch_calls.Ties.{branch-number, branch-kept}
 use Rattle.capi.proofs.product_calls.Ties.{merge-number, merge-kept, agree-number, agree-kept}
 use Rattle.capi.proofs.planner_calls.Ties.{out-number, out-kept, home-number, home-kept}
@@ -52,8 +53,10 @@ use Rattle.capi_colours.specs.branch_calls.DescentExported.{DescentExported}
 use Rattle.capi_colours.specs.rule_calls.RuleExported.{RuleExported}
 use Rattle.capi_colours.proofs.branch_calls.Ties.{colour-branch-build-number, colour-branch-build-kept}
 use Rattle.capi_colours.proofs.branch_calls.Ties.{colour-branch-number, colour-branch-kept}
-use Rattle.capi_colours.proofs.rule_calls.Ties.{colour-build-number, colour-build-kept, colour-ask-number, colour-ask-kept}
-use Rattle.claims.specs.CallAnswers.{AllPass, Answers, numbersOf, agreeCallChecks, BuildCall, CheckCall, BranchBuildCall}
+use Rattle.capi_colours.proofs.rule_calls.Ties.{colour-build-number, colour-build-kept, colour-ask-number}
+use Rattle.capi_colours.proofs.rule_calls.Ties.{colour-ask-kept}
+use Rattle.claims.specs.CallAnswers.{AllPass, Answers, numbersOf, agreeCallChecks, BuildCall, CheckCall}
+use Rattle.claims.specs.CallAnswers.{BranchBuildCall}
 use Rattle.claims.specs.CallAnswers.{BranchCheckCall, ColourBranchBuildCall, ColourBuildCall}
 
 -- what "everything else is accepted" adds: where every check passes, none is the first that fails
@@ -121,14 +124,16 @@ branch : (p r nodeTable stateTable : List ℕ) (u l n s₀ y₀ k₀ d₀ s₁ y
     → AskExported BelowUpper p r nodeTable stateTable u l n s₀ y₀ k₀ d₀ s₁ y₁ k₁ d₁
     → Answers n (askChecks BelowUpper p r nodeTable stateTable u l)
     ((s₁ ≡ s₀) × (y₁ ≡ y₀) × (k₁ ≡ k₀) × (d₁ ≡ d₀))
-branch p r a b u l n s y k d s′ y′ k′ d′ E = answers _ _ _ (branch-number BelowUpper p r a b u l n s y k d s′ y′ k′ d′ E)
+branch p r a b u l n s y k d s′ y′ k′ d′ E =
+    answers _ _ _ (branch-number BelowUpper p r a b u l n s y k d s′ y′ k′ d′ E)
     (branch-kept BelowUpper p r a b u l n s y k d s′ y′ k′ d′ E)
 
 branch-with-upper : (p r nodeTable stateTable : List ℕ) (u l n s₀ y₀ k₀ d₀ s₁ y₁ k₁ d₁ : ℕ)
     → AskExported WithUpper p r nodeTable stateTable u l n s₀ y₀ k₀ d₀ s₁ y₁ k₁ d₁
     → Answers n (askChecks WithUpper p r nodeTable stateTable u l)
     ((s₁ ≡ s₀) × (y₁ ≡ y₀) × (k₁ ≡ k₀) × (d₁ ≡ d₀))
-branch-with-upper p r a b u l n s y k d s′ y′ k′ d′ E = answers _ _ _ (branch-upper-number p r a b u l n s y k d s′ y′ k′ d′ E)
+branch-with-upper p r a b u l n s y k d s′ y′ k′ d′ E =
+    answers _ _ _ (branch-upper-number p r a b u l n s y k d s′ y′ k′ d′ E)
     (branch-upper-kept p r a b u l n s y k d s′ y′ k′ d′ E)
 
 branch-build-order : (p r : List ℕ) (nodeTable stateTable : ℕ)
@@ -237,7 +242,8 @@ colour-branches : (reading : Reading) (p r nodeTable numbers bytes : List ℕ) (
     → DescentExported reading p r nodeTable numbers bytes u l n s₀ y₀ d₀ k₀ s₁ y₁ d₁ k₁
     → Answers n (colourChecks reading p r nodeTable numbers bytes u l)
     ((s₁ ≡ s₀) × (y₁ ≡ y₀) × (d₁ ≡ d₀) × (k₁ ≡ k₀))
-colour-branches reading p r a x b u l n s y d k s′ y′ d′ k′ E = answers _ _ _ (colour-branch-number reading p r a x b u l n s y d k s′ y′ d′ k′ E)
+colour-branches reading p r a x b u l n s y d k s′ y′ d′ k′ E =
+    answers _ _ _ (colour-branch-number reading p r a x b u l n s y d k s′ y′ d′ k′ E)
     (colour-branch-kept reading p r a x b u l n s y d k s′ y′ d′ k′ E)
 
 colour-branch : (p r nodeTable numbers bytes : List ℕ) (u l n s₀ y₀ d₀ k₀ s₁ y₁ d₁ k₁ : ℕ)
@@ -263,7 +269,8 @@ colour-ask : (p r nodeTable stateTable numbers bytes vs bs : List ℕ) (n s₀ y
     → RuleExported p r nodeTable stateTable numbers bytes vs bs n s₀ y₀ d₀ k₀ m₀ s₁ y₁ d₁ k₁ m₁
     → Answers n (ruleAskChecks p r nodeTable stateTable numbers bytes vs bs)
     ((s₁ ≡ s₀) × (y₁ ≡ y₀) × (d₁ ≡ d₀) × (k₁ ≡ k₀) × (m₁ ≡ m₀))
-colour-ask p r a b x y vs bs n s₀ y₀ d₀ k₀ m₀ s₁ y₁ d₁ k₁ m₁ E = answers _ _ _ (colour-ask-number p r a b x y vs bs n s₀ y₀ d₀ k₀ m₀ s₁ y₁ d₁ k₁ m₁ E)
+colour-ask p r a b x y vs bs n s₀ y₀ d₀ k₀ m₀ s₁ y₁ d₁ k₁ m₁ E =
+    answers _ _ _ (colour-ask-number p r a b x y vs bs n s₀ y₀ d₀ k₀ m₀ s₁ y₁ d₁ k₁ m₁ E)
     (colour-ask-kept p r a b x y vs bs n s₀ y₀ d₀ k₀ m₀ s₁ y₁ d₁ k₁ m₁ E)
 
 -- "a short one gives 11 in the build and 17 in a question"

@@ -4,8 +4,8 @@
 --     count-as-asked                 parts and links are those of a question
 --     count-none-open                no open node: one part, no links, and the run's own state has count 1
 --     count-never-18                 18 never comes on tables as built
---     count-promised, count-cause-of-18, count-by-parts   what holds on any tables: the named result's properties, what 18
---                                    means, and the counts part by part where the bytes are any below S
+--     count-promised, count-cause-of-18, count-by-parts   what holds on any tables: the named result's properties, what
+--                                    18 means, and the counts part by part where the bytes are any below S
 -- The numbers 17, 12, 13, 15, 26, 18, 11 and that a refused call alters nothing: Calls.
 use Prim.Native.Nat.{ℕ, _^_, _<_}
 use mathlib.Core.Path.{_≡_, sym, ap, _∙_}
@@ -65,7 +65,8 @@ module _ (p r nodeTable stateTable vs counts : List ℕ) (parts links : ℕ) (co
   -- "and their sum is K to the power m"
   count-sum : sumTo (stateCount r) (λ c. getD counts′ c 0) ≡ labelCount r ^ length vs
   count-sum =
-      sum-ext (stateCount r) (λ c. getD counts′ c 0) (counted (ruleAutomaton r) (labelCount r) (planTree p) vs) count-each
+      sum-ext (stateCount r) (λ c. getD counts′ c 0) (counted (ruleAutomaton r) (labelCount r) (planTree p) vs)
+      count-each
       ∙ calls.count-sum p r nodeTable stateTable vs counts parts links counts′ parts′ links′ E B
 
   -- "the parts and links told are those of a question whose W is these nodes and the root"
@@ -133,8 +134,8 @@ module _ (p r nodeTable stateTable vs counts : List ℕ) (parts links n : ℕ) (
       listed-not-18 _ _ _ _ _
       (sym (choices.count-number p r nodeTable stateTable vs (countResult p r nodeTable stateTable vs) D B) ∙ own-18 e)
 
-  -- "They are reckoned part by part": where the numbers are as built and the run states and maps are any bytes below S, an
-  -- accepted count is what the rule of the parts gives on those bytes (G)
+  -- "They are reckoned part by part": where the numbers are as built and the run states and maps are any bytes below
+  -- S, an accepted count is what the rule of the parts gives on those bytes (G)
   count-by-parts : n ≡ 0 → (G : Given) → Reads (countView p r nodeTable stateTable) G → G .labels ≡ labelsOf (G .tree)
       → (counts′ ≡ overBuffer (stateCount r) (ruledCount G (labelCount r) vs .counts) counts)
       × (parts′ ≡ length (roots (G .tree) vs)) × (links′ ≡ questionLinks (G .tree) (roots (G .tree) vs))
@@ -142,7 +143,8 @@ module _ (p r nodeTable stateTable vs counts : List ℕ) (parts links n : ℕ) (
   count-by-parts z G R l =
       let pass : firstNo (listedChecks p r (length nodeTable) (length stateTable) vs) ≡ 0 =
       firstNo-append-left (listedChecks p r (length nodeTable) (length stateTable) vs)
-      (check 18 (isCountable (countView p r nodeTable stateTable) vs) ∷ []) (listed-numbered p r nodeTable stateTable vs)
+      (check 18 (isCountable (countView p r nodeTable stateTable) vs) ∷ [])
+      (listed-numbered p r nodeTable stateTable vs)
       (firstNo-append-left (countChecks p r nodeTable stateTable vs)
       (check 11 (leb (stateCount r) (length counts)) ∷ []) (checks-numbered p r nodeTable stateTable vs)
       (sym (E .number) ∙ z)) in

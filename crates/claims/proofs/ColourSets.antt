@@ -5,11 +5,13 @@
 --     sets-built, sets-refused what the build for a rule table writes, and that a refused one alters nothing
 --     sets-27, sets-short      27 after 9, 11 where the tables of colours are too short
 --     run-answers              on tables as built a question's answer is the fresh run's of the changed plan, its drops
---                              those of the tree's own trials, at most 60 for each one-sided part, at most 45 links each
+--                              those of the tree's own trials, at most 60 for each one-sided part, with at most 45
+--                              links each
 --     sets-never-18            18 never comes on tables as built
 --     sets-on-run-states       on any run states below S: what the parts by their trials give on those bytes
 --     sets-state, sets-cause-of-18   what holds on any tables
 --     sets-short-asked, sets-27-asked   17 where the tables of colours are too short for a question, then 27
+--     sets-sample              the build accepts the sample's plan and table
 --     sets-from-builds, sets-answered   what the two builds leave is as built, and questions on it are answered
 -- Colours of any count of states, words and the next drop: Colours. The promises of the calls themselves, on every
 -- input, are their contracts (capi_colours/rule_calls).
@@ -24,6 +26,7 @@ use borrow.Author.Tests.{lt-leb, leb-true}
 use Rattle.list_laws.specs.Tests.{allBelow, holds}
 use Rattle.trees.specs.Tree.{Tree, size}
 use Rattle.trees.specs.Automaton.{Automaton}
+use Rattle.trees.specs.Postorder.{isPostorder}
 use Rattle.trees.specs.Numbering.{depth, ancestor, InSubtree}
 use Rattle.trees.specs.Tables.{stepUp}
 use Rattle.formats.specs.Plan.{nodeCount, planTree, labelsIn}
@@ -39,6 +42,7 @@ use Rattle.questions.specs.ready.StaysInside.{StaysInside}
 use Rattle.questions.proofs.ready.ListLaws.{list-members}
 use Rattle.questions.proofs.ready.PartsRun.{Members, RunGiven}
 use Rattle.reference.proofs.FreshLaws.{rules-inside}
+use Rattle.reference.proofs.Sample.{planA, tableA}
 use Rattle.colours.specs.StateSets.{setOf, member, setStep}
 use Rattle.colours.proofs.BitLaws.{member-setOf}
 use Rattle.colours.proofs.SetLaws.{setStep-down}
@@ -46,7 +50,7 @@ use Rattle.colours.proofs.Theorems.{SetAnswer, set-targets}
 use Rattle.colour_questions.specs.parts.Searches.{questionSearches}
 use Rattle.colour_questions.specs.parts.Sides.{SideFound}
 use Rattle.colour_questions.proofs.parts.SideLaws.{side-found}
-use Rattle.colour_tables.specs.rule.Build.{setColoursFit, builtSetNumbers, builtSetBytes}
+use Rattle.colour_tables.specs.rule.Build.{setColoursFit, ruleColourChecks, builtSetNumbers, builtSetBytes}
 use Rattle.colour_tables.proofs.rule.CheckAnswers.{states-refused, room-refused}
 use Rattle.colour_questions.specs.declared.rule.answers.RuleDescending.{RuleDescending}
 use Rattle.colour_questions.specs.rule.OutOfRange.{RuleColoursOutOfRange}
@@ -134,9 +138,9 @@ module _ (p r nodeTable stateTable numbers bytes vs bs : List ℕ) (n s₀ y₀ 
   -- ---- on tables as built
 
   module _ (D : RuleColoursBuilt p r nodeTable stateTable numbers bytes) where
-    -- "On tables as built from what is lent" "the same goes top down over sets of states": the fresh run's state and mark
-    -- of the changed plan and the session's parts; the drops of the tree's own trials, at most 60 for each part with
-    -- members below one child only; the links of their searches, at most 45 each
+    -- "On tables as built from what is lent" "the same goes top down over sets of states": the fresh run's state and
+    -- mark of the changed plan and the session's parts; the drops of the tree's own trials, at most 60 for each part
+    -- with members below one child only; the links of their searches, at most 45 each
     pub run-answers : firstNo (listChecks (nodeCount p) (labelCount r) vs bs) ≡ 0
         → RuleColourAnswered p r vs bs n s₁ y₁ d₁ k₁ m₁
     unfolding questionSearches roots
@@ -156,8 +160,7 @@ module _ (p r nodeTable stateTable numbers bytes vs bs : List ℕ) (n s₀ y₀ 
           drops-are = W .drops-are
               ∙ all-drops (ruleAutomaton r) (planTree p) (changedTree p vs bs) S four ms (M .rising) (M .inside) ms
               (λ v k. k);
-          each = λ v k. part-sixty (ruleAutomaton r) (planTree p) (changedTree p vs bs) S four ms (M .rising) (M .inside)
-              v k;
+          each = part-sixty (ruleAutomaton r) (planTree p) (changedTree p vs bs) S four ms (M .rising) (M .inside);
           searched = W .drops-are;
           links-are = W .links-are;
           few = E .done .built D c .few;
@@ -169,8 +172,9 @@ module _ (p r nodeTable stateTable numbers bytes vs bs : List ℕ) (n s₀ y₀ 
 
   -- ---- on any tables
 
-  -- the run states are read (document 01: "stores and counts what this rule gives on those bytes"): where the colours are as
-  -- built and the run states any bytes below S, the answer is what the parts by their trials give on those bytes
+  -- the run states are read (document 01: "stores and counts what this rule gives on those bytes"): where the colours
+  -- are as built and the run states any bytes below S, the answer is what the parts by their trials give on those
+  -- bytes
   sets-on-run-states : RuleColoursUsable p r nodeTable stateTable numbers bytes
       → firstNo (listChecks (nodeCount p) (labelCount r) vs bs) ≡ 0
       → RuleTrialsAnswered p r nodeTable stateTable vs bs n s₁ y₁ d₁ k₁ m₁
@@ -199,9 +203,12 @@ module _ (p r nodeTable stateTable numbers bytes vs bs : List ℕ) (n s₀ y₀ 
       let w = answer-there r x o (sym (ap ruleDescendingNumber i) ∙ sym (E .number .result) ∙ z)
       (subst (stateKept r) i (E .done .properties)) (subst linksKept i (E .done .few)) s₀ y₀ d₀ k₀ m₀ in
       let s : s₁ ≡ endOf (ruleAnswer r x o) s₀ = E .number .state-answer ∙ ap (λ (a : RuleDescending). endOf a s₀) i in
-      let d : d₁ ≡ dropsOf (ruleAnswer r x o) d₀ = E .number .drops-answer ∙ ap (λ (a : RuleDescending). dropsOf a d₀) i in
-      let k : k₁ ≡ linksOf (ruleAnswer r x o) k₀ = E .number .links-answer ∙ ap (λ (a : RuleDescending). linksOf a k₀) i in
-      let m : m₁ ≡ partsOf (ruleAnswer r x o) m₀ = E .number .parts-answer ∙ ap (λ (a : RuleDescending). partsOf a m₀) i in (
+      let d : d₁ ≡ dropsOf (ruleAnswer r x o) d₀ =
+      E .number .drops-answer ∙ ap (λ (a : RuleDescending). dropsOf a d₀) i in
+      let k : k₁ ≡ linksOf (ruleAnswer r x o) k₀ =
+      E .number .links-answer ∙ ap (λ (a : RuleDescending). linksOf a k₀) i in
+      let m : m₁ ≡ partsOf (ruleAnswer r x o) m₀ =
+      E .number .parts-answer ∙ ap (λ (a : RuleDescending). partsOf a m₀) i in (
         rw s (w .0),
         E .number .yes-answer ∙ ap (λ (a : RuleDescending). acceptedOf a y₀) i ∙ w .1
             ∙ ap (λ (q : ℕ). bitOf (ruleAutomaton r .accepting q)) (sym s),
@@ -229,6 +236,12 @@ module _ (p r nodeTable stateTable numbers bytes vs bs : List ℕ) (n s₀ y₀ 
       E .number .result ∙ E .done .number ∙ firstNo-yes 17 _ _ fit ∙ firstNo-no 27 _ _ (lt-leb (stateCount r) 4 h)
 
 -- ---- both builds, then questions
+
+-- the sample's plan and table (document 01) are accepted by the build with 112 numbers and 49 bytes, and with no fewer
+sets-sample : (firstNo (ruleColourChecks planA tableA 112 49) ≡ 0) × (firstNo (ruleColourChecks planA tableA 111 49) ≡ 11)
+    × (firstNo (ruleColourChecks planA tableA 112 48) ≡ 11)
+unfolding planA tableA ruleColourChecks planChecks ruleChecks firstNo allBelow isPostorder
+sets-sample = (refl, refl, refl)
 
 -- what the two builds leave is as built ..
 sets-from-builds : (p r x y x′ y′ numbers bytes numbers′ bytes′ : List ℕ) → BuildCall p r x y 0 x′ y′

@@ -13,6 +13,7 @@
 --     next-drop, next-drop-links, links-few   a next drop is found by 01's jumps and climb; its links are at most 45
 --     words-built, words-refused, words-short   what the build for a branch table writes; 11 where it is too short
 --     words-short-asked           17 where it is too short for a question
+--     words-sample                a plan and a branch table that the build accepts
 --     words-from-builds, words-answered   what the two builds leave is as built, and questions on it are answered
 -- Sets of states and rule questions: ColourSets. The promises of the calls themselves, on every input, are their
 -- contracts (crate capi_colours).
@@ -24,15 +25,17 @@ use mathlib.Core.Logic.{_↔_}
 use mathlib.Core.Option.{Option, none, some}
 use native.Mathlib.Omega.{arith}
 use lib.ListN.{length, getD, take, drop}
+use Rattle.list_laws.specs.Tests.{allBelow}
 use Rattle.list_laws.proofs.Choice.{le-or}
 use Rattle.trees.specs.Tree.{Tree, size, height}
 use Rattle.trees.specs.Automaton.{Automaton, WordAutomaton}
 use Rattle.trees.specs.Numbering.{sub, word, wordBelow, AtOrBelow}
 use Rattle.trees.specs.Climb.{digits}
+use Rattle.trees.specs.Postorder.{isPostorder}
 use Rattle.trees.proofs.IntervalLaws.{interval-ancestor}
 use Rattle.formats.specs.Plan.{nodeCount, planTree}
 use Rattle.formats.specs.Rules.{stateCount, labelCount, branchAutomaton}
-use Rattle.formats.specs.Checks.{firstNo, branchTableChecks}
+use Rattle.formats.specs.Checks.{firstNo, planChecks, branchChecks, branchTableChecks}
 use Rattle.formats.specs.Built.{BranchBuilt}
 use Rattle.formats.proofs.PlanLaws.{size-planTree}
 use Rattle.formats.proofs.BranchLaws.{step-below}
@@ -57,7 +60,7 @@ use Rattle.colours.proofs.DescentLaws.{AllLe}
 use Rattle.colours.proofs.WordLaws.{WordAnswer}
 use Rattle.colours.proofs.Theorems.{colours-one-each, colours-only-fall, drops-below-colours, word-upper, word-below}
 use Rattle.colours.proofs.Theorems.{links-limit}
-use Rattle.colour_tables.specs.branch.Build.{coloursFit, builtColourNumbers, builtCopies, BranchColoured}
+use Rattle.colour_tables.specs.branch.Build.{coloursFit, branchColourChecks, builtColourNumbers, builtCopies, BranchColoured}
 use Rattle.colour_tables.proofs.branch.BuildLaws.{room-no}
 use Rattle.colour_questions.specs.declared.branch.answers.Descending.{Descending}
 use Rattle.colour_questions.specs.branch.OutOfRange.{BranchColoursOutOfRange}
@@ -68,14 +71,18 @@ use Rattle.colour_questions.proofs.branch.AskBuilt as colour-asks
 use Rattle.colour_questions.proofs.branch.AskChecks.{ask-17, ask-13-upper, ask-13-lower}
 use Rattle.colour_questions.proofs.branch.OnCopies as copies
 use Rattle.colour_questions.proofs.branch.OnCopies.{OnCopies, on-copies}
+use Rattle.reference.proofs.Sample.{planA}
 use Rattle.capi.specs.numbers.Numbers.{bitOf}
 use Rattle.capi.specs.branch_calls.BranchExported.{AskExported}
 use Rattle.capi.proofs.branch_calls.Ties.{branch-build-as-built}
 use Rattle.capi_colours.specs.branch_calls.DescentExported.{DescentExported, endOf, acceptedOf, dropsOf, linksOf}
-use Rattle.capi_colours.proofs.branch_calls.Theorems.{WordAnswered, branch-build-number, branch-build-writes, branch-build-refused}
-use Rattle.capi_colours.proofs.branch_calls.Theorems.{branch-build-coloured, branch-descent-answers, branch-descent-apart}
+use Rattle.capi_colours.proofs.branch_calls.Theorems.{WordAnswered, branch-build-number, branch-build-writes}
+use Rattle.capi_colours.proofs.branch_calls.Theorems.{branch-build-refused}
+use Rattle.capi_colours.proofs.branch_calls.Theorems.{branch-build-coloured, branch-descent-answers}
+use Rattle.capi_colours.proofs.branch_calls.Theorems.{branch-descent-apart}
 use Rattle.capi_colours.proofs.branch_calls.Theorems.{branch-descent-built}
 use Rattle.claims.specs.CallAnswers.{BranchBuildCall, ColourBranchBuildCall}
+use Rattle.claims.specs.BranchAnswers.{branchTableA}
 use Rattle.claims.specs.ColourAnswers.{WordColourAnswer, wordStart, WordCopiesAnswer}
 use Rattle.claims.proofs.ColourLaws.{word-few}
 use Rattle.claims.proofs.Branches as branches
@@ -175,12 +182,13 @@ module _ (reading : Reading) (p r nodeTable numbers bytes : List ℕ) (u l n s�
   words-cause-of-18 : n ≡ 18 → BranchColoursOutOfRange p r nodeTable numbers bytes
   words-cause-of-18 e = E .done .out-of-range (sym (E .number .result) ∙ e)
 
-  -- the copies are read, as the maps are (document 01: "stores and counts what this rule gives on those bytes"): where plan,
-  -- table, node table and the colours' numbers are as built and the copies are any bytes below S with state 0 in each, the
-  -- state is the byte of the colour that the tree's own descent ends with, and its drops and links are the descent's
+  -- the copies are read, as the maps are (document 01: "stores and counts what this rule gives on those bytes"):
+  -- where plan, table, node table and the colours' numbers are as built and the copies are any bytes below S with
+  -- state 0 in each, the state is the byte of the colour that the tree's own descent ends with, and its drops and
+  -- links are the descent's
   words-on-copies : BranchColoursUsable p r nodeTable numbers bytes
-      → colourBuffersFit p r (length nodeTable) (length numbers) (length bytes) ≡ true → u < nodeCount p → l < nodeCount p
-      → AtOrBelow (planTree p) u l → WordCopiesAnswer reading p r bytes u l n s₁ y₁ d₁ k₁
+      → colourBuffersFit p r (length nodeTable) (length numbers) (length bytes) ≡ true → u < nodeCount p
+      → l < nodeCount p → AtOrBelow (planTree p) u l → WordCopiesAnswer reading p r bytes u l n s₁ y₁ d₁ k₁
   unfolding descendingNumber
   words-on-copies U f hu hl A =
       let O : OnCopies reading p r bytes u l (colourAskAnswer reading p r nodeTable numbers bytes u l) =
@@ -219,7 +227,8 @@ module _ (reading : Reading) (p r nodeTable numbers bytes : List ℕ) (u l n s�
         )
 
     module _ (hu : u < nodeCount p) (hl : l < nodeCount p) where
-      -- "its drops, the places on the path where the colour falls, are at most S-1", "the moves are the links, at most 45"
+      -- "its drops, the places on the path where the colour falls, are at most S-1", "the moves are the links, at
+      -- most 45"
       pub word-answers : AtOrBelow (planTree p) u l → WordColourAnswer reading p r u l n s₁ y₁ d₁ k₁
       word-answers A =
           let W : WordAnswered reading p r nodeTable numbers bytes u l n s₀ y₀ d₀ k₀ s₁ y₁ d₁ k₁ E =
@@ -284,8 +293,8 @@ module _ (reading : Reading) (p r nodeTable numbers bytes : List ℕ) (u l n s�
           (branches.lent-16 reading p r nodeTable stateTable u l m q₀ a₀ b₀ c₀ q₁ a₁ b₁ c₁ F
           (climb-asks.fits-built p r nodeTable stateTable B) hu hl .1 e)
 
-      -- "On tables as built from what is lent, a branch answer by colours is that of the climb, for either reading of the
-      -- word": of any two numbers, 13 and 16 included
+      -- "On tables as built from what is lent, a branch answer by colours is that of the climb, for either reading of
+      -- the word": of any two numbers, 13 and 16 included
       as-the-climb : (n ≡ m) × (n ≡ 0 → (s₁ ≡ q₁) × (y₁ ≡ a₁))
       as-the-climb =
           let no = branches.not-in-plan reading p r nodeTable stateTable u l m q₀ a₀ b₀ c₀ q₁ a₁ b₁ c₁ F B in
@@ -342,7 +351,15 @@ words-short-asked reading p r nodeTable numbers bytes u l n state₀ yes₀ drop
     E .number .result
     ∙ ap descendingNumber (E .done .result ∙ sym (ask-17 reading p r nodeTable numbers bytes u l short))
 
--- what the two builds leave is as built, so that a question on it is answered: every pair of a node and one at or below it
+-- the sample's plan (document 01) with a branch table is accepted with 56 numbers and 14 bytes, and with no fewer
+words-sample : (firstNo (branchColourChecks planA branchTableA 56 14) ≡ 0)
+    × (firstNo (branchColourChecks planA branchTableA 55 14) ≡ 11)
+    × (firstNo (branchColourChecks planA branchTableA 56 13) ≡ 11)
+unfolding planA branchTableA branchColourChecks branchTableChecks planChecks branchChecks firstNo allBelow isPostorder
+words-sample = (refl, refl, refl)
+
+-- what the two builds leave is as built, so that a question on it is answered: every pair of a node and one at or
+-- below it
 words-from-builds : (p r x y x′ y′ numbers bytes numbers′ bytes′ : List ℕ) → BranchBuildCall p r x y 0 x′ y′
     → ColourBranchBuildCall p r numbers bytes 0 numbers′ bytes′ → BranchColoursBuilt p r x′ numbers′ bytes′
 words-from-builds p r x y x′ y′ numbers bytes numbers′ bytes′ E F = record {

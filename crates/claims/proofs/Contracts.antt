@@ -1,7 +1,7 @@
--- Each promise that Calls and the files beside it take is the function's own contract, as the prover itself reads it off
--- the source (`Reads.Post`): κs are lifetimes, a the parameters in their order, r the result, and s what the references
--- hold at the end (parameter i is `.1` i times, then `.0`). A contract that promises less is refused here, and so is one
--- about another buffer, in another order or of the other reading.
+-- Each promise that Calls and the files beside it take is the function's own contract, as the prover itself reads it
+-- off the source (`Reads.Post`): κs are lifetimes, a the parameters in their order, r the result, and s what the
+-- references hold at the end (parameter i is `.1` i times, then `.0`). A contract that promises less is refused here,
+-- and so is one about another buffer, in another order or of the other reading.
 --     build .. colour-ask    one for each exported call outside the session, by the names of Calls
 --     version                whatif_version takes nothing and refuses nothing: it returns the version's number
 -- The session's calls and the screens': the Ties of capi_session and capi_screens.
@@ -29,7 +29,8 @@ use Rattle.capi.proofs.choice_calls.Ties.{count-tied}
 use Rattle.capi_branch_upper.proofs.Ties.{branch-upper-tied}
 use Rattle.capi_colours.specs.branch_calls.DescentExported.{DescentExported}
 use Rattle.capi_colours.specs.rule_calls.RuleExported.{RuleExported}
-use Rattle.capi_colours.proofs.branch_calls.Ties.{colour-branch-build-tied, colour-branch-tied, colour-branch-upper-tied}
+use Rattle.capi_colours.proofs.branch_calls.Ties.{colour-branch-build-tied, colour-branch-tied}
+use Rattle.capi_colours.proofs.branch_calls.Ties.{colour-branch-upper-tied}
 use Rattle.capi_colours.proofs.rule_calls.Ties.{colour-build-tied, colour-ask-tied}
 use Rattle.capi.proofs.table_calls.whatif_build as build-fn
 use Rattle.capi.proofs.table_calls.whatif_build.Kinds as build-kinds
@@ -43,15 +44,15 @@ use Rattle.capi.proofs.table_calls.whatif_fresh_run.Reads as fresh-run-reads
 use Rattle.capi.proofs.branch_calls.whatif_branch_build as branch-build-fn
 use Rattle.capi.proofs.branch_calls.whatif_branch_build.Kinds as branch-build-kinds
 use Rattle.capi.proofs.branch_calls.whatif_branch_build.Reads as branch-build-reads
-use Rattle.capi.proofs.branch_calls.whatif_branch_check as branch-full-check-fn
-use Rattle.capi.proofs.branch_calls.whatif_branch_check.Kinds as branch-full-check-kinds
-use Rattle.capi.proofs.branch_calls.whatif_branch_check.Reads as branch-full-check-reads
+use Rattle.capi.proofs.branch_calls.whatif_branch_check as branch-check-fn
+use Rattle.capi.proofs.branch_calls.whatif_branch_check.Kinds as branch-check-kinds
+use Rattle.capi.proofs.branch_calls.whatif_branch_check.Reads as branch-check-reads
 use Rattle.capi.proofs.branch_calls.whatif_branch as branch-fn
 use Rattle.capi.proofs.branch_calls.whatif_branch.Kinds as branch-kinds
 use Rattle.capi.proofs.branch_calls.whatif_branch.Reads as branch-reads
-use Rattle.capi_branch_upper.proofs.whatif_branch_with_upper as branch-with-upper-fn
-use Rattle.capi_branch_upper.proofs.whatif_branch_with_upper.Kinds as branch-with-upper-kinds
-use Rattle.capi_branch_upper.proofs.whatif_branch_with_upper.Reads as branch-with-upper-reads
+use Rattle.capi_branch_upper.proofs.whatif_branch_with_upper as branch-upper-fn
+use Rattle.capi_branch_upper.proofs.whatif_branch_with_upper.Kinds as branch-upper-kinds
+use Rattle.capi_branch_upper.proofs.whatif_branch_with_upper.Reads as branch-upper-reads
 use Rattle.capi.proofs.product_calls.whatif_merge as merge-fn
 use Rattle.capi.proofs.product_calls.whatif_merge.Kinds as merge-kinds
 use Rattle.capi.proofs.product_calls.whatif_merge.Reads as merge-reads
@@ -70,15 +71,15 @@ use Rattle.capi.proofs.list_calls.whatif_lay_over.Reads as lay-over-reads
 use Rattle.capi.proofs.choice_calls.whatif_count as count-fn
 use Rattle.capi.proofs.choice_calls.whatif_count.Kinds as count-kinds
 use Rattle.capi.proofs.choice_calls.whatif_count.Reads as count-reads
-use Rattle.capi_colours.proofs.branch_calls.whatif_colour_branch_build as colour-branch-build-fn
-use Rattle.capi_colours.proofs.branch_calls.whatif_colour_branch_build.Kinds as colour-branch-build-kinds
-use Rattle.capi_colours.proofs.branch_calls.whatif_colour_branch_build.Reads as colour-branch-build-reads
+use Rattle.capi_colours.proofs.branch_calls.whatif_colour_branch_build as words-build-fn
+use Rattle.capi_colours.proofs.branch_calls.whatif_colour_branch_build.Kinds as words-build-kinds
+use Rattle.capi_colours.proofs.branch_calls.whatif_colour_branch_build.Reads as words-build-reads
 use Rattle.capi_colours.proofs.branch_calls.whatif_colour_branch as colour-branch-fn
 use Rattle.capi_colours.proofs.branch_calls.whatif_colour_branch.Kinds as colour-branch-kinds
 use Rattle.capi_colours.proofs.branch_calls.whatif_colour_branch.Reads as colour-branch-reads
-use Rattle.capi_colours.proofs.branch_calls.whatif_colour_branch_with_upper as colour-branch-with-upper-fn
-use Rattle.capi_colours.proofs.branch_calls.whatif_colour_branch_with_upper.Kinds as colour-branch-with-upper-kinds
-use Rattle.capi_colours.proofs.branch_calls.whatif_colour_branch_with_upper.Reads as colour-branch-with-upper-reads
+use Rattle.capi_colours.proofs.branch_calls.whatif_colour_branch_with_upper as colour-upper-fn
+use Rattle.capi_colours.proofs.branch_calls.whatif_colour_branch_with_upper.Kinds as colour-upper-kinds
+use Rattle.capi_colours.proofs.branch_calls.whatif_colour_branch_with_upper.Reads as colour-upper-reads
 use Rattle.capi_colours.proofs.rule_calls.build.whatif_colour_build as colour-build-fn
 use Rattle.capi_colours.proofs.rule_calls.build.whatif_colour_build.Kinds as colour-build-kinds
 use Rattle.capi_colours.proofs.rule_calls.build.whatif_colour_build.Reads as colour-build-reads
@@ -119,8 +120,8 @@ branch-build : (κs : Lfts 4) (a : ArgsD branch-build-fn.signature κs) (r : Res
     (now (s .1 .1 .1 .0))
 branch-build = branch-build-tied
 
-branch-full-check : (κs : Lfts 5) (a : ArgsD branch-full-check-fn.signature κs) (r : ResD branch-full-check-fn.signature κs)
-    (s : AtExit (endedOf 5 branch-full-check-kinds.ps branch-full-check-kinds.r) κs) → branch-full-check-reads.Post κs a r s
+branch-full-check : (κs : Lfts 5) (a : ArgsD branch-check-fn.signature κs) (r : ResD branch-check-fn.signature κs)
+    (s : AtExit (endedOf 5 branch-check-kinds.ps branch-check-kinds.r) κs) → branch-check-reads.Post κs a r s
     → BranchCheckCall (now (a .0)) (now (a .1 .0)) (now (a .1 .1 .0)) (now (a .1 .1 .1 .0)) r (now (a .1 .1 .1 .1 .0))
     (now (s .1 .1 .1 .1 .0))
 branch-full-check = branch-check-tied
@@ -133,8 +134,8 @@ branch : (κs : Lfts 8) (a : ArgsD branch-fn.signature κs) (r : ResD branch-fn.
     (now (s .1 .1 .1 .1 .1 .1 .1 .0)) (now (s .1 .1 .1 .1 .1 .1 .1 .1 .0)) (now (s .1 .1 .1 .1 .1 .1 .1 .1 .1 .0))
 branch = branch-tied
 
-branch-with-upper : (κs : Lfts 8) (a : ArgsD branch-with-upper-fn.signature κs) (r : ResD branch-with-upper-fn.signature κs)
-    (s : AtExit (endedOf 8 branch-with-upper-kinds.ps branch-with-upper-kinds.r) κs) → branch-with-upper-reads.Post κs a r s
+branch-with-upper : (κs : Lfts 8) (a : ArgsD branch-upper-fn.signature κs) (r : ResD branch-upper-fn.signature κs)
+    (s : AtExit (endedOf 8 branch-upper-kinds.ps branch-upper-kinds.r) κs) → branch-upper-reads.Post κs a r s
     → AskExported WithUpper (now (a .0)) (now (a .1 .0)) (now (a .1 .1 .0)) (now (a .1 .1 .1 .0)) (a .1 .1 .1 .1 .0)
     (a .1 .1 .1 .1 .1 .0) r (now (a .1 .1 .1 .1 .1 .1 .0)) (now (a .1 .1 .1 .1 .1 .1 .1 .0))
     (now (a .1 .1 .1 .1 .1 .1 .1 .1 .0)) (now (a .1 .1 .1 .1 .1 .1 .1 .1 .1 .0)) (now (s .1 .1 .1 .1 .1 .1 .0))
@@ -180,8 +181,8 @@ count = count-tied
 
 -- ---- questions by colours
 
-colour-branch-build : (κs : Lfts 4) (a : ArgsD colour-branch-build-fn.signature κs) (r : ResD colour-branch-build-fn.signature κs)
-    (s : AtExit (endedOf 4 colour-branch-build-kinds.ps colour-branch-build-kinds.r) κs) → colour-branch-build-reads.Post κs a r s
+colour-branch-build : (κs : Lfts 4) (a : ArgsD words-build-fn.signature κs) (r : ResD words-build-fn.signature κs)
+    (s : AtExit (endedOf 4 words-build-kinds.ps words-build-kinds.r) κs) → words-build-reads.Post κs a r s
     → ColourBranchBuildCall (now (a .0)) (now (a .1 .0)) (now (a .1 .1 .0)) (now (a .1 .1 .1 .0)) r (now (s .1 .1 .0))
     (now (s .1 .1 .1 .0))
 colour-branch-build = colour-branch-build-tied
@@ -195,8 +196,9 @@ colour-branch : (κs : Lfts 9) (a : ArgsD colour-branch-fn.signature κs) (r : R
     (now (s .1 .1 .1 .1 .1 .1 .1 .1 .1 .0)) (now (s .1 .1 .1 .1 .1 .1 .1 .1 .1 .1 .0))
 colour-branch = colour-branch-tied
 
-colour-branch-with-upper : (κs : Lfts 9) (a : ArgsD colour-branch-with-upper-fn.signature κs) (r : ResD colour-branch-with-upper-fn.signature κs)
-    (s : AtExit (endedOf 9 colour-branch-with-upper-kinds.ps colour-branch-with-upper-kinds.r) κs) → colour-branch-with-upper-reads.Post κs a r s
+colour-branch-with-upper : (κs : Lfts 9) (a : ArgsD colour-upper-fn.signature κs)
+    (r : ResD colour-upper-fn.signature κs)
+    (s : AtExit (endedOf 9 colour-upper-kinds.ps colour-upper-kinds.r) κs) → colour-upper-reads.Post κs a r s
     → DescentExported WithUpper (now (a .0)) (now (a .1 .0)) (now (a .1 .1 .0)) (now (a .1 .1 .1 .0))
     (now (a .1 .1 .1 .1 .0)) (a .1 .1 .1 .1 .1 .0) (a .1 .1 .1 .1 .1 .1 .0) r (now (a .1 .1 .1 .1 .1 .1 .1 .0))
     (now (a .1 .1 .1 .1 .1 .1 .1 .1 .0)) (now (a .1 .1 .1 .1 .1 .1 .1 .1 .1 .0))

@@ -24,8 +24,8 @@ use Rattle.tables.proofs.node_tables.JumpLengthLaws as lengths
 root-jumps : (t : Tree) (v : ℕ) → v + 1 ≡ size t → (parent t v ≡ v) × (jump t v ≡ v)
 root-jumps t v e = (parent-root t v e, jump-root t v e)
 
--- "For another node with parent p: if depth(p) - depth(jump p) equals depth(jump p) - depth(jump of jump p), its jump is
--- the jump of jump p; else p."
+-- "For another node with parent p: if depth(p) - depth(jump p) equals depth(jump p) - depth(jump of jump p), its jump
+-- is the jump of jump p; else p."
 jump-by-rule : (t : Tree) (v : ℕ) → v + 1 < size t
     → jump t v
     ≡ twoDistances (depth t (parent t v)) (depth t (jump t (parent t v))) (depth t (jump t (jump t (parent t v))))
@@ -49,7 +49,8 @@ depths-one-to-seven t v h = (
 )
   where
     at : (i : ℕ)
-        → getD (jumpDepth 1 ∷ jumpDepth 2 ∷ jumpDepth 3 ∷ jumpDepth 4 ∷ jumpDepth 5 ∷ jumpDepth 6 ∷ jumpDepth 7 ∷ []) i 0
+        → getD (jumpDepth 1 ∷ jumpDepth 2 ∷ jumpDepth 3 ∷ jumpDepth 4 ∷ jumpDepth 5 ∷ jumpDepth 6 ∷ jumpDepth 7 ∷ [])
+        i 0
         ≡ getD (0 ∷ 1 ∷ 0 ∷ 3 ∷ 4 ∷ 3 ∷ 0 ∷ []) i 0
     at i = ap (λ (l : List ℕ). getD l i 0) jumpDepth-samples
 

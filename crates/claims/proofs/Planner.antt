@@ -2,7 +2,8 @@
 --     out-writes, n-becomes-2n+1   whatif_plan_of_planner: the plan and the places of the definition, 2n+1 nodes
 --     out-malformed, out-no-nodes, out-label, out-room   what 19, 20 and 21 are given for
 --     home-restores-file           going out and home restores the file
---     home-accepts, home-exactly   whatif_planner_of_plan accepts exactly the plans that come from a file: by trees, by files
+--     home-accepts, home-exactly   whatif_planner_of_plan accepts exactly the plans that come from a file: by trees,
+--                                  and by files
 --     out-restores-plan            going home and out restores the plan
 --     place-of-node                each number of the places' table is that node's place
 -- The order of the numbers, and that a refused call alters nothing: Calls. A file is bytes: `allBelow 256`.
@@ -45,8 +46,9 @@ module _ (b p ps : List ℕ) (n : ℕ) (q qs : List ℕ) (D : OutDone b p ps n q
   nodes : count (fileTree b) ≡ fileCount b
   nodes = file-tree b (P .file) bytes .nodes
 
-  -- "A list of siblings becomes an inner node with the first one's label, its children's list at the left and the rest at
-  -- the right; an empty list becomes a leaf with label 63." (`image`); what was behind both outputs is still there
+  -- "A list of siblings becomes an inner node with the first one's label, its children's list at the left and the
+  -- rest at the right; an empty list becomes a leaf with label 63." (`image`); what was behind both outputs is still
+  -- there
   out-writes : (q ≡ planOf b ++ drop (planLength (2 * fileCount b + 1)) p) × (qs ≡ placesOf b ++ drop (fileCount b) ps)
   out-writes = (D .written accepted .plan, D .written accepted .places)
 
@@ -59,9 +61,9 @@ module _ (b p ps : List ℕ) (n : ℕ) (q qs : List ℕ) (D : OutDone b p ps n q
     planner.n-becomes-2n+1 b (length p) (length ps) bytes (sym (D .number) ∙ accepted),
   )
 
-  -- "Going out, a table of 16-bit numbers tells each planner node's place in our plan.": there stands that node (`items`
-  -- lists what our nodes are, in our order), with its label, and below it the image of its children's list and of the
-  -- siblings after it
+  -- "Going out, a table of 16-bit numbers tells each planner node's place in our plan.": there stands that node
+  -- (`items` lists what our nodes are, in our order), with its label, and below it the image of its children's list
+  -- and of the siblings after it
   place-of-node : (v : ℕ) → v < fileCount b
       → (getD (items (fileTree b) 0) (getD qs v 0) none ≡ some v)
       × (labelAt (image (fileTree b)) (getD qs v 0) ≡ getD (labelRun b) v 0)
@@ -101,10 +103,11 @@ module _ (b p ps : List ℕ) (n : ℕ) (q qs : List ℕ) (D : OutDone b p ps n q
   unfolding outRoom
   out-room e f = (
     λ h. no-room (and-no-left (leb (fileCount b) 32767) _ (lt-leb (fileCount b) 32767 h)),
-    λ h. no-room (and-no-right (leb (fileCount b) 32767) _ (and-no-left (leb (planLength (2 * fileCount b + 1)) (length p))
-        _ (lt-leb (planLength (2 * fileCount b + 1)) (length p) h))),
-    λ h. no-room (and-no-right (leb (fileCount b) 32767) _ (and-no-right (leb (planLength (2 * fileCount b + 1)) (length p))
-        _ (lt-leb (fileCount b) (length ps) h))),
+    λ h. no-room (and-no-right (leb (fileCount b) 32767) _
+        (and-no-left (leb (planLength (2 * fileCount b + 1)) (length p)) _
+        (lt-leb (planLength (2 * fileCount b + 1)) (length p) h))),
+    λ h. no-room (and-no-right (leb (fileCount b) 32767) _
+        (and-no-right (leb (planLength (2 * fileCount b + 1)) (length p)) _ (lt-leb (fileCount b) (length ps) h))),
   )
     where
       no-room : outRoom (fileCount b) (length p) (length ps) ≡ false → n ≡ 21

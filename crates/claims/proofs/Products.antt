@@ -1,6 +1,6 @@
 -- Two rule tables (document 02, S-6 and S-13), over the promises of whatif_merge and whatif_agree.
---     merge-passes, merge-state, merge-run, merge-clears   the bytes written are a rule table, its states are the pairs,
---                            its run is the pair of runs, and it clears exactly the plans that both clear
+--     merge-passes, merge-state, merge-run, merge-clears   the bytes written are a rule table, its states are the
+--                            pairs, its run is the pair of runs, and it clears exactly the plans that both clear
 --     merge-excess           what was behind it is still there
 --     agree-exactly          the reply is agreement exactly where every plan gets the same answer from both
 --     agree-or-lines         else 0, and at least one line
@@ -157,8 +157,8 @@ module _ (first second lines : List ℕ) (agreed count n : ℕ) (lines′ : List
       (omega (arith, length-rows (R .count) 4 row (λ v q. refl)))
       ∙ getD-rows (R .count) 4 row (λ v q. refl) i k h l)
 
-  -- "a separating plan as at most 256 lines, each a leaf's label or a label with two earlier lines as left and right; the
-  -- last line is the root": the numbers that were written, read line by line
+  -- "a separating plan as at most 256 lines, each a leaf's label or a label with two earlier lines as left and right;
+  -- the last line is the root": the numbers that were written, read line by line
   agree-separates : 0 < count′
       → Separates (ruleAutomaton first) (ruleAutomaton second) (labelCount first) (linesIn lines′ count′)
   agree-separates h =
@@ -182,7 +182,8 @@ module _ (first second lines : List ℕ) (agreed count n : ℕ) (lines′ : List
         | no z ↦ omega (arith, c, length-lines lines′ count′, agree-separates (omega arith) .at-most)
       ]
 
-  -- "Which separating plan is shown may be left to the program; its name and its properties then stand in the contract."
+  -- "Which separating plan is shown may be left to the program; its name and its properties then stand in the
+  -- contract."
   agree-named : linesIn lines′ count′ ≡ shownReply first second
   agree-named =
       lines-are ∙ ap reply.linesIn (E .done .named passed) ∙ lines-reply (shownReply first second) shown-few 0

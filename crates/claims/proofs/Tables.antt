@@ -72,7 +72,8 @@ module _ (p r nodeTable stateTable : List ℕ) (n : ℕ) (nodeTable′ stateTabl
 
 -- ---- the full check
 
-module _ (p r nodeTable stateTable : List ℕ) (n yes₀ yes₁ : ℕ) (E : CheckCall p r nodeTable stateTable n yes₀ yes₁) where
+module _ (p r nodeTable stateTable : List ℕ) (n yes₀ yes₁ : ℕ)
+    (E : CheckCall p r nodeTable stateTable n yes₀ yes₁) where
   -- "a full check of lent tables, whose yes holds exactly when they are what the build writes"
   check-exactly : ((n ≡ 0) × (yes₁ ≡ 1)) ↔ AsBuilt p r nodeTable stateTable
   check-exactly = calls.check-exactly p r nodeTable stateTable n yes₀ yes₁ E

@@ -3,9 +3,10 @@
 -- BranchAnswered reading p r u l n state yes links passed == on tables as built: the word automaton's state on the
 --   reading's word, its mark, the links of the tree's own climb and the nodes it passes over
 -- BranchAnsweredOn p r nodeTable u l state yes links passed == on any tables: what is left of that
+-- branchTableA == a branch table of 2 states and 2 labels: whether label 1 came an even number of times
 use Prim.Native.Nat.{ℕ, _-_, _<_, _≤_}
 use mathlib.Core.Path.{_≡_}
-use mathlib.Core.List.{List}
+use mathlib.Core.List.{List, [], _∷_}
 use mathlib.Core.Option.{some}
 use lib.ListN.{length}
 use Rattle.trees.specs.Automaton.{wordRun}
@@ -39,3 +40,9 @@ pub record BranchAnsweredOn (p r nodeTable : List ℕ) (u l state yes links pass
   pub links-most : links ≤ depthCell nodeTable l - depthCell nodeTable u
   pub passed-are : passed ≡ passedBy (cellForest (nodeCount p) nodeTable) l moves
   pub links-passed : links ≤ passed
+
+-- S 2, K 2, steps 0 1 1 0, marks 1 0
+unfoldable pub branchTableA : List ℕ
+branchTableA =
+    2 ∷ 0 ∷ 0 ∷ 0 ∷ 2 ∷ 0 ∷ 0 ∷ 0 ∷ 16 ∷ 0 ∷ 0 ∷ 0 ∷ 20 ∷ 0 ∷ 0 ∷ 0
+    ∷ 0 ∷ 1 ∷ 1 ∷ 0 ∷ 1 ∷ 0 ∷ []

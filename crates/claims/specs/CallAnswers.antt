@@ -10,8 +10,8 @@
 --   whatif_branch_build and whatif_branch_check; ColourBranchBuildCall, ColourBuildCall == those of
 --   whatif_colour_branch_build and whatif_colour_build
 --
--- The other calls' promises are MergeExported, AgreeExported, CountExported, LayExported, RunExported, AskExported (crate
--- capi), OutDone, HomeDone (crate planner), DescentExported and RuleExported (crate capi_colours).
+-- The other calls' promises are MergeExported, AgreeExported, CountExported, LayExported, RunExported, AskExported
+-- (crate capi), OutDone, HomeDone (crate planner), DescentExported and RuleExported (crate capi_colours).
 use Prim.Native.Nat.{ℕ, _*_}
 use mathlib.Core.Path.{_≡_}
 use mathlib.Core.Bool.{true}

@@ -4,12 +4,12 @@
 --   drops counted on the tree and the links of the tree's own descent
 -- wordStart reading t u == the copy in which a reading's word begins: the one above node u, or u's own
 -- WordCopiesAnswer .. == on any copies: what the descent by the tree's own colours reads there
--- sideDrops A t u ms c == the drops of the trials at child c of a part: of every target state from 0 up to the state that
---   follows at c from the highest member below it, whose state is that of the changed tree u
+-- sideDrops A t u ms c == the drops of the trials at child c of a part: of every target state from 0 up to the state
+--   that follows at c from the highest member below it, whose state is that of the changed tree u
 -- partDrops A t u ms v == the drops of the part of root v: those of its one side, none where it has members below both
 --   children or below none
--- RuleColourAnswered p r vs bs n state yes drops links parts == on tables as built: the fresh run's answer, with the drops
---   counted on the tree part by part and the links of its searches
+-- RuleColourAnswered p r vs bs n state yes drops links parts == on tables as built: the fresh run's answer, with the
+--   drops counted on the tree part by part and the links of its searches
 -- RuleTrialsAnswered .. == on run states that are any bytes below S: what the parts by their trials give on them
 use Prim.Native.Nat.{ℕ, suc, _-_, _*_, _≤_, _+_}
 use mathlib.Core.Path.{_≡_}
@@ -111,7 +111,8 @@ pub record RuleColourAnswered (p r vs bs : List ℕ) (n state yes drops links pa
   pub links-are : links ≡ sum (searchesLeft p r vs bs)
   pub few : AllLe 45 (searchesLeft p r vs bs)
 
-pub record RuleTrialsAnswered (p r nodeTable stateTable vs bs : List ℕ) (n state yes drops links parts : ℕ) : Type 0 where
+pub record RuleTrialsAnswered (p r nodeTable stateTable vs bs : List ℕ) (n state yes drops links parts : ℕ)
+    : Type 0 where
   pub accepted : n ≡ 0
   pub state-is : state
       ≡ lastState (triedParts (givenLent p r nodeTable stateTable vs bs) (rootsLeft p vs bs) [] (rootsLeft p vs bs)) 0

@@ -1,9 +1,9 @@
 -- Files that go out, and the lists of siblings of a planner's tree (document 02, S-2).
 --
--- FileOf p b == b is a planner's file (bytes) that whatif_plan_of_planner accepts, with outputs of the lengths it needs,
---   and p is the plan that it writes
--- siblingsFrom f v == the list of siblings that begins with planner node v: that node, its children's list and the later
---   siblings; f's nodes are numbered from 0 in pre-order
+-- FileOf p b == b is a planner's file (bytes) that whatif_plan_of_planner accepts, with outputs of the lengths it
+--   needs, and p is the plan that it writes
+-- siblingsFrom f v == the list of siblings that begins with planner node v: that node, its children's list and the
+--   later siblings; f's nodes are numbered from 0 in pre-order
 use Prim.Native.Nat.{ℕ, zero, suc, _-_}
 use mathlib.Core.Path.{_≡_}
 use mathlib.Core.Bool.{true, cond}
