@@ -8,7 +8,7 @@
 --     not-below, not-in-plan         16 where the lower node is not at or below the upper, 13 where one is no node
 --     never-18                       18 never comes on tables as built
 --     few-links, few-passed          the ceilings on tables as built
---     answers-lent, lent-16, cause-of-18, usable-never-18   what holds on any tables
+--     answers-named, answers-lent, lent-16, cause-of-18, usable-never-18   what holds on any tables
 -- The numbers, and that a refused call alters nothing: Calls. Questions by colours: Colours.
 use Prim.Native.Nat.{ℕ, zero, suc, _+_, _*_, _≤_, _<_}
 use mathlib.Core.Path.{_≡_, refl, sym, ap, _∙_, subst}
@@ -139,6 +139,21 @@ module _ (reading : Reading) (p r nodeTable stateTable : List ℕ) (u l n s₀ y
       (w .0, e ∙ w .1)
 
   -- ---- on any tables
+
+  -- "For anything left to the program, its name and its properties stand in the contract": the name is `askAnswer`
+  answers-named : (n ≡ branchNumber (askAnswer reading p r nodeTable stateTable u l))
+      × (s₁ ≡ endOf (askAnswer reading p r nodeTable stateTable u l) s₀)
+      × (y₁ ≡ acceptedOf (askAnswer reading p r nodeTable stateTable u l) y₀)
+      × (k₁ ≡ linksOf (askAnswer reading p r nodeTable stateTable u l) k₀)
+      × (d₁ ≡ passedOf (askAnswer reading p r nodeTable stateTable u l) d₀)
+  answers-named =
+      let i = E .done .result in (
+        E .number .result ∙ ap branchNumber i,
+        E .number .state-answer ∙ ap (λ (x : Branching). endOf x s₀) i,
+        E .number .yes-answer ∙ ap (λ (x : Branching). acceptedOf x y₀) i,
+        E .number .links-answer ∙ ap (λ (x : Branching). linksOf x k₀) i,
+        E .number .passed-answer ∙ ap (λ (x : Branching). passedOf x d₀) i,
+      )
 
   -- an accepted answer's state is a state, yes is its mark, its links are those "of the climb from the lower node to
   -- the upper's depth" by the table that was passed in, and it passed over "the depth of its start less the depth of

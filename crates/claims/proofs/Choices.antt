@@ -4,8 +4,8 @@
 --     count-as-asked                 parts and links are those of a question
 --     count-none-open                no open node: one part, no links, and the run's own state has count 1
 --     count-never-18                 18 never comes on tables as built
---     count-promised, count-cause-of-18, count-by-parts   what holds on any tables: the named result's properties, what
---                                    18 means, and the counts part by part where the bytes are any below S
+--     count-named, count-promised    on any tables: the result that the promise names, and its properties
+--     count-cause-of-18, count-by-parts   what 18 means; the counts part by part where the bytes are any below S
 -- The numbers 17, 12, 13, 15, 26, 18, 11 and that a refused call alters nothing: Calls.
 use Prim.Native.Nat.{ℕ, _^_, _<_}
 use mathlib.Core.Path.{_≡_, sym, ap, _∙_}
@@ -108,6 +108,13 @@ module _ (p r nodeTable stateTable vs counts : List ℕ) (parts links n : ℕ) (
     (E : CountExported p r nodeTable stateTable vs counts parts links n counts′ parts′ links′) where
   D : CountDone p r nodeTable stateTable vs (countResult p r nodeTable stateTable vs)
   D = count-promised p r nodeTable stateTable vs
+
+  -- accepted, counts, parts and links are the named result's
+  count-named : n ≡ 0
+      → (counts′ ≡ overBuffer (stateCount r) (countResult p r nodeTable stateTable vs .counts) counts)
+      × (parts′ ≡ countResult p r nodeTable stateTable vs .parts)
+      × (links′ ≡ countResult p r nodeTable stateTable vs .links)
+  count-named z = (E .counts-are z, E .parts-are z, E .links-are z)
 
   -- 18 of the call is the count's own: 11 is asked after it
   own-18 : n ≡ 18 → countResult p r nodeTable stateTable vs .answer ≡ 18

@@ -9,7 +9,7 @@
 --                              links each
 --     sets-never-18            18 never comes on tables as built
 --     sets-on-run-states       on any run states below S: what the parts by their trials give on those bytes
---     sets-state, sets-cause-of-18   what holds on any tables
+--     sets-named, sets-state, sets-cause-of-18   what holds on any tables
 --     sets-short-asked, sets-27-asked   17 where the tables of colours are too short for a question, then 27
 --     sets-sample              the build accepts the sample's plan and table
 --     sets-from-builds, sets-answered   what the two builds leave is as built, and questions on it are answered
@@ -192,6 +192,23 @@ module _ (p r nodeTable stateTable numbers bytes vs bs : List ℕ) (n s₀ y₀ 
         links-are = E .number .links-answer ∙ ap (λ (x : RuleDescending). linksOf x k₀) i;
       }
 
+  -- "For anything left to the program, its name and its properties stand in the contract": the name is `ruleAskAnswer`
+  sets-named : (n ≡ ruleDescendingNumber (ruleAskAnswer p r nodeTable stateTable numbers bytes vs bs))
+      × (s₁ ≡ endOf (ruleAskAnswer p r nodeTable stateTable numbers bytes vs bs) s₀)
+      × (y₁ ≡ acceptedOf (ruleAskAnswer p r nodeTable stateTable numbers bytes vs bs) y₀)
+      × (d₁ ≡ dropsOf (ruleAskAnswer p r nodeTable stateTable numbers bytes vs bs) d₀)
+      × (k₁ ≡ linksOf (ruleAskAnswer p r nodeTable stateTable numbers bytes vs bs) k₀)
+      × (m₁ ≡ partsOf (ruleAskAnswer p r nodeTable stateTable numbers bytes vs bs) m₀)
+  sets-named =
+      let i = E .done .result in (
+        E .number .result ∙ ap ruleDescendingNumber i,
+        E .number .state-answer ∙ ap (λ (x : RuleDescending). endOf x s₀) i,
+        E .number .yes-answer ∙ ap (λ (x : RuleDescending). acceptedOf x y₀) i,
+        E .number .drops-answer ∙ ap (λ (x : RuleDescending). dropsOf x d₀) i,
+        E .number .links-answer ∙ ap (λ (x : RuleDescending). linksOf x k₀) i,
+        E .number .parts-answer ∙ ap (λ (x : RuleDescending). partsOf x m₀) i,
+      )
+
   -- an accepted answer's state is a state, yes is its mark, and its drops are at most 60 for each part
   sets-state : n ≡ 0 → (s₁ < stateCount r) × (y₁ ≡ bitOf (ruleAutomaton r .accepting s₁)) × (d₁ ≤ m₁ * 60)
       × (k₁ ≤ d₁ * 65535)
@@ -238,7 +255,8 @@ module _ (p r nodeTable stateTable numbers bytes vs bs : List ℕ) (n s₀ y₀ 
 -- ---- both builds, then questions
 
 -- the sample's plan and table (document 01) are accepted by the build with 112 numbers and 49 bytes, and with no fewer
-sets-sample : (firstNo (ruleColourChecks planA tableA 112 49) ≡ 0) × (firstNo (ruleColourChecks planA tableA 111 49) ≡ 11)
+sets-sample : (firstNo (ruleColourChecks planA tableA 112 49) ≡ 0)
+    × (firstNo (ruleColourChecks planA tableA 111 49) ≡ 11)
     × (firstNo (ruleColourChecks planA tableA 112 48) ≡ 11)
 unfolding planA tableA ruleColourChecks planChecks ruleChecks firstNo allBelow isPostorder
 sets-sample = (refl, refl, refl)

@@ -9,7 +9,7 @@
 --     words-13, words-16, never-18   the other numbers on tables as built
 --     as-the-climb                number, state and yes are those of the climb, of any two numbers and either reading
 --     words-on-copies             on any copies: what the descent by the tree's own colours reads there
---     words-state, words-lent-16, words-cause-of-18   what holds on any tables
+--     words-named, words-state, words-lent-16, words-cause-of-18   what holds on any tables
 --     next-drop, next-drop-links, links-few   a next drop is found by 01's jumps and climb; its links are at most 45
 --     words-built, words-refused, words-short   what the build for a branch table writes; 11 where it is too short
 --     words-short-asked           17 where it is too short for a question
@@ -60,7 +60,8 @@ use Rattle.colours.proofs.DescentLaws.{AllLe}
 use Rattle.colours.proofs.WordLaws.{WordAnswer}
 use Rattle.colours.proofs.Theorems.{colours-one-each, colours-only-fall, drops-below-colours, word-upper, word-below}
 use Rattle.colours.proofs.Theorems.{links-limit}
-use Rattle.colour_tables.specs.branch.Build.{coloursFit, branchColourChecks, builtColourNumbers, builtCopies, BranchColoured}
+use Rattle.colour_tables.specs.branch.Build.{coloursFit, branchColourChecks, builtColourNumbers, builtCopies}
+use Rattle.colour_tables.specs.branch.Build.{BranchColoured}
 use Rattle.colour_tables.proofs.branch.BuildLaws.{room-no}
 use Rattle.colour_questions.specs.declared.branch.answers.Descending.{Descending}
 use Rattle.colour_questions.specs.branch.OutOfRange.{BranchColoursOutOfRange}
@@ -154,6 +155,22 @@ answer-there r (suc k) o e K s₀ y₀ = absurd (omega arith)
 module _ (reading : Reading) (p r nodeTable numbers bytes : List ℕ) (u l n s₀ y₀ d₀ k₀ s₁ y₁ d₁ k₁ : ℕ)
     (E : DescentExported reading p r nodeTable numbers bytes u l n s₀ y₀ d₀ k₀ s₁ y₁ d₁ k₁) where
   -- ---- on any tables
+
+  -- "For anything left to the program, its name and its properties stand in the contract": the name is
+  -- `colourAskAnswer`
+  words-named : (n ≡ descendingNumber (colourAskAnswer reading p r nodeTable numbers bytes u l))
+      × (s₁ ≡ endOf (colourAskAnswer reading p r nodeTable numbers bytes u l) s₀)
+      × (y₁ ≡ acceptedOf (colourAskAnswer reading p r nodeTable numbers bytes u l) y₀)
+      × (d₁ ≡ dropsOf (colourAskAnswer reading p r nodeTable numbers bytes u l) d₀)
+      × (k₁ ≡ linksOf (colourAskAnswer reading p r nodeTable numbers bytes u l) k₀)
+  words-named =
+      let i = E .done .result in (
+        E .number .result ∙ ap descendingNumber i,
+        E .number .state-answer ∙ ap (λ (x : Descending). endOf x s₀) i,
+        E .number .yes-answer ∙ ap (λ (x : Descending). acceptedOf x y₀) i,
+        E .number .drops-answer ∙ ap (λ (x : Descending). dropsOf x d₀) i,
+        E .number .links-answer ∙ ap (λ (x : Descending). linksOf x k₀) i,
+      )
 
   -- an accepted answer's state is a state, and yes is its mark
   words-state : n ≡ 0 → (s₁ < stateCount r) × (y₁ ≡ bitOf (branchAutomaton r .accepting s₁))

@@ -14,6 +14,7 @@ pub mod Branches
 pub mod Jumps
 pub mod PlannerLaws
 pub mod Planner
+pub mod ProductLaws
 pub mod Products
 pub mod Choices
 pub mod ColourLaws

@@ -4,7 +4,7 @@
 --     home-restores-file           going out and home restores the file
 --     home-accepts, home-exactly   whatif_planner_of_plan accepts exactly the plans that come from a file: by trees,
 --                                  and by files
---     out-restores-plan            going home and out restores the plan
+--     home-writes, out-restores-plan   the file that is written; going home and out restores the plan
 --     place-of-node                each number of the places' table is that node's place
 -- The order of the numbers, and that a refused call alters nothing: Calls. A file is bytes: `allBelow 256`.
 use Prim.Native.Nat.{ℕ, _+_, _-_, _*_, _≤_, _<_}
@@ -126,6 +126,10 @@ home-restores-file = calls.home-restores-file
 module _ (p c : List ℕ) (r : ℕ) (c′ : List ℕ) (bytes : allBelow 256 p ≡ true) (H : HomeDone p c r c′) where
   home-accepts : (r ≡ 0) ↔ (GoesHome p × (fileLength (count (unimage (planTree p))) ≤ length c))
   home-accepts = calls.home-accepts p c r c′ bytes H
+
+  -- what is written is the planner's file of the plan's tree, and behind it what was there
+  home-writes : r ≡ 0 → c′ ≡ fileOf p ++ drop (fileLength (count (unimage (planTree p)))) c
+  home-writes = H .written
 
   -- "only plans that come from such a file may go home": where the output has room, exactly those that
   -- whatif_plan_of_planner writes for a file that it accepts

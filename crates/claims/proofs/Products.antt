@@ -5,17 +5,17 @@
 --     agree-exactly          the reply is agreement exactly where every plan gets the same answer from both
 --     agree-or-lines         else 0, and at least one line
 --     agree-separates        the lines, as the numbers that were written, are a separating plan
---     agree-named            which one: the plan that the definition names
+--     agree-named, agree-writes   which one: the plan that the definition names; its numbers, and the excess untouched
 -- The numbers, and that a refused call alters nothing: Calls.
-use Prim.Native.Nat.{ℕ, zero, suc, _+_, _*_, _≤_, _<_}
+use Prim.Native.Nat.{ℕ, _+_, _*_, _≤_, _<_}
 use mathlib.Core.Path.{_≡_, refl, sym, ap, ap₂, _∙_, subst}
 use mathlib.Core.Bool.{Bool, cond, _&&_}
-use mathlib.Core.List.{List, [], _∷_, _++_}
+use mathlib.Core.List.{List, _++_}
 use mathlib.Core.Logic.{_↔_}
 use native.Mathlib.Decide.{ℕ-discrete}
 use native.Mathlib.Omega.{arith}
 use lib.Dec.{eqb, leb}
-use lib.ListN.{length, getD, drop, length-append, List·getD-append}
+use lib.ListN.{length, getD, drop, List·getD-append}
 use lib.Seq.{take-at}
 use borrow.Author.Tests.{ne-eqb}
 use Rattle.list_laws.proofs.RowLaws.{length-rows, getD-rows}
@@ -27,9 +27,7 @@ use Rattle.formats.proofs.RuleLaws.{RulesPass, pass-rules}
 use Rattle.products.specs.Product.{pairTree}
 use Rattle.products.specs.Plans.{PlanOf}
 use Rattle.products.specs.merging.Merged.{mergedBytes}
-use Rattle.products.specs.agreement.Lines.{Line}
 use Rattle.products.specs.agreement.Agreement.{Agree, Separates}
-use Rattle.products.specs.agreement.reachable.SearchRecord.{lineOf, lineFrom, linesFrom}
 use Rattle.products.specs.agreement.Reply as reply
 use Rattle.products.specs.agreement.Reply.{shownReply}
 use Rattle.products.specs.declared.agreement.Agreement.{Agreement}
@@ -38,7 +36,8 @@ use Rattle.products.proofs.merging.Theorems.{merged-table-clears}
 use Rattle.products.proofs.agreement.ReplyLaws.{lines-reply}
 use Rattle.capi.specs.product_calls.Exported.{MergeExported, lineRow, linesFor, agreeNumber, AgreeExported}
 use Rattle.capi.proofs.product_calls.Theorems as calls
-use Rattle.claims.specs.ProductBuffers.{mergedIn, lineIn, linesIn}
+use Rattle.claims.specs.ProductBuffers.{mergedIn, linesIn, numbersOfLines}
+use Rattle.claims.proofs.ProductLaws.{lines-read, length-lines, row-numbers}
 
 -- ---- merged
 
@@ -103,31 +102,6 @@ module _ (first second out : List ℕ) (n : ℕ) (out′ : List ℕ) (E : MergeE
 
 -- ---- agreement
 
--- the lines that were written, read again
-lines-read : (ks bs ls rs lines : List ℕ) (m : ℕ)
-    → ((i k : ℕ) → i < m → k < 4 → getD lines (i * 4 + k) 0 ≡ getD (lineRow ks bs ls rs i) k 0)
-    → linesIn lines m ≡ linesFrom ks bs ls rs m
-unfolding linesIn linesFrom
-lines-read ks bs ls rs lines zero cells = refl
-lines-read ks bs ls rs lines (suc m) cells =
-    let z : m * 4 + 0 ≡ m * 4 = omega arith in
-    let a : getD lines (m * 4) 0 ≡ getD ks m 0 =
-    ap (λ (j : ℕ). getD lines j 0) (sym z) ∙ cells m 0 (omega arith) (omega arith) in
-    let b : getD lines (m * 4 + 1) 0 ≡ getD bs m 0 = cells m 1 (omega arith) (omega arith) in
-    let c : getD lines (m * 4 + 2) 0 ≡ getD ls m 0 = cells m 2 (omega arith) (omega arith) in
-    let d : getD lines (m * 4 + 3) 0 ≡ getD rs m 0 = cells m 3 (omega arith) (omega arith) in
-    let w : lineIn lines m ≡ lineFrom ks bs ls rs m =
-    ap₂ (λ (x y : ℕ). lineOf x y (getD lines (m * 4 + 2) 0) (getD lines (m * 4 + 3) 0)) a b
-    ∙ ap₂ (λ (x y : ℕ). lineOf (getD ks m 0) (getD bs m 0) x y) c d in
-    ap₂ (λ (x : List Line) (y : Line). x ++ (y ∷ []))
-    (lines-read ks bs ls rs lines m (λ i k h l. cells i k (omega arith) l)) w
-
-length-lines : (lines : List ℕ) (m : ℕ) → length (linesIn lines m) ≡ m
-unfolding linesIn
-length-lines lines zero = refl
-length-lines lines (suc m) =
-    length-append (linesIn lines m) (lineIn lines m ∷ []) ∙ omega (arith, length-lines lines m)
-
 module _ (first second lines : List ℕ) (agreed count n : ℕ) (lines′ : List ℕ) (agreed′ count′ : ℕ)
     (E : AgreeExported first second lines agreed count n lines′ agreed′ count′) (accepted : n ≡ 0) where
   -- "Two tables agree when every plan, of any size, gets yes from both or no from both. The reply is agreement, exactly
@@ -187,6 +161,20 @@ module _ (first second lines : List ℕ) (agreed count n : ℕ) (lines′ : List
   agree-named : linesIn lines′ count′ ≡ shownReply first second
   agree-named =
       lines-are ∙ ap reply.linesIn (E .done .named passed) ∙ lines-reply (shownReply first second) shown-few 0
+
+  -- the numbers themselves, four for each line, and behind them what was there
+  agree-writes : (count′ ≡ length (shownReply first second))
+      × (lines′ ≡ numbersOfLines (shownReply first second) ++ drop (count′ * 4) lines)
+  agree-writes =
+      let c : count′ ≡ length (shownReply first second) =
+      E .count-is accepted ∙ ap (λ (R : Agreement). R .count) (E .done .named passed) in
+      let x : linesFor (E .reply) ≡ numbersOfLines (shownReply first second) =
+      ap linesFor (E .done .named passed) ∙ row-numbers (shownReply first second) shown-few in
+      let row : ℕ → List ℕ =
+      lineRow (E .reply .kinds) (E .reply .labels) (E .reply .lefts) (E .reply .rights) in
+      let z : length (linesFor (E .reply)) ≡ count′ * 4 =
+      length-rows (E .reply .count) 4 row (λ v q. refl) ∙ ap (λ (i : ℕ). i * 4) (sym (E .count-is accepted)) in
+      (c, E .written accepted ∙ ap₂ (λ (l : List ℕ) (i : ℕ). l ++ drop i lines) x z)
 
   -- where the tables agree no line is written
   agree-untouched : agreed′ ≡ 1 → lines′ ≡ lines

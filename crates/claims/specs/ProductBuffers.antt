@@ -4,11 +4,13 @@
 --   has
 -- lineIn lines i == line i of a buffer of four numbers a line (0 leaf or 1 inner, label, left line, right line)
 -- linesIn lines n == the first n lines
+-- numbersOfLines xs == the numbers of the lines xs, four each; a leaf's left and right are 0
 use Prim.Native.Nat.{ℕ, zero, suc, _+_, _*_}
 use mathlib.Core.List.{List, [], _∷_, _++_}
 use lib.ListN.{getD, take}
 use Rattle.formats.specs.Rules.{stateCount, labelCount, ruleLength}
 use Rattle.products.specs.agreement.Lines.{Line}
+use Rattle.products.specs.agreement.Reply.{lineKind, lineLabel, lineLeft, lineRight}
 use Rattle.products.specs.agreement.reachable.SearchRecord.{lineOf}
 
 abbrev pub mergedIn : List ℕ → List ℕ → List ℕ → List ℕ
@@ -21,3 +23,7 @@ lineIn lines i =
 unfoldable pub linesIn : List ℕ → ℕ → List Line
 linesIn lines zero = []
 linesIn lines (suc n) = linesIn lines n ++ (lineIn lines n ∷ [])
+
+abbrev pub numbersOfLines : List Line → List ℕ
+numbersOfLines [] = []
+numbersOfLines (x ∷ xs) = lineKind x ∷ lineLabel x ∷ lineLeft x ∷ lineRight x ∷ numbersOfLines xs
