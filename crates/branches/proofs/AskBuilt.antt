@@ -24,7 +24,8 @@ use Rattle.formats.specs.Plan.{nodeCount, labelsIn, planTree}
 use Rattle.formats.specs.Rules.{stateCount, labelCount, branchAutomaton}
 use Rattle.formats.specs.Built.{BranchBuilt}
 use Rattle.formats.specs.Buffers.{headedBuffersFit, branchTables}
-use Rattle.formats.proofs.PlanLaws.{PlanPasses, labels-planTree, size-planTree}
+use Rattle.formats.proofs.PlanLaws.{labels-planTree, size-planTree}
+use Rattle.formats.specs.Passing.{PlanPasses}
 use Rattle.formats.proofs.BranchLaws.{BranchPasses, step-below}
 use Rattle.list_laws.proofs.TestLaws.{allBelow-all}
 use Rattle.formats.proofs.InputLaws.{branch-table-passes}

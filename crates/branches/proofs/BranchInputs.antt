@@ -20,7 +20,8 @@ use Rattle.formats.specs.Plan.{nodeCount, labelsIn, kindsIn, planTree}
 use Rattle.formats.specs.Rules.{stateCount, labelCount, branchSteps, branchMarks, wordAutomaton, branchAutomaton}
 use Rattle.formats.specs.Checks.{firstNo, branchBuildChecks, nodeTableLength, stateTableLength}
 use Rattle.formats.specs.Built.{builtNodeTable, builtBranchTable}
-use Rattle.formats.proofs.PlanLaws.{PlanPasses, length-labelsIn, kinds-planTree, labels-planTree, size-planTree}
+use Rattle.formats.proofs.PlanLaws.{length-labelsIn, kinds-planTree, labels-planTree, size-planTree}
+use Rattle.formats.specs.Passing.{PlanPasses}
 use Rattle.formats.proofs.PlanLaws.{labels-part, kinds-part}
 use Rattle.formats.proofs.BranchLaws.{BranchPasses, length-branchSteps, step-below, steps-part}
 use Rattle.formats.proofs.InputLaws.{branch-build-passes, label-below}

@@ -7,7 +7,8 @@ use Rattle.reference.specs.Demand3.{Demand3}
 use Rattle.model.specs.Model.{freshRecord, Does}
 use Rattle.reference.proofs.Demand3Theorem.{demand-3, demand-3-of}
 use Rattle.model.proofs.LayersHold.{layers}
-use Rattle.reference.proofs.QuestionTheorem.{QuestionsAnswered, question-answered, questions-of}
+use Rattle.reference.proofs.QuestionTheorem.{question-answered, questions-of}
+use Rattle.reference.specs.Outcomes.{QuestionsAnswered}
 use Rattle.capi_session.specs.DecodedAnswers.{Exports}
 use Rattle.capi_session.proofs.ExportedRefines.{Held, exported-refines, fresh-held}
 

@@ -20,7 +20,8 @@ use Rattle.formats.specs.Bytes.{le32}
 use Rattle.formats.specs.Plan.{nodeCount, planLength, labelsIn, kindsIn}
 use Rattle.formats.specs.Rules.{labelCount}
 use Rattle.formats.specs.Checks.{firstNo, listChecks, ruleTableChecks}
-use Rattle.formats.proofs.PlanLaws.{PlanPasses, length-labelsIn, length-kindsIn}
+use Rattle.formats.proofs.PlanLaws.{length-labelsIn, length-kindsIn}
+use Rattle.formats.specs.Passing.{PlanPasses}
 use Rattle.formats.proofs.InputLaws.{ListPasses, list-passes, passes-list, rule-table-passes, passes-rule-table}
 use Rattle.changes.specs.Entries.{Entry, entries, nodesListed, labelsListed, laidOver}
 use Rattle.changes.specs.ChangedPlan.{changedPlan}

@@ -18,10 +18,11 @@ use Rattle.formats.specs.Checks.{check, firstNo}
 use Rattle.formats.specs.inner.InnerChecks.{listsFit}
 use Rattle.formats.proofs.CheckLaws.{firstNo-yes, firstNo-head, firstNo-tail, firstNo-none}
 use Rattle.changes.specs.Entries.{Entry, entries, nodesListed, labelsListed, superseded, laidOver}
-use Rattle.changes.specs.LayOver.{laid, layChecks, layNumber}
+use Rattle.changes.specs.LayOver.{laid, layChecks, layNumber, LeftFirst, RightFirst}
 use Rattle.changes.proofs.EntryLaws.{entries-listed, length-entries, length-nodes, length-labels}
 use Rattle.changes.proofs.RisingLaws.{superseded-most}
-use Rattle.changes.proofs.LaidLaws.{laid-rises, laid-upper, laid-lower, rising-superseded, over-assoc, over-empty, over-self, over-swap, Apart}
+use Rattle.changes.proofs.LaidLaws.{laid-rises, laid-upper, laid-lower, rising-superseded, over-assoc, over-empty, over-self, over-swap}
+use Rattle.changes.specs.Entries.{Apart}
 
 -- ---- the number of a call
 
@@ -70,18 +71,11 @@ handed-fits l h =
 -- ---- associative
 
 module _ (avs abs bvs bbs cvs cbs : List ℕ) where
-  -- b over a, and c over b, as they are handed back
-  abbrev pub lowerTwo : List Entry
+  abbrev lowerTwo : List Entry
   lowerTwo = laid avs abs bvs bbs
 
-  abbrev pub upperTwo : List Entry
+  abbrev upperTwo : List Entry
   upperTwo = laid bvs bbs cvs cbs
-
-  abbrev pub LeftFirst : Type 0
-  LeftFirst = (layNumber avs abs bvs bbs ≡ 0) × (layNumber (nodesListed lowerTwo) (labelsListed lowerTwo) cvs cbs ≡ 0)
-
-  abbrev pub RightFirst : Type 0
-  RightFirst = (layNumber bvs bbs cvs cbs ≡ 0) × (layNumber avs abs (nodesListed upperTwo) (labelsListed upperTwo) ≡ 0)
 
   pub one-result : laid (nodesListed lowerTwo) (labelsListed lowerTwo) cvs cbs ≡ laid avs abs (nodesListed upperTwo) (labelsListed upperTwo)
   one-result =
@@ -89,7 +83,7 @@ module _ (avs abs bvs bbs cvs cbs : List ℕ) where
       ∙ over-assoc (entries avs abs) (entries bvs bbs) (entries cvs cbs)
       ∙ ap (laidOver (entries avs abs)) (sym (entries-listed upperTwo))
 
-  to-right : LeftFirst → RightFirst
+  to-right : LeftFirst avs abs bvs bbs cvs cbs → RightFirst avs abs bvs bbs cvs cbs
   to-right p =
       let A : Accepted avs abs bvs bbs = lay-zero avs abs bvs bbs (p .0) in
       let B = lay-zero (nodesListed lowerTwo) (labelsListed lowerTwo) cvs cbs (p .1) in
@@ -110,7 +104,7 @@ module _ (avs abs bvs bbs cvs cbs : List ℕ) where
         }),
       )
 
-  to-left : RightFirst → LeftFirst
+  to-left : RightFirst avs abs bvs bbs cvs cbs → LeftFirst avs abs bvs bbs cvs cbs
   to-left p =
       let B : Accepted bvs bbs cvs cbs = lay-zero bvs bbs cvs cbs (p .0) in
       let A = lay-zero avs abs (nodesListed upperTwo) (labelsListed upperTwo) (p .1) in
@@ -132,7 +126,7 @@ module _ (avs abs bvs bbs cvs cbs : List ℕ) where
       )
 
   -- "laying over is associative": where one bracketing meets neither 12 nor 22 the other meets none, and they hand back one list
-  pub lay-assoc : (LeftFirst ↔ RightFirst)
+  pub lay-assoc : (LeftFirst avs abs bvs bbs cvs cbs ↔ RightFirst avs abs bvs bbs cvs cbs)
       × (laid (nodesListed lowerTwo) (labelsListed lowerTwo) cvs cbs ≡ laid avs abs (nodesListed upperTwo) (labelsListed upperTwo))
   lay-assoc = ((to-right, to-left), one-result)
 

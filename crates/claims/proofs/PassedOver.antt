@@ -1,8 +1,10 @@
 -- Document 02, S-7: nodes passed over.
 --     climb-passes       a climb passes over as many nodes as the depth of its start is above that of its end
---     between            on tables as built, of a question: no fewer than its links, no more than the plan is high for each part
---     told-between       and so in what Reads tell of an undisturbed question
---     stays-valid        whatever is lent, the record after a call keeps its conditions: links ≤ passed ≤ 65,535 for each part handled
+--     between            on tables as built, of a question: no fewer than its links, no more than the plan is high for
+--                        each part
+--     told-between       and so in what Reads answer of an undisturbed question
+--     stays-valid, stays-valid-on-bytes   for any inputs the record after a call keeps its conditions: links ≤ passed ≤
+--                        65,535 for each part handled
 --     gap                in the sample they equal the links; here they do not: 2 parts, 3 links, 5 nodes passed over
 -- That Read tells the sum over the parts' climbs is demand 2 and 3 (Main), by freshAnswer (reference/specs/Reference).
 use Prim.Native.Nat.{ℕ, _-_, _*_, _≤_, _<_}
@@ -23,13 +25,16 @@ use Rattle.questions.specs.ready.Parts.{questionLinks, questionPassed}
 use Rattle.questions.proofs.ready.PassedLaws.{question-passed}
 use Rattle.model.specs.Calls.{Call, Answer, parts, more, finished, outcomeAnswer}
 use Rattle.reference.specs.Undisturbed.{EveryOutcomeAfter}
-use Rattle.reference.proofs.QuestionTheorem.{CleanOutcomes}
-use Rattle.reference.proofs.Sample.{seen}
+use Rattle.reference.specs.Outcomes.{CleanOutcomes}
+use Rattle.reference.specs.Sample.{seen}
 use Rattle.reference.proofs.Controls.{all}
 use Rattle.controls.proofs.PassedControls.{gapCalls, gap-told}
 use Rattle.session.specs.declared.state.Session.{Session}
 use Rattle.session.specs.Records.{valid}
 use Rattle.session.specs.CallsByValue.{CallByValue, loads, starts, advances, cancels, reads}
+use Rattle.records.specs.Layout.{validBytes, Bytes}
+use Rattle.capi_session.specs.DecodedAnswers.{Exports}
+use Rattle.capi_session.proofs.ExportedRefines.{record-stays}
 
 -- "how many nodes it passed over, that is the depth of its start less the depth of its end"
 climb-passes : (t : Tree) (w to : ℕ) (ms : List Move) → w < size t → to ≤ depth t w → climb (forestOf t) w to ≡ some ms
@@ -42,7 +47,8 @@ between : (w : ℕ → Bool) (t : Tree)
 between = question-passed
 
 told-between : (x : Inputs) (vs bs : List ℕ) (n : ℕ) (ys : List Answer) → CleanOutcomes x vs bs n ys
-    → EveryOutcomeAfter (λ o. o .links ≤ o .passed) ys × EveryOutcomeAfter (λ o. o .passed ≤ o .parts * height (planTree (x .plan))) ys
+    → EveryOutcomeAfter (λ o. o .links ≤ o .passed) ys
+    × EveryOutcomeAfter (λ o. o .passed ≤ o .parts * height (planTree (x .plan))) ys
 told-between x vs bs n ys C = (C .passed-least, C .passed-most)
 
 stays-valid : (s s′ : Session) (c : Call) (a : Answer) → CallByValue s c a s′ → valid s ≡ true → valid s′ ≡ true
@@ -51,6 +57,10 @@ stays-valid s s′ c a (starts o d) v = d .stays v
 stays-valid s s′ c a (advances o d) v = d .stays v
 stays-valid s s′ c a (cancels o d) v = d .stays v
 stays-valid s s′ c a (reads o d) v = v
+
+stays-valid-on-bytes : (b b′ : List ℕ) (c : Call) (a : Answer) → Exports b c a b′ → validBytes b ≡ true → Bytes b
+    → validBytes b′ ≡ true
+stays-valid-on-bytes = record-stays
 
 -- N 13, kinds 0 0 0 0 1 1 0 1 0 1 0 1 1, labels 0 0 0 0 1 1 1 1 0 1 1 1 0, the list 1→0, 3→1, table A
 gap : seen gapCalls

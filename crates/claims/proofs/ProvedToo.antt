@@ -1,12 +1,17 @@
--- What document 01 wants proved beside its demands, of every tree and of the calls, and source document 002's partition.
+-- What document 01 wants proved beside its demands, of every tree and of the calls, and source document 002's
+-- partition.
 --     climb-to                              where a climb ends, how many moves it makes, and its ceiling
 --     climb-six-to-one, climb-six-to-zero   "a climb from depth 6 to 1 takes 3 links, to 0 takes 2"
---     one-node-accepted, two-nodes-refused  "N=1 is accepted with 14 bytes; N=2 gets 5", of the build with any rule table
---     empty-word                            document 02, S-9: a branch question from below the upper node, the same node twice
+--     one-node-accepted, two-nodes-refused  "N=1 is accepted with 14 bytes; N=2 gets 5", of the build with any rules
+--     empty-word                            document 02, S-9: the same node twice, from below the upper node, as the
+--                                           result that the promise names; as the exported call answers it: Branches
 --     roots-are-ready                       the roots that are computed are the ready set
---     parts-partition                       each node is in exactly one part; what each part looks like: questions/proofs/ready/PartitionLaws
---     answered-by-value, answered-in-place, answered-on-bytes   a question that Start accepted is answered to its end: nothing is refused
---     part-links                            the ceiling for each part: an advance adds at most 3 links for each digit of the plan's height
+--     parts-partition                       each node is in exactly one part; what each part looks like: crate
+--                                           questions, proofs/ready/PartitionLaws
+--     answered-by-value, answered-in-place, answered-on-bytes   a question that Start accepted is answered to its end:
+--                                           nothing is refused
+--     part-links                            the ceiling for each part: an advance adds at most 3 links for each digit
+--                                           of the plan's height
 --     broken-bytes                          "bytes that break it get 1", and stay
 use Prim.Native.Nat.{ℕ, _+_, _-_, _*_, _≤_, _<_}
 use mathlib.Core.Path.{_≡_, refl, ap, _∙_}
@@ -34,7 +39,7 @@ use Rattle.formats.specs.Checks.{firstNo, planChecks, ruleChecks, ruleTableChec
 use Rattle.formats.proofs.CheckLaws.{firstNo-append-suc}
 use Rattle.formats.proofs.RuleLaws.{rules-pass}
 use Rattle.formats.proofs.InputLaws.{passes-rule-table, passes-build}
-use Rattle.formats.proofs.PlanTrees.{planBytes-passes, labelsIn-planBytes, count-planBytes}
+use Rattle.formats.proofs.PlanTrees.{planBytes-passes, labelsIn-planBytes, count-planBytes, length-planBytes}
 use Rattle.formats.proofs.PlanTheorems.{two-nodes}
 use Rattle.tables.specs.node_tables.NodeCells.{NodeCells}
 use Rattle.branches.specs.declared.answers.Reading.the-variants.{BelowUpper}
@@ -88,15 +93,20 @@ climb-six-to-zero t w h e =
 -- ---- plans of one and of two nodes, by the build's checks
 
 one-node-accepted : (a : ℕ) (r : List ℕ) → firstNo (ruleChecks r) ≡ 0 → a < labelCount r → (nodeTable stateTable : ℕ)
-    → 4 ≤ nodeTable → stateCount r + 1 ≤ stateTable → firstNo (buildChecks (planBytes (leaf a)) r nodeTable stateTable) ≡ 0
+    → 4 ≤ nodeTable → stateCount r + 1 ≤ stateTable
+    → (length (planBytes (leaf a)) ≡ 14) × (firstNo (buildChecks (planBytes (leaf a)) r nodeTable stateTable) ≡ 0)
 one-node-accepted a r e h nodeTable stateTable n b =
-    let c : nodeCount (planBytes (leaf a)) ≡ 1 = count-planBytes (leaf a) (omega arith) in
-    passes-build (planBytes (leaf a)) r nodeTable stateTable
-    (passes-rule-table (planBytes (leaf a)) r (planBytes-passes (leaf a) (omega arith)) (rules-pass r e)
-    (rw (labelsIn-planBytes (leaf a) (omega arith)) (unfold allBelow in and-both (ltb a (labelCount r)) true (lt-ltb a (labelCount r) h) refl)))
-    (rw c n) (rw c (omega arith))
+    let c : nodeCount (planBytes (leaf a)) ≡ 1 = count-planBytes (leaf a) (omega arith) in (
+      length-planBytes (leaf a),
+      passes-build (planBytes (leaf a)) r nodeTable stateTable
+          (passes-rule-table (planBytes (leaf a)) r (planBytes-passes (leaf a) (omega arith)) (rules-pass r e)
+          (rw (labelsIn-planBytes (leaf a) (omega arith))
+          (unfold allBelow in and-both (ltb a (labelCount r)) true (lt-ltb a (labelCount r) h) refl)))
+          (rw c n) (rw c (omega arith)),
+    )
 
-two-nodes-refused : (p r : List ℕ) (nodeTable stateTable : ℕ) → length p ≡ 16 → nodeCount p ≡ 2 → le32 p 4 ≡ 12 → le32 p 8 ≡ 14
+two-nodes-refused : (p r : List ℕ) (nodeTable stateTable : ℕ) → length p ≡ 16 → nodeCount p ≡ 2 → le32 p 4 ≡ 12
+    → le32 p 8 ≡ 14
     → firstNo (buildChecks p r nodeTable stateTable) ≡ 5
 unfolding buildChecks ruleTableChecks
 two-nodes-refused p r nodeTable stateTable h n a b =
@@ -110,9 +120,11 @@ empty-word : (p r nodeTable stateTable : List ℕ) → BranchBuilt p r nodeTable
     → askAnswer BelowUpper p r nodeTable stateTable u u ≡ Answered (branched (branchAutomaton r) 0 0 0)
 empty-word = ask-theorem.empty-word
 
--- ---- "Let W be the listed nodes and the root. The ready set is the least set that ..": on numbers as built the roots are that set
+-- ---- "Let W be the listed nodes and the root. The ready set is the least set that ..": on numbers as built the roots
+-- are that set
 
-roots-are-ready : (t : Tree) (nodeTable : List ℕ) → NodeCells t nodeTable → (vs : List ℕ) → ((v : ℕ) → List·Memᴰ v vs → v < size t)
+roots-are-ready : (t : Tree) (nodeTable : List ℕ) → NodeCells t nodeTable → (vs : List ℕ)
+    → ((v : ℕ) → List·Memᴰ v vs → v < size t)
     → (l : List ℕ) × (rootsOn (size t) nodeTable vs ≡ some l) × RootsReady t vs l
 roots-are-ready t nodeTable c vs h = (
   roots t vs,
@@ -135,7 +147,8 @@ parts-partition w t x h =
       only = λ u q. part-unique w t u (p .0) x q (p .1);
     }
 
--- ---- from an accepted Start that told n parts, n advances given the same and a Read answer more .., finished and the fresh run's answer
+-- ---- from an accepted Start that told n parts, n advances given the same and a Read answer more .., finished and the
+-- fresh run's answer
 
 answered-by-value : QuestionsFinish freshSession CallByValue
 answered-by-value = finishes-by-value
@@ -147,12 +160,14 @@ answered-on-bytes : QuestionsFinish (replicate 983 0) Exports
 answered-on-bytes = finishes-on-bytes
 
 -- "at most three links for each binary digit of the plan's height", of the call that handles the part; on usable tables
-part-links : (s s′ : Session) (x : Inputs) (a : Answer) (ps : List Part) → CallByValue s (advance x) a s′ → valid s ≡ true
+part-links : (s s′ : Session) (x : Inputs) (a : Answer) (ps : List Part) → CallByValue s (advance x) a s′
+    → valid s ≡ true
     → refusal (stageOf (recordOf s)) (advance x) ≡ 0 → Usable (recordOf s) x ps
     → s′ .head .links ≤ s .head .links + 3 * digits (height (planTree (x .plan)))
 part-links = part-ceiling
 
 -- ---- "the record crosses as bytes, whose layout stands in docs/, and bytes that break it get 1"
 
-broken-bytes : (b b′ : List ℕ) (c : Call) (a : Answer) → Exports b c a b′ → validBytes b ≡ false → (a ≡ refused 1) × (b′ ≡ b)
+broken-bytes : (b b′ : List ℕ) (c : Call) (a : Answer) → Exports b c a b′ → validBytes b ≡ false
+    → (a ≡ refused 1) × (b′ ≡ b)
 broken-bytes = broken-refused

@@ -1,8 +1,10 @@
--- A question that is answered to its end, in the three forms of the calls; the ceiling for each part, of the call that handles it.
---     finishes-by-value, finishes-in-place, finishes-on-bytes   no advance given the same is refused, and the Read after the last is told
---     part-ceiling                                              an advance adds at most 3 links for each binary digit of the plan's height
-use Prim.Native.Nat.{ℕ, _+_, _*_, _≤_}
-use mathlib.Core.Path.{_≡_, ap, _∙_, subst}
+-- A question that is answered to its end, in the three forms of the calls; the ceiling for each part, of the call that
+-- handles it.
+--     finishes-by-value, finishes-in-place, finishes-on-bytes   no advance given the same is refused, nor is the Read
+--                     after the last
+--     part-ceiling    an advance adds at most 3 links for each binary digit of the plan's height
+use Prim.Native.Nat.{_+_, _*_, _≤_}
+use mathlib.Core.Path.{_≡_, ap, _∙_}
 use mathlib.Core.Bool.{Bool, true, cond}
 use mathlib.Core.List.{List}
 use native.Mathlib.Omega.{arith}
@@ -31,13 +33,15 @@ use Rattle.capi_session.specs.DecodedAnswers.{Exports}
 use Rattle.capi_session.proofs.ExportedRefines.{Held, exported-refines, fresh-held}
 
 pub finishes-by-value : QuestionsFinish freshSession CallByValue
-finishes-by-value = finish-of CallByValue Does Seen by-value-refines freshSession freshRecord fresh-seen (questions-finish layers)
+finishes-by-value =
+    finish-of CallByValue Does Seen by-value-refines freshSession freshRecord fresh-seen (questions-finish layers)
 
 pub finishes-in-place : QuestionsFinish freshSession CallInPlace
 finishes-in-place cs xs x vs bs n ws ys l c s h = finishes-by-value cs xs x vs bs n ws ys l c s (in-place-history _ _ h)
 
 pub finishes-on-bytes : QuestionsFinish (replicate 983 0) Exports
-finishes-on-bytes = finish-of Exports Does Held exported-refines (replicate 983 0) freshRecord fresh-held (questions-finish layers)
+finishes-on-bytes =
+    finish-of Exports Does Held exported-refines (replicate 983 0) freshRecord fresh-held (questions-finish layers)
 
 -- ---- the links of one advance
 
@@ -52,7 +56,7 @@ ceiling s s′ x a ps D v e U =
     ∙ ap (λ (b : Bool). cond b (sessionOf r) s .head .links) v in
     omega (arith, is, advance-few (recordOf s) x a r ps (D .properties v) e U)
 
-pub part-ceiling : (s s′ : Session) (x : Inputs) (a : Answer) (ps : List Part) → CallByValue s (advance x) a s′ → valid s ≡ true
-    → refusal (stageOf (recordOf s)) (advance x) ≡ 0 → Usable (recordOf s) x ps
+pub part-ceiling : (s s′ : Session) (x : Inputs) (a : Answer) (ps : List Part) → CallByValue s (advance x) a s′
+    → valid s ≡ true → refusal (stageOf (recordOf s)) (advance x) ≡ 0 → Usable (recordOf s) x ps
     → s′ .head .links ≤ s .head .links + 3 * digits (height (planTree (x .plan)))
 part-ceiling s s′ x a ps (advances o d) v e U = ceiling s s′ x a ps d v e U

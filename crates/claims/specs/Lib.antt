@@ -1,2 +1,9 @@
 pub mod Refusals
+pub mod Lent
+pub mod Histories
 pub mod ProvedToo
+pub mod CallAnswers
+pub mod BranchAnswers
+pub mod PlannerFiles
+pub mod ProductBuffers
+pub mod ColourAnswers

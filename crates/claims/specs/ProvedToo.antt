@@ -2,9 +2,10 @@
 --
 -- ClimbTo t w to == the climb from node w to depth to: there is one, and this is what it is
 -- ClimbTakes t w to n == it makes n moves
--- RootsReady t vs l == the list l is the ready set of the listed nodes vs and the root: exactly its members, each once and rising
+-- RootsReady t vs l == the list l is the ready set of the listed nodes vs and the root: exactly its members, each once
+--   and rising
 -- PartOf w t x == the member that roots the part of node x, and no other does
-use Prim.Native.Nat.{ℕ, _-_, _*_, _≤_, _<_}
+use Prim.Native.Nat.{ℕ, _-_, _*_, _≤_}
 use mathlib.Core.Path.{_≡_}
 use mathlib.Core.Bool.{Bool}
 use mathlib.Core.List.{List, [], _∷_, _++_, List·Memᴰ}

@@ -24,6 +24,7 @@ use Rattle.list_laws.proofs.Choice.{le-or}
 use Rattle.colours.specs.Colouring.{freeFrom, lowestFree, takes, recolourFrom, recolour, placeOf, lands}
 use Rattle.colours.specs.Colouring.{Colouring}
 use Rattle.colours.proofs.Pigeonhole.{holds-here, holds-later, holds-other, first, cover, full}
+use Rattle.colours.specs.Colouring.{Free}
 
 -- ---- one element more at the end
 
@@ -135,11 +136,6 @@ place-of xs c d h =
     (λ l. absurd (distinct-at xs c (placeOf q xs) d l b (sym a)))
 
 -- ---- the lowest free number
-
-pub record Free (xs : List ℕ) (k : ℕ) : Type 0 where
-  pub free : holds k xs ≡ false
-  pub lowest : (i : ℕ) → i < k → holds i xs ≡ true
-  pub short : k ≤ length xs
 
 free-from : (f k : ℕ) (xs : List ℕ) → ((i : ℕ) → i < k → holds i xs ≡ true) → length xs ≤ k + f
     → Free xs (freeFrom f k xs)

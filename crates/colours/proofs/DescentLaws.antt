@@ -20,12 +20,14 @@ use Rattle.trees.specs.Numbering.{depth, ancestor}
 use Rattle.trees.specs.Climb.{Forest, Move, climb, climbEnd, digits}
 use Rattle.colours.specs.marks.Marks.{marksIn, marksAt, lowestAt}
 use Rattle.colours.proofs.marks.MarkLaws.{marksAt-is, marks-at, lowest-in}
-use Rattle.colours.proofs.marks.NextMark.{NextMark, next-mark, next-mark-few}
+use Rattle.colours.proofs.marks.NextMark.{next-mark, next-mark-few}
+use Rattle.colours.specs.marks.NextMarks.{NextMark}
 use Rattle.colours.specs.Copies.{landsAt, fallsAt, colourDown, dropsDown}
 use Rattle.colours.specs.Descents.{ColourTable, Place, seenAt, lowestIn, nextFrom, seen, lowestOf, Next, done}
 use Rattle.colours.specs.Descents.{lost, fell, fellAt, fellBy, nextDrop}
 use Rattle.colours.specs.Descents.{Descent, descent, sum, withSearch, afterNext, descend, colourTableOf}
 use Rattle.colours.proofs.PathLaws.{colour-le, drops-le, colour-kept, next-drop}
+use Rattle.colours.specs.Descents.{AllLe}
 
 -- ---- the equations of a descent
 
@@ -111,10 +113,6 @@ module _ (T : ColourTable) (l : ℕ) where
       ]
 
 -- ---- what is left of a path
-
-abbrev pub AllLe : ℕ → List ℕ → Type 0
-AllLe b [] = Unit {0}
-AllLe b (x ∷ xs) = (x ≤ b) × AllLe b xs
 
 pub sum-le : (b : ℕ) (xs : List ℕ) → AllLe b xs → sum xs ≤ length xs * b
 sum-le b [] h = omega arith

@@ -34,7 +34,8 @@ use Rattle.colours.specs.StateSets.{Tried, tried, afterTrial, tryOne, tr
 use Rattle.colours.proofs.ColouringLaws.{place-lt, place-at, has-colour}
 use Rattle.colours.proofs.CopyLaws.{copy-colouring}
 use Rattle.colours.proofs.PathLaws.{follow-state}
-use Rattle.colours.proofs.DescentLaws.{AllLe, all-append, left-node, Descended, descend-tree, descent-drops}
+use Rattle.colours.proofs.DescentLaws.{all-append, left-node, Descended, descend-tree, descent-drops}
+use Rattle.colours.specs.Descents.{AllLe}
 use Rattle.colours.proofs.BitLaws.{setOf-below, member-setOf, member-single}
 
 -- one trial more

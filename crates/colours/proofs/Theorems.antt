@@ -9,9 +9,8 @@
 use Prim.Native.Nat.{ℕ, suc, _-_, _*_, _≤_, _<_}
 use mathlib.Core.Path.{_≡_, ap, _∙_}
 use mathlib.Core.List.{List}
-use mathlib.Core.Option.{some}
 use native.Mathlib.Omega.{arith}
-use lib.ListN.{length, getD}
+use lib.ListN.{getD}
 use Rattle.trees.specs.Tree.{Tree, size, height}
 use Rattle.trees.specs.Automaton.{Automaton, WordAutomaton}
 use Rattle.trees.specs.Numbering.{depth, ancestor, word, wordBelow, AtOrBelow}
@@ -22,12 +21,15 @@ use Rattle.trees.proofs.Digits.{digits-limit}
 use Rattle.colours.specs.Colouring.{Colouring}
 use Rattle.colours.specs.Copies.{copy, copyAbove, landsAt, dropsDown}
 use Rattle.colours.specs.Words.{withUpper, belowUpper}
-use Rattle.colours.specs.StateSets.{tried, tryTargets, trialDrops, dropsFrom}
+use Rattle.colours.specs.StateSets.{tryTargets, trialDrops, dropsFrom}
 use Rattle.colours.proofs.CopyLaws.{copy-colouring, landsAt-le, landsAt-state}
 use Rattle.colours.proofs.PathLaws.{drops-le}
-use Rattle.colours.proofs.DescentLaws.{AllLe, all-le}
-use Rattle.colours.proofs.WordLaws.{WordAnswer, upper-answer, below-answer}
+use Rattle.colours.proofs.DescentLaws.{all-le}
+use Rattle.colours.specs.Descents.{AllLe}
+use Rattle.colours.proofs.WordLaws.{upper-answer, below-answer}
+use Rattle.colours.specs.Answers.{WordAnswer}
 use Rattle.colours.proofs.SetLaws.{Found, targets, targets-sixty}
+use Rattle.colours.specs.Answers.{SetAnswer}
 
 module _ (n : ℕ) (step : ℕ → ℕ → ℕ) (t : Tree) (keeps : (v q : ℕ) → q < n → step v q < n) where
   pub colours-one-each : (v : ℕ) → Colouring n (copy n step t v)
@@ -49,16 +51,6 @@ module _ (B : WordAutomaton) (t : Tree) (below : (q a : ℕ) → B .step q a < B
 
   pub word-below : WordAnswer B t l (wordBelow t u l) (belowUpper B t u l)
   word-below = below-answer B t below u l h A
-
--- "the state its climb gives is found by trying target states in rising order up to it, and the drops add up to at
--- most 60"
-pub record SetAnswer (A : Automaton) (t : Tree) (c w k q : ℕ) : Type 0 where
-  pub searches : List ℕ
-  pub found : tryTargets A t c w q ≡ some (tried (walk (stepUp A t) t w k q) searches)
-  -- the drops of every trial up to it
-  pub drops-are : length searches ≡ dropsFrom (trialDrops A t c w k) 0 (suc (walk (stepUp A t) t w k q))
-  pub falls : length searches ≤ 60
-  pub few : AllLe (3 * digits (height t)) searches
 
 pub set-targets : (A : Automaton) (t : Tree) → ((p a q : ℕ) → A .δ p a q < A .states) → A .states ≤ 4 → (c w k q : ℕ)
     → w < size t → k ≤ depth t w → ancestor t w k ≡ c → q < A .states → SetAnswer A t c w k q

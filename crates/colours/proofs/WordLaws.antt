@@ -3,11 +3,11 @@
 --     upper-answer     with the upper node: the run on the word from u down to l
 --     below-answer     without it: the run on the labels below u
 --     upper-drops, below-drops   their drops are the places on the path where the colour falls
-use Prim.Native.Nat.{ℕ, zero, suc, _+_, _-_, _*_, _≤_, _<_}
+use Prim.Native.Nat.{ℕ, zero, suc, _+_, _-_, _≤_, _<_}
 use mathlib.Core.Path.{_≡_, refl, sym, ap, ap₂, _∙_}
 use mathlib.Core.Bool.{true}
 use mathlib.Core.List.{List, [], _∷_}
-use mathlib.Core.Option.{Option, some}
+use mathlib.Core.Option.{some}
 use native.Mathlib.Omega.{arith}
 use native.Mathlib.Nat.{le-refl}
 use native.Mathlib.Numerals.{add-one}
@@ -15,10 +15,9 @@ use native.Mathlib.Decide.{ℕ-discrete}
 use lib.ListN.{getD}
 use borrow.Author.Tests.{eq-eqb, ne-eqb}
 use Rattle.list_laws.specs.Tests.{holds}
-use Rattle.trees.specs.Tree.{Tree, size, height, labelAt}
+use Rattle.trees.specs.Tree.{Tree, size, labelAt}
 use Rattle.trees.specs.Automaton.{WordAutomaton, wordRun}
 use Rattle.trees.specs.Numbering.{parent, depth, ancestor, labelsDown, word, wordBelow, AtOrBelow}
-use Rattle.trees.specs.Climb.{digits}
 use Rattle.trees.proofs.NodeLaws.{up, depth-root}
 use Rattle.trees.proofs.IntervalLaws.{above-at}
 use Rattle.trees.proofs.BranchMapLaws.{wordRun-append}
@@ -26,11 +25,12 @@ use Rattle.trees.proofs.JumpLaws.{ancestor-in}
 use Rattle.colours.specs.Colouring.{placeOf, Colouring}
 use Rattle.colours.specs.Copies.{copyIn, copy, copyAbove, stateDown, colourDown, dropsDown}
 use Rattle.colours.specs.Descents.{Place, Descent, descent, drops, descend, colourTableOf}
-use Rattle.colours.specs.Words.{wordStep, aboveOf, colourAbove, colourHere, withUpper, belowUpper, wordState}
+use Rattle.colours.specs.Words.{wordStep, aboveOf, colourAbove, colourHere, withUpper, belowUpper}
 use Rattle.colours.proofs.ColouringLaws.{place-lt, place-at, has-colour}
 use Rattle.colours.proofs.CopyLaws.{copy-colouring, copyAbove-colouring}
 use Rattle.colours.proofs.PathLaws.{follow-state}
-use Rattle.colours.proofs.DescentLaws.{AllLe, Left, left-top, left-node, Descended, descend-tree, descent-drops}
+use Rattle.colours.proofs.DescentLaws.{Left, left-top, left-node, Descended, descend-tree, descent-drops}
+use Rattle.colours.specs.Answers.{WordAnswer}
 
 pub stateDown-word : (B : WordAutomaton) (t : Tree) (l k q : ℕ)
     → stateDown (wordStep B t) t l k q ≡ wordRun B q (labelsDown t l k)
@@ -39,14 +39,6 @@ stateDown-word B t l zero q = refl
 stateDown-word B t l (suc k) q =
     ap (λ (x : ℕ). B .step x (labelAt t l)) (stateDown-word B t (parent t l) k q)
     ∙ sym (wordRun-append B q (labelsDown t (parent t l) k) (labelAt t l ∷ []))
-
--- the answer of the word automaton on the word w, with few drops, each found by few links
-pub record WordAnswer (B : WordAutomaton) (t : Tree) (l : ℕ) (w : List ℕ) (o : Option Descent) : Type 0 where
-  pub way : Descent
-  pub found : o ≡ some way
-  pub state : wordState B t l way ≡ wordRun B 0 w
-  pub falls : drops way ≤ B .states - 1
-  pub few : AllLe (3 * digits (height t)) (way .searches)
 
 module _ (B : WordAutomaton) (t : Tree) (below : (q a : ℕ) → B .step q a < B .states) where
   abbrev n : ℕ

@@ -9,6 +9,7 @@
 -- placeOf q xs == the place of q in xs: the colour of state q; the length where q is not there
 -- lands f above c == the colour, in the next copy, of the state that colour c's state above leads to
 -- Colouring n xs == each of n states has exactly one of n colours
+-- Free xs k == k is the lowest number that is not in xs
 --
 -- Any number of states and any f: words and sets of states are instances (Words, StateSets).
 use Prim.Native.Nat.{ℕ, zero, suc, _<_}
@@ -18,6 +19,8 @@ use mathlib.Core.List.{List, [], _∷_, _++_}
 use lib.Dec.{eqb}
 use lib.ListN.{length, getD}
 use Rattle.list_laws.specs.Tests.{holds, distinct}
+use Prim.Native.Nat.{_≤_}
+use mathlib.Core.Bool.{false}
 
 -- from k on, f tries
 unfoldable pub freeFrom : ℕ → ℕ → List ℕ → ℕ
@@ -53,3 +56,8 @@ pub record Colouring (n : ℕ) (xs : List ℕ) : Type 0 where
   pub count : length xs ≡ n
   pub below : (c : ℕ) → c < n → getD xs c 0 < n
   pub once : distinct xs ≡ true
+
+pub record Free (xs : List ℕ) (k : ℕ) : Type 0 where
+  pub free : holds k xs ≡ false
+  pub lowest : (i : ℕ) → i < k → holds i xs ≡ true
+  pub short : k ≤ length xs

@@ -13,6 +13,7 @@
 -- descend T f z l c == from colour c in the copy z down to the copy of node l, in at most f drops, where f is c at
 --   least; none (18) where one is lost. The lowest colour never falls: of its table nothing is read
 -- colourTableOf n step t == the table of a tree's own colours
+-- AllLe b xs == every number of xs is at most b
 --
 -- "A next drop is found by 01's jumps and climb among the nodes where that colour falls, depth being their number
 -- above, from the lowest left on the path to the highest; the moves are the links".
@@ -26,6 +27,7 @@ use Rattle.trees.specs.Tree.{Tree}
 use Rattle.trees.specs.Climb.{Forest, Move, climb, climbEnd}
 use Rattle.colours.specs.marks.Marks.{bit, markedForest}
 use Rattle.colours.specs.Copies.{landsAt, fallsAt}
+use Prim.Native.Nat.{_≤_}
 
 pub record ColourTable : Type 0 where
   pub forest : ℕ → Forest
@@ -109,3 +111,7 @@ descend T (suc f) z l (suc c) = afterNext (nextDrop T (suc c) z l) (suc c) (λ x
 abbrev pub colourTableOf : ℕ → (ℕ → ℕ → ℕ) → Tree → ColourTable
 colourTableOf n step t =
     record { forest = λ c. markedForest t (fallsAt n step t c); lands = λ c v. landsAt n step t c v }
+
+abbrev pub AllLe : ℕ → List ℕ → Type 0
+AllLe b [] = Unit {0}
+AllLe b (x ∷ xs) = (x ≤ b) × AllLe b xs

@@ -13,7 +13,7 @@ use Rattle.formats.specs.Inputs.{Inputs, inputsOf}
 use Rattle.model.specs.Calls.{Call, load, start, advance, read, Answer, parts, more, finished, outcomeAnswer}
 use Rattle.reference.specs.Reference.{newReference}
 use Rattle.reference.specs.AgreementTest.{agreed}
-use Rattle.reference.proofs.Sample.{computing, tableA, seen}
+use Rattle.reference.specs.Sample.{computing, tableA, seen}
 use Rattle.reference.proofs.Controls.{all}
 
 -- N 13, labels 0 0 0 0 1 1 1 1 0 1 1 1 0, kinds 0 0 0 0 1 1 0 1 0 1 0 1 1

@@ -27,7 +27,8 @@ use Rattle.formats.proofs.CheckLaws.{firstNo-append-zero, firstNo-appen
 use Rattle.list_laws.proofs.BoolLaws.{and-both, and-left, and-right}
 use Rattle.list_laws.proofs.TestLaws.{allBelow-all}
 use Rattle.formats.proofs.FourChecks.{three-pass, pass-three}
-use Rattle.formats.proofs.PlanLaws.{PlanPasses, plan-passes, passes-plan, plan-numbered, same-left, same-both}
+use Rattle.formats.proofs.PlanLaws.{plan-passes, passes-plan, plan-numbered, same-left, same-both}
+use Rattle.formats.specs.Passing.{PlanPasses}
 use Rattle.formats.proofs.RuleLaws.{RulesPass, rules-pass, pass-rules, rules-numbered}
 use Rattle.formats.proofs.BranchLaws.{BranchPasses, branch-passes, passes-branch, branch-numbered}
 

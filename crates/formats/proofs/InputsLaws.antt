@@ -21,18 +21,12 @@ use Rattle.formats.specs.Checks.{firstNo, ruleTableChecks, nodeTableLeng
 use Rattle.formats.specs.Built.{builtNodeTable}
 use Rattle.list_laws.proofs.BoolLaws.{and-both, and-left, and-right}
 use Rattle.list_laws.proofs.TestLaws.{sameList-true, sameList-is}
-use Rattle.formats.proofs.PlanLaws.{PlanPasses}
+use Rattle.formats.specs.Passing.{PlanPasses}
 use Rattle.formats.proofs.RuleLaws.{RulesPass}
 use Rattle.formats.proofs.InputLaws.{rule-table-passes}
 use Rattle.formats.specs.Inputs.{Inputs, Sizes, usedNodeTable, usedStateTable, namesSizes, sameNodeInputs, sameInputs}
 use Rattle.formats.specs.Inputs.{nodeTableBuilt, inputsOf}
-
-pub record Built (z : Sizes) (x : Inputs) : Type 0 where
-  pub passed : firstNo (ruleTableChecks (x .plan) (x .rules)) ≡ 0
-  pub n-is : nodeCount (x .plan) ≡ z .n
-  pub s-is : stateCount (x .rules) ≡ z .s
-  pub k-is : labelCount (x .rules) ≡ z .k
-  pub nodeTable : usedNodeTable z x ≡ builtNodeTable (x .plan)
+use Rattle.formats.specs.Passing.{Built}
 
 module _ (z : Sizes) (x : Inputs) where
   abbrev passes : Bool

@@ -26,15 +26,7 @@ use Rattle.formats.proofs.CheckLaws.{Numbered}
 use Rattle.list_laws.proofs.BoolLaws.{and-both, and-left, and-right, and-no-left, and-no-right, and-next}
 use Rattle.formats.proofs.FourChecks.{four-pass, pass-four}
 use Rattle.list_laws.proofs.SliceLaws.{end-part, run-part, length-part}
-
-pub record PlanPasses (p : List ℕ) : Type 0 where
-  pub long : 12 ≤ length p
-  pub least : 1 ≤ nodeCount p
-  pub most : nodeCount p ≤ 65535
-  pub labels-at : le32 p 4 ≡ 12
-  pub kinds-at : le32 p 8 ≡ 12 + nodeCount p
-  pub exact : length p ≡ planLength (nodeCount p)
-  pub postorder : isPostorder (kindsIn p) ≡ true
+use Rattle.formats.specs.Passing.{PlanPasses}
 
 -- ---- tests of a range, and of an offset and a length
 

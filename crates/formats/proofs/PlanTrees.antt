@@ -22,7 +22,8 @@ use Rattle.formats.specs.Checks.{firstNo, planChecks}
 use Rattle.formats.proofs.ByteLaws.{bytes-number, read-bytes}
 use Rattle.list_laws.proofs.TestLaws.{allBelow-all}
 use Rattle.list_laws.proofs.SliceLaws.{rest-cut, append-both}
-use Rattle.formats.proofs.PlanLaws.{PlanPasses, plan-passes, passes-plan, kinds-planTree, labels-planTree, size-planTree}
+use Rattle.formats.proofs.PlanLaws.{plan-passes, passes-plan, kinds-planTree, labels-planTree, size-planTree}
+use Rattle.formats.specs.Passing.{PlanPasses}
 
 -- ---- from a plan to its tree and back
 

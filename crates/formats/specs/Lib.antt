@@ -7,3 +7,4 @@ pub mod Built
 pub mod Buffers
 pub mod Inputs
 pub mod inner
+pub mod Passing

@@ -22,7 +22,8 @@ use Rattle.formats.specs.Rules.{stateCount, labelCount, leafStates, innerStates
 use Rattle.formats.specs.Checks.{nodeTableLength, stateTableLength}
 use Rattle.formats.specs.Built.{builtNodeTable}
 use Rattle.list_laws.proofs.TestLaws.{allBelow-all}
-use Rattle.formats.proofs.PlanLaws.{PlanPasses, size-planTree, kinds-planTree, labels-planTree}
+use Rattle.formats.proofs.PlanLaws.{size-planTree, kinds-planTree, labels-planTree}
+use Rattle.formats.specs.Passing.{PlanPasses}
 use Rattle.formats.proofs.RuleLaws.{RulesPass, leaf-state-below, inner-state-below}
 use Rattle.formats.proofs.InputLaws.{ListPasses, list-passes, label-below}
 use Rattle.tables.specs.node_tables.NodeCells.{NodeCells}
@@ -44,7 +45,8 @@ use Rattle.formats.specs.Inputs.{Inputs, Sizes, usedNodeTable, usedStateTable, 
 use Rattle.model.specs.Model.{rootsIn, viewBy}
 use Rattle.model.specs.PartInputs.{givenOf}
 use Rattle.model.proofs.Facts.{SettledInputs, Handled, nextRoot, reachedBy, Layers}
-use Rattle.formats.proofs.InputsLaws.{Built, node-table-built, plan-of, rules-of, labels-of, Same, same-node-inputs}
+use Rattle.formats.proofs.InputsLaws.{node-table-built, plan-of, rules-of, labels-of, Same, same-node-inputs}
+use Rattle.formats.specs.Passing.{Built}
 
 -- ---- the node table
 

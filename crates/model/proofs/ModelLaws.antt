@@ -23,7 +23,7 @@ use Rattle.list_laws.proofs.BoolLaws.{and-left}
 use Rattle.formats.proofs.CheckLaws.{Numbered, firstNo-head, firstNo-tail, firstNo-append-left, firstNo-append-right}
 use Rattle.formats.proofs.InputLaws.{ListPasses, list-passes, list-numbered}
 use Rattle.changes.proofs.DifferingLaws.{differing-below, differing-most}
-use Rattle.formats.proofs.InputsLaws.{Built}
+use Rattle.formats.specs.Passing.{Built}
 use Rattle.questions.specs.ready.Members.{roots}
 use Rattle.questions.proofs.ready.ListLaws.{list-last}
 use Rattle.model.specs.Calls.{load, start, advance, Phase, mayLoad, mayStart, isRunning}

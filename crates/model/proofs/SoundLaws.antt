@@ -14,7 +14,8 @@ use Rattle.formats.specs.Checks.{check, firstNo, listChecks, nodeTableLength, s
 use Rattle.formats.specs.Built.{builtStateTable}
 use Rattle.formats.specs.Inputs.{Inputs, Sizes, fits, usedNodeTable, usedStateTable, nodeTableBuilt, stateTableBuilt, sound}
 use Rattle.formats.proofs.CheckLaws.{firstNo-yes, firstNo-no, firstNo-append-zero, firstNo-append-no}
-use Rattle.formats.proofs.InputsLaws.{Built, node-table-built, built-node-table}
+use Rattle.formats.proofs.InputsLaws.{node-table-built, built-node-table}
+use Rattle.formats.specs.Passing.{Built}
 use Rattle.model.specs.Calls.{start, refused, parts, isRefused, mayStart}
 use Rattle.model.specs.Refusals.{stage, checksBefore18, refusal}
 use Rattle.model.specs.Sound.{Sound}

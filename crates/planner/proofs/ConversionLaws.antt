@@ -18,7 +18,8 @@ use Rattle.formats.specs.Plan.{nodeCount, planTree, planBytes}
 use Rattle.formats.specs.Checks.{firstNo, planChecks}
 use Rattle.list_laws.proofs.BoolLaws.{and-both, and-left, and-right}
 use Rattle.list_laws.proofs.TestLaws.{allBelow-all, at-allBelow}
-use Rattle.formats.proofs.PlanLaws.{PlanPasses, plan-passes, size-planTree}
+use Rattle.formats.proofs.PlanLaws.{plan-passes, size-planTree}
+use Rattle.formats.specs.Passing.{PlanPasses}
 use Rattle.formats.proofs.PlanTrees.{plan-tree, tree-passes, tree-plan}
 use Rattle.planner.specs.Siblings.{Siblings, empty, sibling, count, width, preLabels, preCounts, image, unimage}
 use Rattle.planner.specs.Siblings.{emptyLabel}

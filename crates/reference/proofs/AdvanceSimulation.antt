@@ -42,7 +42,8 @@ use Rattle.model.proofs.Facts.{reachedBy, nextRoot, Layers}
 use Rattle.questions.proofs.ready.PassedLaws.{passed-more}
 use Rattle.model.proofs.ResultLaws.{length-states, states-more, length-more, last-more, links-more, below-more}
 use Rattle.model.proofs.ResultLaws.{from-more}
-use Rattle.formats.proofs.InputsLaws.{Built, Same, plan-of, node-table-built, same-node-inputs, same-inputs-nodes}
+use Rattle.formats.proofs.InputsLaws.{Same, plan-of, node-table-built, same-node-inputs, same-inputs-nodes}
+use Rattle.formats.specs.Passing.{Built}
 use Rattle.formats.proofs.InputsLaws.{same-state-table}
 use Rattle.reference.proofs.FreshLaws.{part-state, given-same, sound-below}
 use Rattle.reference.proofs.CauseLaws.{advance-cause}

@@ -37,6 +37,7 @@ use Rattle.changes.proofs.DifferingLaws.{differing-listed}
 use Rattle.questions.proofs.ready.MonotoneLaws.{roots-mono}
 use Rattle.reference.specs.Reference.{Question, leftOf, partCount}
 use Rattle.model.proofs.Facts.{Layers}
+use Rattle.reference.specs.Outcomes.{Few}
 
 -- ---- links
 
@@ -95,10 +96,6 @@ unfolding roots
 nodes-passed t vs = question-passed (λ v. holds v vs) t
 
 -- ---- parts
-
-pub record Few (m p : ℕ) : Type 0 where
-  pub one : m ≡ 0 → p ≡ 1
-  pub few : 1 ≤ m → p ≤ 4 * m - 2
 
 pub ready-count : Layers → (z : Sizes) (x : Inputs) (vs : List ℕ) → nodeTableBuilt z x ≡ true → allBelow (z .n) vs ≡ true
     → Few (length vs) (length (rootsIn x vs))

@@ -19,7 +19,7 @@ use Rattle.formats.specs.Plan.{planTree}
 use Rattle.questions.specs.ready.Members.{roots}
 use Rattle.questions.specs.ready.Parts.{questionLinks}
 use Rattle.reference.specs.AgreementTest.{agreed}
-use Rattle.reference.proofs.Sample.{computing, planA, tableA, loadA, inputsA, Seen, seen, asking, row}
+use Rattle.reference.specs.Sample.{computing, planA, tableA, loadA, inputsA, Seen, seen, asking, row}
 
 -- what the reference model settles of a list of calls, all of whose answers agree
 abbrev pub all : List (Option Answer) → Seen

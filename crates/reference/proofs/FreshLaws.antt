@@ -56,7 +56,8 @@ use Rattle.reference.specs.Reference.{Question, leftOf, rootsOf, changed
 use Rattle.questions.specs.ready.Parts.{nodesOf}
 use Rattle.questions.proofs.ready.PassedLaws.{whole-passed}
 use Rattle.model.proofs.ResultLaws.{last-more, from-more, from-nodes, from-links}
-use Rattle.formats.proofs.InputsLaws.{Built, plan-of, rules-of}
+use Rattle.formats.proofs.InputsLaws.{plan-of, rules-of}
+use Rattle.formats.specs.Passing.{Built}
 
 -- ---- the state table that Load writes
 

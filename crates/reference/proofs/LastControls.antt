@@ -12,7 +12,7 @@ use mathlib.Core.Option.{none, some}
 use Rattle.model.specs.Calls.{Call, load, start, advance, cancel, read, Answer, refused, parts, more, finished, outcomeAnswer}
 use Rattle.reference.specs.Reference.{newReference}
 use Rattle.reference.specs.AgreementTest.{agreed}
-use Rattle.reference.proofs.Sample.{computing, loadA, inputsA, seen, asking}
+use Rattle.reference.specs.Sample.{computing, loadA, inputsA, seen, asking}
 use Rattle.reference.proofs.Controls.{all, onNode, nothing, otherNumber, otherState}
 
 -- the question with no change: its answer is 1 yes 1 0; that which sets node 0 to 0 has two parts, and 0 no 2 1

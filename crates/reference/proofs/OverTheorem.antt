@@ -6,7 +6,7 @@
 use Prim.Native.Nat.{ℕ}
 use mathlib.Core.Path.{_≡_, ap, ap₂, _∙_, subst}
 use mathlib.Core.Bool.{Bool, false}
-use mathlib.Core.List.{List, [], _∷_}
+use mathlib.Core.List.{List}
 use Rattle.trees.specs.Tree.{Tree}
 use Rattle.trees.specs.Automaton.{state, accepts}
 use Rattle.trees.specs.Postorder.{treeOf}
@@ -14,21 +14,18 @@ use Rattle.trees.specs.Changes.{changed}
 use Rattle.formats.specs.Plan.{labelsIn, kindsIn}
 use Rattle.formats.specs.Rules.{ruleAutomaton}
 use Rattle.formats.specs.Inputs.{Inputs}
-use Rattle.formats.proofs.PlanLaws.{PlanPasses}
+use Rattle.formats.specs.Passing.{PlanPasses}
 use Rattle.runs.specs.FreshRun.{changedTree, rootState, rootAccepted}
 use Rattle.changes.specs.Entries.{Entry, entries, nodesListed, labelsListed, laidOver}
 use Rattle.changes.specs.ChangedPlan.{changedPlan}
 use Rattle.changes.proofs.ChangedLaws.{changed-over}
 use Rattle.changes.proofs.PlanOver.{labels-changed, kinds-changed}
 use Rattle.model.specs.Calls.{Answer, Outcome, outcome, outcomeAnswer, onOutcome}
-use Rattle.reference.specs.Reference.{asked, freshAnswer}
+use Rattle.reference.specs.Reference.{freshAnswer}
 use Rattle.reference.specs.Undisturbed.{EveryOutcomeAfter, OnlyOutcomeAfter}
 use Rattle.reference.proofs.UndisturbedLaws.{after-map}
-use Rattle.reference.proofs.QuestionTheorem.{CleanOutcomes}
-
--- what a Read tells first: this state, and this yes or no
-abbrev pub Tells : ℕ → Bool → Outcome → Type 0
-Tells q b o = (o .state ≡ q) × (o .yes ≡ b)
+use Rattle.reference.specs.Outcomes.{CleanOutcomes}
+use Rattle.reference.specs.Outcomes.{Tells}
 
 told-first : (q : ℕ) (b : Bool) (p l d : ℕ) (o : Outcome) → outcome o ≡ outcomeAnswer q b p l d → Tells q b o
 told-first q b p l d o e = (

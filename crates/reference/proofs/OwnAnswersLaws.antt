@@ -22,7 +22,7 @@ use Rattle.reference.specs.Demand3.{Conforms}
 use Rattle.reference.specs.OwnAnswers.{Own, refuses, loads, starts, goes-on, finishes, cancels, reads}
 use Rattle.reference.proofs.ReadingLaws.{reading-outcome}
 use Rattle.reference.proofs.Simulation.{referenceOf}
-use Rattle.reference.proofs.Sample.{inputsA}
+use Rattle.reference.specs.Sample.{inputsA}
 use Rattle.reference.proofs.Controls.{otherLabel, judgedStart, judgedAdvance, judgedUnsettled}
 
 -- ---- a Read: in every state, once an answer is there

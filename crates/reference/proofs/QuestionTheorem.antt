@@ -1,16 +1,12 @@
 -- The further statements of demand 3, about what the calls tell of one question.
---     CleanOutcomes       of a question that Start accepted and that was undisturbed: the parts that Start told, after how many
---                         accepted advances finished is told, what Reads tell after that, ceilings
---     QuestionAnswered    an accepted Start had sound inputs; and the question's outcomes where it is undisturbed
---     question-answered   it holds in every history from a fresh record
+--     question-answered   QuestionAnswered holds in every history from a fresh record
 --     questions-of        and passes on to every form of the calls
 --     outcome-order       and does not depend on the order of the list
 -- Refused calls may come between; a Cancel may not.
-use Prim.Native.Nat.{ℕ, zero, suc, _+_, _*_, _≤_, _<_}
+use Prim.Native.Nat.{ℕ, zero, suc, _+_, _*_, _≤_}
 use mathlib.Core.Path.{_≡_, refl, sym, ap, _∙_, subst}
 use mathlib.Core.Bool.{true}
 use mathlib.Core.List.{List, [], _∷_, _++_, zip, List·Permᴰ}
-use mathlib.Core.Option.{none, some}
 use native.Mathlib.Omega.{arith}
 use lib.ListN.{length}
 use Rattle.trees.specs.Tree.{height}
@@ -19,17 +15,15 @@ use Rattle.list_laws.specs.Tests.{distinct}
 use Rattle.formats.specs.Plan.{planTree, labelsIn}
 use Rattle.list_laws.proofs.BoolLaws.{true-false}
 use Rattle.changes.specs.Differing.{differing}
-use Rattle.questions.specs.ready.Members.{roots}
 use Rattle.formats.specs.Inputs.{Inputs, Sizes}
-use Rattle.model.specs.Calls.{Call, start, Answer, refused, parts, Outcome, outcome, onOutcome, isRefused}
+use Rattle.model.specs.Calls.{Call, start, Answer, parts, Outcome, outcome, onOutcome, isRefused}
 use Rattle.model.specs.Refusals.{refusal}
-use Rattle.model.specs.Sound.{Sound}
 use Rattle.reference.specs.Reference.{Question, Reference, stageOf, inState, leftOf}
 use Rattle.reference.specs.Reference.{newReference, step, decided, proceed, partCount, freshAnswer, asked, starting}
 use Rattle.reference.specs.Demand3.{Conforms, after, Agrees}
 use Rattle.model.specs.History.{History}
 use Rattle.model.specs.Model.{freshRecord, Does}
-use Rattle.reference.specs.Undisturbed.{advances, finishedAfter, referenceAt, Undisturbed}
+use Rattle.reference.specs.Undisturbed.{referenceAt}
 use Rattle.reference.specs.Undisturbed.{EveryOutcomeAfter, OnlyOutcomeAfter}
 use Rattle.model.proofs.Facts.{Layers}
 use Rattle.reference.proofs.StartSimulation.{some-part}
@@ -37,43 +31,11 @@ use Rattle.model.proofs.ModelLaws.{start-list, start-sound, start-built, left-b
 use Rattle.model.proofs.SoundLaws.{sound-yes}
 use Rattle.reference.proofs.Demand3Theorem.{demand-3}
 use Rattle.model.proofs.Refinement.{Refines, refines}
-use Rattle.reference.proofs.Ceilings.{Few, ready-count, parts-never-rise, question-links, nodes-passed}
+use Rattle.reference.proofs.Ceilings.{ready-count, parts-never-rise, question-links, nodes-passed}
+use Rattle.reference.specs.Outcomes.{Few}
 use Rattle.reference.proofs.UndisturbedLaws.{going, UndisturbedFrom, agrees-split, undisturbed, after-map}
 use Rattle.reference.proofs.OrderLaws.{left-order, roots-order, parts-order, fresh-order}
-
--- n is what Start told, ys are the answers of the calls after it
-pub record CleanOutcomes (x : Inputs) (vs bs : List ℕ) (n : ℕ) (ys : List Answer) : Type 0 where
-  -- Start tells the size of the ready set
-  pub parts-are : n ≡ partCount (asked x vs bs)
-  -- "the ceiling of 4m-2 uses the m that is left, with 1 part when none is": m counts the nodes whose label, after superseding, is not the plan's
-  pub few : Few (length (differing (labelsIn (x .plan)) vs bs)) n
-  -- "parts and advances needed never rise": no more than with all listed nodes in W
-  pub never-more : n ≤ length (roots (planTree (x .plan)) vs)
-  -- finished by exactly as many accepted advances as there are parts
-  pub exact : (m : ℕ) → finishedAfter ys ≡ some m → m ≡ n
-  pub unfinished : finishedAfter ys ≡ none → advances ys < n
-  pub most : advances ys ≤ n
-  -- once it is finished Read tells the fresh run's state and yes or no, the parts, the moves of their climbs and the nodes that
-  -- these passed over
-  pub only : OnlyOutcomeAfter (freshAnswer (asked x vs bs)) ys
-  -- at most three links for each binary digit of the plan's height, for each part told
-  pub links : EveryOutcomeAfter (λ o. o .links ≤ o .parts * (3 * digits (height (planTree (x .plan))))) ys
-  -- document 02, S-7: as many nodes passed over as links or more, and no more than the plan is high for each part told
-  pub passed-least : EveryOutcomeAfter (λ o. o .links ≤ o .passed) ys
-  pub passed-most : EveryOutcomeAfter (λ o. o .passed ≤ o .parts * height (planTree (x .plan))) ys
-
--- a question that Start accepted for the sizes z: ds and ys are the calls and answers after it
-pub record QuestionAnswered (z : Sizes) (x : Inputs) (vs bs : List ℕ) (n : ℕ) (ds : List Call) (ys : List Answer) : Type 0 where
-  -- Start made "the full check of what is lent"
-  pub started-sound : Sound z x
-  -- "A finished answer is then right for what was lent at Start, provided it stays so until the last advance."
-  pub outcomes : Undisturbed z x ds ys → CleanOutcomes x vs bs n ys
-
--- the same for any form of the calls: cs and xs are the calls and answers before the Start, ds and ys those after it
-abbrev pub QuestionsAnswered : {Record : Type 0} → Record → (Record → Call → Answer → Record → Type 0) → Type 0
-QuestionsAnswered fresh Step = (cs : List Call) (xs : List Answer) (x : Inputs) (vs bs : List ℕ) (n : ℕ) (ds : List Call) (ys : List Answer)
-    → length cs ≡ length xs → History Step fresh (cs ++ (start x vs bs ∷ ds)) (xs ++ (parts n ∷ ys))
-    → QuestionAnswered (referenceAt newReference cs xs .sizes) x vs bs n ds ys
+use Rattle.reference.specs.Outcomes.{CleanOutcomes, QuestionAnswered, QuestionsAnswered}
 
 -- ---- the Start
 

@@ -19,7 +19,8 @@ use Rattle.model.specs.Model.{freshRecord, Does}
 use Rattle.reference.specs.AgreementTest.{answersOf}
 use Rattle.reference.proofs.Demand3Theorem.{demand-3}
 use Rattle.model.proofs.LayersHold.{layers}
-use Rattle.reference.proofs.QuestionTheorem.{QuestionsAnswered, question-answered}
+use Rattle.reference.proofs.QuestionTheorem.{question-answered}
+use Rattle.reference.specs.Outcomes.{QuestionsAnswered}
 use Rattle.reference.proofs.AgreementTestLaws.{history-of}
 
 pub model-demand-3 : Demand3 freshRecord Does

@@ -7,3 +7,5 @@ pub mod Superseding
 pub mod OwnAnswers
 pub mod Finished
 pub mod Lasting
+pub mod Outcomes
+pub mod Sample

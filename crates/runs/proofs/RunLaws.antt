@@ -22,7 +22,8 @@ use Rattle.formats.specs.Rules.{stateCount, labelCount, leafStates, innerStates
 use Rattle.list_laws.specs.Tests.{allBelow}
 use Rattle.formats.specs.Checks.{firstNo, freshRunChecks}
 use Rattle.list_laws.proofs.TestLaws.{allBelow-all}
-use Rattle.formats.proofs.PlanLaws.{PlanPasses, length-kindsIn, labels-as-kinds, labels-part, kinds-part}
+use Rattle.formats.proofs.PlanLaws.{length-kindsIn, labels-as-kinds, labels-part, kinds-part}
+use Rattle.formats.specs.Passing.{PlanPasses}
 use Rattle.formats.proofs.RuleLaws.{RulesPass, length-leafStates, length-innerStates, leaf-state-below}
 use Rattle.formats.proofs.RuleLaws.{inner-state-below, leaves-part, inner-part}
 use Rattle.formats.proofs.InputLaws.{ListPasses, fresh-run-passes, label-below}

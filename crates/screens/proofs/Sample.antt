@@ -23,7 +23,7 @@ use Rattle.model.specs.History.{History, done, call}
 use Rattle.model.specs.Model.{Record, freshRecord}
 use Rattle.reference.specs.Reference.{newReference}
 use Rattle.reference.specs.AgreementTest.{settledAnswers}
-use Rattle.reference.proofs.Sample.{computing, loadA, inputsA}
+use Rattle.reference.specs.Sample.{computing, loadA, inputsA}
 use Rattle.reference.proofs.Controls.{otherNumber}
 use Rattle.screens.specs.ScreenCalls.{ScreenCall, loadAll, startOn, cancelOn, readOn, deal, ScreenAnswer, one}
 use Rattle.screens.specs.ScreenCalls.{loads, deals, answerIn}

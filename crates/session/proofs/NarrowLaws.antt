@@ -11,7 +11,8 @@ use Rattle.trees.specs.Tree.{size}
 use Rattle.trees.proofs.HeightLaws.{depth-limit}
 use Rattle.formats.specs.Plan.{planTree}
 use Rattle.formats.specs.Inputs.{Inputs, Sizes, usedNodeTable, nodeTableBuilt}
-use Rattle.formats.proofs.InputsLaws.{Built, node-table-built, plan-of}
+use Rattle.formats.proofs.InputsLaws.{node-table-built, plan-of}
+use Rattle.formats.specs.Passing.{Built}
 use Rattle.tables.specs.node_tables.Cells.{depthCell}
 use Rattle.tables.proofs.node_tables.CellLaws.{length-nodeTableOf}
 use Rattle.questions.proofs.PartBounds.{part-bounded}

@@ -11,7 +11,8 @@ use Rattle.model.specs.Model.{freshRecord, Does}
 use Rattle.reference.proofs.Demand3Theorem.{demand-3, demand-3-of}
 use Rattle.model.proofs.Refinement.{refines}
 use Rattle.model.proofs.LayersHold.{layers}
-use Rattle.reference.proofs.QuestionTheorem.{QuestionsAnswered, question-answered, questions-of}
+use Rattle.reference.proofs.QuestionTheorem.{question-answered, questions-of}
+use Rattle.reference.specs.Outcomes.{QuestionsAnswered}
 use Rattle.session.specs.Records.{freshSession}
 use Rattle.session.specs.CallsByValue.{CallByValue}
 use Rattle.session.proofs.Refine.{Seen, fresh-seen, by-value-refines}

@@ -19,7 +19,8 @@ use Rattle.formats.specs.Buffers.{buffersFit, LimitArgs}
 use Rattle.list_laws.proofs.BoolLaws.{and-both, and-left, and-right}
 use Rattle.formats.proofs.CheckLaws.{firstNo-yes, firstNo-no, firstNo-none, firstNo-append-zero, firstNo-append-no}
 use Rattle.formats.proofs.InputLaws.{ListPasses, list-passes, list-numbered}
-use Rattle.formats.proofs.InputsLaws.{Built, node-table-built}
+use Rattle.formats.proofs.InputsLaws.{node-table-built}
+use Rattle.formats.specs.Passing.{Built}
 use Rattle.changes.specs.inner.LastDiffering.{lastDiffering, givenDiffering}
 use Rattle.changes.proofs.LastDifferingLaws.{last-same, last-most, last-below}
 use Rattle.questions.specs.ready.Members.{roots}

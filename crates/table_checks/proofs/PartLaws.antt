@@ -9,7 +9,8 @@ use lib.ListN.{length, take, drop}
 use Rattle.formats.specs.Plan.{nodeCount, labelsIn, kindsIn, planTree}
 use Rattle.formats.specs.Rules.{stateCount, labelCount, leafStates, innerStates, ruleMarks}
 use Rattle.formats.specs.Built.{builtNodeTable, builtStateTable}
-use Rattle.formats.proofs.PlanLaws.{PlanPasses, length-kindsIn, labels-as-kinds, kinds-planTree, labels-planTree}
+use Rattle.formats.proofs.PlanLaws.{length-kindsIn, labels-as-kinds, kinds-planTree, labels-planTree}
+use Rattle.formats.specs.Passing.{PlanPasses}
 use Rattle.formats.proofs.PlanLaws.{labels-part, kinds-part}
 use Rattle.formats.proofs.RuleLaws.{leaves-part, inner-part}
 use Rattle.formats.proofs.InputLaws.{build-passes, label-below}

@@ -21,7 +21,8 @@ use Rattle.formats.specs.Plan.{nodeCount, labelsIn, kindsIn, planTree}
 use Rattle.formats.specs.Rules.{stateCount, labelCount, leafStates, innerStates, ruleMarks, ruleAutomaton}
 use Rattle.formats.specs.Checks.{firstNo, ruleTableChecks, buildChecks, nodeTableLength, stateTableLength}
 use Rattle.formats.specs.Built.{builtNodeTable, builtStateTable, AsBuilt}
-use Rattle.formats.proofs.PlanLaws.{PlanPasses, length-kindsIn, labels-as-kinds, kinds-planTree}
+use Rattle.formats.proofs.PlanLaws.{length-kindsIn, labels-as-kinds, kinds-planTree}
+use Rattle.formats.specs.Passing.{PlanPasses}
 use Rattle.formats.proofs.PlanLaws.{labels-planTree, size-planTree, labels-part, kinds-part}
 use Rattle.formats.proofs.RuleLaws.{RulesPass, length-leafStates, length-innerStates, leaf-state-below}
 use Rattle.formats.proofs.RuleLaws.{inner-state-below, leaves-part, inner-part}

@@ -36,7 +36,8 @@ use Rattle.reference.proofs.Demand3Theorem.{simulates, at-first}
 use Rattle.model.proofs.LayersHold.{layers}
 use Rattle.reference.proofs.Simulation.{referenceOf}
 use Rattle.reference.proofs.UndisturbedLaws.{at, going, over}
-use Rattle.reference.proofs.Ceilings.{Few, ready-count}
+use Rattle.reference.proofs.Ceilings.{ready-count}
+use Rattle.reference.specs.Outcomes.{Few}
 use Rattle.reference.proofs.StartSimulation.{some-part}
 use Rattle.reference.proofs.WrittenSound.{loaded, written-sound, written-fits, start-written}
 use Rattle.session.specs.declared.state.Session.{Session}

@@ -15,7 +15,7 @@ use mathlib.Core.List.{List, [], _∷_, _++_}
 use lib.ListN.{length, take}
 use Rattle.formats.specs.Checks.{firstNo, ruleTableChecks}
 use Rattle.formats.specs.Inputs.{Inputs}
-use Rattle.reference.proofs.Sample.{computing, planA, tableA}
+use Rattle.reference.specs.Sample.{computing, planA, tableA}
 use Rattle.controls.proofs.PassedControls.{planGap}
 use Rattle.session.specs.declared.state.Session.{Session}
 use Rattle.whatif.specs.Question.{nodesIn, labelsIn}

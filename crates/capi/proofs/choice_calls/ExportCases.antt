@@ -2,7 +2,7 @@
 --     header-there, copy-args    what an accepted reply's rest asks
 --     refused-exported, short-exported, counted-exported   one for each way out
 use Prim.Native.Nat.{ℕ, _+_, _≤_, _<_}
-use mathlib.Core.Path.{_≡_, refl, sym, ap, _∙_}
+use mathlib.Core.Path.{_≡_, refl, sym, ap, _∙_, subst}
 use mathlib.Core.Bool.{Bool, true, false, cond}
 use mathlib.Core.List.{List, [], _∷_, _++_}
 use native.Mathlib.Omega.{arith}
@@ -61,6 +61,9 @@ module _ (p r nodeTable stateTable vs : List ℕ) where
         either true = length-tabulate 16 _
         either false = refl
 
+    done : CountDone p r nodeTable stateTable vs (countResult p r nodeTable stateTable vs)
+    done = subst (λ (x : Counted). CountDone p r nodeTable stateTable vs x) (D .result) D
+
     -- s is the count of states as it was read
     pub copy-args : a .answer ≡ 0 → (s : ℕ) → s ≡ stateCount r → (d : List ℕ) → s ≤ length d → CopyArgs 16 (a .counts) s d
     copy-args z s e d h =
@@ -80,6 +83,7 @@ module _ (p r nodeTable stateTable vs : List ℕ) where
         counts-kept = λ _. refl;
         parts-kept = λ _. refl;
         links-kept = λ _. refl;
+        done = done;
       }
 
       pub refused-exported : (a .answer ≡ 0 → ⊥)
@@ -118,4 +122,5 @@ module _ (p r nodeTable stateTable vs : List ℕ) where
         counts-kept = λ q. absurd (q refl);
         parts-kept = λ q. absurd (q refl);
         links-kept = λ q. absurd (q refl);
+        done = done;
       }

@@ -42,7 +42,6 @@ use Rattle.choices.specs.assignments.Assignments.{counted}
 use Rattle.choices.proofs.assignments.Theorems.{none-open}
 use Rattle.choices.specs.question_counts.CountOn.{countChecks, countNumber}
 use Rattle.choices.specs.Promise.{countResult, CountDone}
-use Rattle.choices.proofs.Theorem.{count-done}
 use Rattle.choices.proofs.Theorems as choices
 use Rattle.capi.specs.choice_calls.CountExported.{exportedChecks, CountExported}
 use Rattle.capi.proofs.choice_calls.ExportCases.{checks-numbered}
@@ -66,12 +65,10 @@ module _ (p r nodeTable stateTable vs counts : List ℕ) (parts links n : ℕ) (
   pub count-kept : (n ≡ 0 → ⊥) → (counts′ ≡ counts) × (parts′ ≡ parts) × (links′ ≡ links)
   count-kept h = (E .counts-kept h, E .parts-kept h, E .links-kept h)
 
--- 01: "its name and its properties then stand in the contract": the named result of `CountExported` has those of the
--- call below, on whatever is lent
-pub count-promised : (p r nodeTable stateTable vs : List ℕ)
-    → CountDone p r nodeTable stateTable vs (countResult p r nodeTable stateTable vs)
-count-promised p r nodeTable stateTable vs =
-    count-done p r nodeTable stateTable vs (countResult p r nodeTable stateTable vs) refl
+  -- the named result has the properties of the call below, on any tables: "its name and its properties stand in the
+  -- contract"
+  pub count-promised : CountDone p r nodeTable stateTable vs (countResult p r nodeTable stateTable vs)
+  count-promised = E .done
 
 -- ---- no open node
 
@@ -112,7 +109,7 @@ module _ (p r nodeTable stateTable counts : List ℕ) (parts links : ℕ) (count
     (E : CountExported p r nodeTable stateTable [] counts parts links 0 counts′ parts′ links′)
     (B : AsBuilt p r nodeTable stateTable) where
   D : CountDone p r nodeTable stateTable [] (countResult p r nodeTable stateTable [])
-  D = count-promised p r nodeTable stateTable []
+  D = E .done
 
   accepted : countResult p r nodeTable stateTable [] .answer ≡ 0
   unfolding exportedChecks countNumber

@@ -33,6 +33,7 @@ use Rattle.capi.proofs.product_calls.whatif_merge.Reads as merge-reads
 use Rattle.capi.proofs.product_calls.whatif_agree as agree-fn
 use Rattle.capi.proofs.product_calls.whatif_agree.Kinds as agree-kinds
 use Rattle.capi.proofs.product_calls.whatif_agree.Reads as agree-reads
+use Rattle.capi.specs.product_calls.Exported.{agreeRoomChecks}
 
 -- ---- merge
 
@@ -55,11 +56,6 @@ pub agree-tied : (κs : Lfts 5) (a : ArgsD agree-fn.signature κs) (r : ResD agr
     → AgreeExported (now (a .0)) (now (a .1 .0)) (now (a .1 .1 .0)) (now (a .1 .1 .1 .0)) (now (a .1 .1 .1 .1 .0)) r
     (now (s .1 .1 .0)) (now (s .1 .1 .1 .0)) (now (s .1 .1 .1 .1 .0))
 agree-tied κs a r s p = p
-
--- the checks of the reply, then whether its lines, four numbers each, fit in `room` numbers
-abbrev pub agreeRoomChecks : List ℕ → List ℕ → ℕ → List Check
-agreeRoomChecks first second room =
-    agreeChecks first second ++ (check 11 (leb (length (shownReply first second) * 4) room) ∷ [])
 
 rules-numbered : (r : List ℕ) (cs : List Check) → Numbered cs → Numbered (ruleChecks r ++ cs)
 unfolding ruleChecks

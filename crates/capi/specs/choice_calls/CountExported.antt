@@ -14,7 +14,7 @@ use Rattle.list_laws.specs.Copying.{overBuffer}
 use Rattle.formats.specs.Rules.{stateCount}
 use Rattle.formats.specs.Checks.{Check, check, firstNo}
 use Rattle.choices.specs.question_counts.CountOn.{countChecks}
-use Rattle.choices.specs.Promise.{countResult}
+use Rattle.choices.specs.Promise.{countResult, CountDone}
 
 unfoldable pub exportedChecks : List ℕ → List ℕ → List ℕ → List ℕ → List ℕ → ℕ → List Check
 exportedChecks p r nodeTable stateTable vs room =
@@ -34,3 +34,5 @@ pub record CountExported (p r nodeTable stateTable vs counts : List ℕ) (parts 
   pub counts-kept : (n ≡ 0 → ⊥) → counts′ ≡ counts
   pub parts-kept : (n ≡ 0 → ⊥) → parts′ ≡ parts
   pub links-kept : (n ≡ 0 → ⊥) → links′ ≡ links
+  -- the properties of the named result, on any tables: "its name and its properties stand in the contract"
+  pub done : CountDone p r nodeTable stateTable vs (countResult p r nodeTable stateTable vs)

@@ -19,6 +19,9 @@ use Rattle.formats.specs.Checks.{firstNo}
 use Rattle.products.specs.merging.Merged.{mergedBytes, mergeChecks}
 use Rattle.products.specs.declared.agreement.Agreement.{Agreement}
 use Rattle.products.specs.agreement.Reply.{AgreeDone}
+use Rattle.formats.specs.Checks.{Check, check}
+use Rattle.products.specs.agreement.Answer.{agreeChecks}
+use Rattle.products.specs.agreement.Reply.{shownReply}
 
 pub record MergeExported (first second out : List ℕ) (r : ℕ) (out′ : List ℕ) : Type 0 where
   -- the first check that fails, or 0
@@ -68,3 +71,8 @@ pub record LinesArgs (ks bs ls rs : List ℕ) (n : ℕ) (l : List ℕ) : Type 0 
   pub rights : length rs ≡ 256
   pub few : n ≤ 256
   pub room : n * 4 ≤ length l
+
+-- the checks of the reply, then whether its lines, four numbers each, fit in `room` numbers
+abbrev pub agreeRoomChecks : List ℕ → List ℕ → ℕ → List Check
+agreeRoomChecks first second room =
+    agreeChecks first second ++ (check 11 (leb (length (shownReply first second) * 4) room) ∷ [])

@@ -34,7 +34,8 @@ use Rattle.formats.specs.Checks.{Check, check, firstNo, nodeTableLength}
 use Rattle.formats.specs.Built.{AsBuilt, nodeTablePart, stateTablePart}
 use Rattle.formats.specs.Buffers.{headedBuffersFit, ruleTables}
 use Rattle.formats.proofs.CheckLaws.{firstNo-head, firstNo-tail}
-use Rattle.formats.proofs.PlanLaws.{PlanPasses, size-planTree, kinds-planTree, labels-planTree}
+use Rattle.formats.proofs.PlanLaws.{size-planTree, kinds-planTree, labels-planTree}
+use Rattle.formats.specs.Passing.{PlanPasses}
 use Rattle.formats.proofs.RuleLaws.{RulesPass, leaf-state-below, inner-state-below}
 use Rattle.formats.proofs.InputLaws.{rule-table-passes, label-below}
 use Rattle.tables.specs.node_tables.NodeCells.{NodeCells}

@@ -26,7 +26,8 @@ use Rattle.trees.proofs.BranchMapLaws.{wordRun-below}
 use Rattle.formats.specs.Plan.{nodeCount, planTree}
 use Rattle.formats.specs.Rules.{stateCount, labelCount, branchAutomaton}
 use Rattle.formats.specs.Buffers.{headersFit}
-use Rattle.formats.proofs.PlanLaws.{PlanPasses, size-planTree}
+use Rattle.formats.proofs.PlanLaws.{size-planTree}
+use Rattle.formats.specs.Passing.{PlanPasses}
 use Rattle.formats.proofs.BranchLaws.{BranchPasses, step-below}
 use Rattle.formats.proofs.InputLaws.{branch-table-passes}
 use Rattle.formats.proofs.BufferLaws.{are-limits}
@@ -42,7 +43,8 @@ use Rattle.colours.specs.Descents.{Place, Descent, drops, links, descend}
 use Rattle.colours.specs.Words.{wordStep, aboveOf, colourAbove, colourHere, withUpper, belowUpper}
 use Rattle.colours.proofs.ColouringLaws.{place-lt, has-colour}
 use Rattle.colours.proofs.CopyLaws.{top-colour, copyAbove-root, copyAbove-down, copy-colouring, copyAbove-colouring}
-use Rattle.colours.proofs.WordLaws.{WordAnswer, upper-drops, below-drops}
+use Rattle.colours.proofs.WordLaws.{upper-drops, below-drops}
+use Rattle.colours.specs.Answers.{WordAnswer}
 use Rattle.colours.proofs.Theorems.{word-upper, word-below}
 use Rattle.colour_tables.specs.ColourCells.{copyRow, cellTable}
 use Rattle.colour_tables.specs.AsBuilt.{ColourCells}

@@ -35,7 +35,8 @@ use Rattle.questions.proofs.ClimbBuilt.{is-below, rule-built, run-built}
 use Rattle.questions.proofs.PartBuilt.{found-none, found-built}
 use Rattle.colours.specs.StateSets.{Tried, tried, tryFrom, tryTargets}
 use Rattle.colour_tables.specs.ColourCells.{cellTable}
-use Rattle.colours.proofs.DescentLaws.{AllLe, all-append}
+use Rattle.colours.proofs.DescentLaws.{all-append}
+use Rattle.colours.specs.Descents.{AllLe}
 use Rattle.colour_questions.specs.parts.Sides.{SideFound}
 use Rattle.colour_questions.specs.parts.Searches.{foundSearches, climbSearches, sideSearches, partSearches}
 use Rattle.trees.specs.Automaton.{state}

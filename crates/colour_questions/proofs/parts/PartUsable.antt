@@ -34,11 +34,13 @@ use Rattle.questions.proofs.ClimbBuilt.{is-below, rule-built, run-built}
 use Rattle.questions.proofs.PartBuilt.{found-none, found-built}
 use Rattle.colours.specs.StateSets.{Tried, tried, tryFrom, tryTargets}
 use Rattle.colour_tables.specs.ColourCells.{cellTable}
-use Rattle.colours.proofs.DescentLaws.{AllLe, all-append}
+use Rattle.colours.proofs.DescentLaws.{all-append}
+use Rattle.colours.specs.Descents.{AllLe}
 use Rattle.colour_questions.specs.parts.Searches.{foundSearches}
 use Rattle.colour_questions.specs.parts.Sides as sides
 use Rattle.colour_questions.specs.parts.Trials.{triedState, innerByTrials, partByTrials, sideTrials, partTrials}
-use Rattle.colours.proofs.Theorems.{SetAnswer, set-targets}
+use Rattle.colours.proofs.Theorems.{set-targets}
+use Rattle.colours.specs.Answers.{SetAnswer}
 use Rattle.trees.proofs.IntervalLaws.{interval-ancestor, above-at}
 use Rattle.trees.specs.Climb.{walk}
 use Rattle.trees.specs.Tables.{stepUp}

@@ -13,7 +13,8 @@ use Rattle.questions.specs.ready.Parts.{Given, Part, stateOf, highestBelow, cli
 use Rattle.questions.specs.ready.StaysInside.{StaysInside}
 use Rattle.questions.proofs.ready.PartsRun.{RunGiven, climb-walk}
 use Rattle.colours.specs.StateSets.{tried}
-use Rattle.colours.proofs.Theorems.{SetAnswer, set-targets}
+use Rattle.colours.proofs.Theorems.{set-targets}
+use Rattle.colours.specs.Answers.{SetAnswer}
 use Rattle.colour_questions.specs.parts.Sides.{SideFound}
 
 module _ (G : Given) (u : Tree) (R : RunGiven G u) (S : StaysInside (G .automaton))

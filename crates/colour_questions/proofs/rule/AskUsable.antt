@@ -25,11 +25,13 @@ use Rattle.formats.specs.Rules.{stateCount, labelCount, ruleLength, ruleAutomat
 use Rattle.formats.specs.Checks.{firstNo, listChecks, nodeTableLength, stateTableLength}
 use Rattle.formats.specs.Buffers.{buffersFit, headersFit}
 use Rattle.formats.specs.Inputs.{Inputs, inputsOf, Sizes, sizesIn, fits, usedStateTable, stateTableBuilt}
-use Rattle.formats.proofs.PlanLaws.{PlanPasses, size-planTree, labels-planTree}
+use Rattle.formats.proofs.PlanLaws.{size-planTree, labels-planTree}
+use Rattle.formats.specs.Passing.{PlanPasses}
 use Rattle.formats.proofs.RuleLaws.{RulesPass}
 use Rattle.formats.proofs.InputLaws.{rule-table-passes, ListPasses, list-passes}
 use Rattle.formats.proofs.BufferLaws.{are-limits, are-lengths}
-use Rattle.formats.proofs.InputsLaws.{Built, built-node-table, node-inputs-same, rules-of}
+use Rattle.formats.proofs.InputsLaws.{built-node-table, node-inputs-same, rules-of}
+use Rattle.formats.specs.Passing.{Built}
 use Rattle.tables.proofs.node_tables.CellLaws.{length-nodeTableOf}
 use Rattle.tables.proofs.BuildLaws.{length-builtStates}
 use Rattle.changes.specs.Differing.{differing}
@@ -53,7 +55,7 @@ use Rattle.reference.proofs.FreshLaws.{rules-inside}
 use Rattle.colour_tables.specs.ColourCells.{copyRow}
 use Rattle.colours.specs.StateSets.{Tried, tried, setStep, setCount, setCopies}
 use Rattle.colours.proofs.CopyLaws.{copy-colouring}
-use Rattle.colours.proofs.DescentLaws.{AllLe}
+use Rattle.colours.specs.Descents.{AllLe}
 use Rattle.colours.proofs.SetLaws.{setStep-below}
 use Rattle.colours.proofs.Theorems.{links-limit}
 use Rattle.colour_tables.specs.rule.Build.{setNumbersLength, setBytesLength, setColoursFit, builtSetNumbers, builtSetBytes}

@@ -23,7 +23,8 @@ use Rattle.questions.specs.Promises.{Reads}
 use Rattle.model.proofs.ResultLaws.{states-more, last-more, below-more}
 use Rattle.model.proofs.LayersHold.{states-small}
 use Rattle.colours.specs.StateSets.{Tried, tried}
-use Rattle.colours.proofs.DescentLaws.{AllLe, all-append}
+use Rattle.colours.proofs.DescentLaws.{all-append}
+use Rattle.colours.specs.Descents.{AllLe}
 use Rattle.colour_questions.specs.parts.Part.{ColourView, sidesIn, partTried, handledFrom}
 use Rattle.colour_questions.specs.parts.OneSided.{isOneSided, oneSided}
 use Rattle.colour_questions.proofs.parts.TriesBuilt.{SidesBuilt}

@@ -15,7 +15,8 @@ use Rattle.trees.proofs.ClimbLaws.{climb-most}
 use Rattle.colours.specs.Descents.{ColourTable, Place, Next, done, lost, fell, lowestIn, seenAt, fellAt, fellBy}
 use Rattle.colours.specs.Descents.{nextFrom}
 use Rattle.colours.specs.Descents.{seen, nextDrop, Descent, descent, withSearch, afterNext, descend}
-use Rattle.colours.proofs.DescentLaws.{AllLe, fell-lower}
+use Rattle.colours.proofs.DescentLaws.{fell-lower}
+use Rattle.colours.specs.Descents.{AllLe}
 
 module _ (F : Forest) (lands : ℕ → ℕ) (c to l b : ℕ) (deep : (v : ℕ) → F .depth v ≤ b) (x d k : ℕ) where
   differ : done ≡ fell x d k → _≡_ {A = ℕ} 0 1

@@ -13,7 +13,7 @@ use Rattle.trees.specs.Tree.{height}
 use Rattle.trees.specs.Climb.{digits}
 use Rattle.questions.specs.ready.Parts.{Given, Part, stateOf, highestBelow, climbedState}
 use Rattle.colours.specs.StateSets.{Tried, tried, tryTargets}
-use Rattle.colours.proofs.DescentLaws.{AllLe}
+use Rattle.colours.specs.Descents.{AllLe}
 
 abbrev pub sideTried : Given → List ℕ → List Part → ℕ → Option Tried
 sideTried G ms ps c =

@@ -19,7 +19,7 @@ use Rattle.formats.specs.Inputs.{inputsOf, sizesIn, statesBelow}
 use Rattle.formats.specs.Built.{AsBuilt, nodeTablePart, builtNodeTable}
 use Rattle.runs.specs.FreshRun.{changedTree, rootState}
 use Rattle.colour_questions.specs.parts.Searches.{questionSearches}
-use Rattle.colours.proofs.DescentLaws.{AllLe}
+use Rattle.colours.specs.Descents.{AllLe}
 use Rattle.changes.specs.Differing.{differing}
 use Rattle.questions.specs.ready.Members.{roots}
 use Rattle.questions.specs.ready.Parts.{Given, lastState}

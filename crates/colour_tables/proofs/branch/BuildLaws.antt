@@ -23,7 +23,8 @@ use Rattle.formats.specs.Rules.{stateCount, labelCount, branchSteps, branchAuto
 use Rattle.formats.specs.Checks.{firstNo, branchTableChecks}
 use Rattle.formats.proofs.CheckLaws.{firstNo-none, firstNo-yes, firstNo-no, firstNo-head, firstNo-append-left}
 use Rattle.formats.proofs.CheckLaws.{firstNo-append-right}
-use Rattle.formats.proofs.PlanLaws.{PlanPasses, length-labelsIn, kinds-planTree, labels-planTree, size-planTree}
+use Rattle.formats.proofs.PlanLaws.{length-labelsIn, kinds-planTree, labels-planTree, size-planTree}
+use Rattle.formats.specs.Passing.{PlanPasses}
 use Rattle.formats.proofs.PlanLaws.{labels-part, kinds-part}
 use Rattle.formats.proofs.BranchLaws.{BranchPasses, length-branchSteps, step-below, steps-part}
 use Rattle.formats.proofs.InputLaws.{branch-table-passes, branch-table-numbered, label-below}

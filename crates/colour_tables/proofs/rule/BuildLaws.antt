@@ -21,7 +21,8 @@ use Rattle.formats.specs.Rules.{stateCount, labelCount, ruleAutomaton}
 use Rattle.formats.specs.Checks.{Check, check, firstNo, planChecks, ruleChecks, labelCheck, ruleTableChecks}
 use Rattle.formats.specs.Built.{builtStateTable}
 use Rattle.formats.proofs.CheckLaws.{firstNo-head, firstNo-tail, firstNo-append-left, firstNo-append-right}
-use Rattle.formats.proofs.PlanLaws.{PlanPasses, plan-passes, plan-numbered, size-planTree}
+use Rattle.formats.proofs.PlanLaws.{plan-passes, plan-numbered, size-planTree}
+use Rattle.formats.specs.Passing.{PlanPasses}
 use Rattle.formats.proofs.RuleLaws.{RulesPass, rules-pass, rules-numbered}
 use Rattle.formats.proofs.InputLaws.{passes-rule-table}
 use Rattle.colours.specs.StateSets.{setStep}

@@ -13,7 +13,8 @@ use Rattle.formats.specs.Plan.{nodeCount, planTree}
 use Rattle.formats.specs.Rules.{stateCount, ruleAutomaton}
 use Rattle.formats.specs.Checks.{stateTableLength}
 use Rattle.formats.specs.Built.{builtStateTable}
-use Rattle.formats.proofs.PlanLaws.{PlanPasses, size-planTree}
+use Rattle.formats.proofs.PlanLaws.{size-planTree}
+use Rattle.formats.specs.Passing.{PlanPasses}
 use Rattle.formats.proofs.InputLaws.{rule-table-passes}
 use Rattle.tables.proofs.BuildLaws.{length-builtStates}
 use Rattle.colours.specs.Copies.{copy}

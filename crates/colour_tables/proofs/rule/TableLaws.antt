@@ -17,7 +17,8 @@ use Rattle.formats.specs.Plan.{nodeCount, labelsIn, planTree}
 use Rattle.formats.specs.Rules.{stateCount, labelCount, leafStates, innerStates, ruleMarks, ruleAutomaton}
 use Rattle.formats.specs.Checks.{firstNo, buildChecks, nodeTableLength, stateTableLength}
 use Rattle.formats.specs.Built.{builtNodeTable, builtStateTable, AsBuilt}
-use Rattle.formats.proofs.PlanLaws.{PlanPasses, length-labelsIn, labels-planTree, size-planTree, labels-part}
+use Rattle.formats.proofs.PlanLaws.{length-labelsIn, labels-planTree, size-planTree, labels-part}
+use Rattle.formats.specs.Passing.{PlanPasses}
 use Rattle.formats.proofs.RuleLaws.{RulesPass, inner-part, length-leafStates, length-innerStates, leaf-state-below}
 use Rattle.formats.proofs.RuleLaws.{inner-state-below}
 use Rattle.formats.proofs.InputLaws.{label-below, passes-build}

@@ -9,20 +9,19 @@
 use Prim.Native.Nat.{ℕ, zero, suc, _+_, _-_, _*_, _≤_, _<_}
 use mathlib.Core.Path.{_≡_, refl, sym, ap, _∙_}
 use mathlib.Core.Bool.{Bool, true}
-use mathlib.Core.List.{List}
-use mathlib.Core.Option.{some}
 use native.Mathlib.Omega.{arith}
 use lib.ListN.{length}
 use Rattle.trees.specs.Tree.{Tree, size, height}
 use Rattle.trees.specs.Numbering.{depth, ancestor}
-use Rattle.trees.specs.Climb.{Move, climb, climbEnd, moveCount, digits}
+use Rattle.trees.specs.Climb.{moveCount, digits}
 use Rattle.list_laws.proofs.Choice.{le-or}
 use Rattle.trees.proofs.JumpLaws.{ancestor-in, ancestor-depth, ancestor-add}
 use Rattle.trees.proofs.HeightLaws.{depth-height, height-limit}
 use Rattle.trees.proofs.Digits.{digits-limit}
 use Rattle.trees.proofs.MoveCount.{moveCount-bound}
 use Rattle.trees.specs.Ascents.{rise}
-use Rattle.colours.specs.marks.Marks.{bit, marksIn, marksAbove, marksAt, markedUp, lowestAt, markedForest}
+use Rattle.colours.specs.marks.Marks.{bit, marksIn, marksAbove, marksAt, markedUp, markedForest}
+use Rattle.colours.specs.marks.NextMarks.{NextMark}
 use Rattle.trees.proofs.AscentLaws.{rise-depth}
 use Rattle.trees.proofs.AscentClimbs.{Climbed, climb-up}
 use Rattle.colours.proofs.marks.MarkLaws.{bit-le, marks-split, marks-at, marks-one, marks-mono, marksAt-is}
@@ -61,18 +60,6 @@ module _ (t : Tree) (m : ℕ → Bool) where
 
   -- ---- the highest marked node of a path
 
-  pub record NextMark (l n to : ℕ) : Type 0 where
-    pub moves : List Move
-    pub found : climb (markedForest t m) (lowestAt t m l) to ≡ some moves
-    pub at : ℕ
-    pub within : at < n
-    pub inside : at ≤ depth t l
-    pub ends : climbEnd (markedForest t m) (lowestAt t m l) moves ≡ ancestor t l at
-    pub marked : m (ancestor t l at) ≡ true
-    pub highest : marksIn t m (ancestor t l (suc at)) (n - suc at) ≡ 0
-    pub left : marksIn t m l n ≡ suc (marksIn t m l at)
-    pub count : length moves ≡ moveCount (marksAt t m l - 1) to
-
   module _ (l n to : ℕ) (h : l < size t) (c : marksAt t m l ≡ marksIn t m l n + to) (p : 0 < marksIn t m l n) where
     -- the marked ancestor with `to` marked nodes above it is the highest of the n
     placed : (i : ℕ) → i ≤ depth t l → m (ancestor t l i) ≡ true → marksAbove t m (ancestor t l i) ≡ to
@@ -93,7 +80,7 @@ module _ (t : Tree) (m : ℕ → Bool) where
         climb-up (size t) (markedUp t m) (marksAbove t m) (marks-ascend t m) (ancestor t l (low .at)) to
         (ancestor-in t l (low .at) h) (omega (arith, low .count))
 
-    pub next-mark : NextMark l n to
+    pub next-mark : NextMark t m l n to
     next-mark =
         let F = markedForest t m in
         let b : ℕ = ancestor t l (low .at) in

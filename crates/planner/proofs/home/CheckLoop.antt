@@ -19,7 +19,8 @@ use Rattle.list_laws.proofs.SliceLaws.{run-part, end-part, length-part}
 use Rattle.trees.specs.Tree.{Tree, leaf, node, size, labelsOf, kindsOf}
 use Rattle.formats.specs.Plan.{nodeCount, labelsIn, kindsIn, planTree}
 use Rattle.formats.specs.Checks.{firstNo, planChecks}
-use Rattle.formats.proofs.PlanLaws.{PlanPasses, plan-passes, kinds-planTree, labels-planTree, size-planTree}
+use Rattle.formats.proofs.PlanLaws.{plan-passes, kinds-planTree, labels-planTree, size-planTree}
+use Rattle.formats.specs.Passing.{PlanPasses}
 use Rattle.planner.specs.Siblings.{count, unimage, emptyLabel}
 use Rattle.planner.specs.File.{isImage, comesFromFile}
 use Rattle.planner.specs.inner.ImageTests.{labelFits, labelsFit, runsFit, oneTop, passesTests}

@@ -17,7 +17,8 @@ use Rattle.list_laws.proofs.SliceLaws.{run-part, end-part, rest-cut}
 use Rattle.trees.specs.Tree.{Tree, size, labelsOf, kindsOf}
 use Rattle.formats.specs.Plan.{nodeCount, labelsIn, kindsIn, planTree}
 use Rattle.formats.specs.Checks.{firstNo, planChecks}
-use Rattle.formats.proofs.PlanLaws.{PlanPasses, plan-passes, kinds-planTree, labels-planTree, size-planTree}
+use Rattle.formats.proofs.PlanLaws.{plan-passes, kinds-planTree, labels-planTree, size-planTree}
+use Rattle.formats.specs.Passing.{PlanPasses}
 use Rattle.planner.specs.Siblings.{Siblings, count, width, preLabels, preCounts, image, unimage}
 use Rattle.planner.specs.File.{fileLength, fileBytes, imageLabels, isImage, comesFromFile, homeChecks}
 use Rattle.planner.specs.Conversion.{fileOf}

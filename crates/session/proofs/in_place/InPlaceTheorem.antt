@@ -12,7 +12,8 @@ use Rattle.model.proofs.Refinement.{Refines, refines}
 use Rattle.session.specs.declared.state.Session.{Session}
 use Rattle.session.specs.Records.{freshSession}
 use Rattle.session.specs.CallsByValue as by-value
-use Rattle.reference.proofs.QuestionTheorem.{QuestionsAnswered, questions-of}
+use Rattle.reference.proofs.QuestionTheorem.{questions-of}
+use Rattle.reference.specs.Outcomes.{QuestionsAnswered}
 use Rattle.session.proofs.SessionTheorem.{by-value-demand-3, by-value-questions}
 use Rattle.session.specs.in_place.CallsInPlace.{CallInPlace, loads, starts, advances, cancels, reads}
 

@@ -2,7 +2,8 @@
 use mathlib.Core.Path.{_≡_, refl, sym, _∙_}
 use Rattle.formats.specs.Checks.{firstNo, planChecks, ruleChecks, ruleTableChecks}
 use Rattle.formats.specs.Rules.{labelCount}
-use Rattle.formats.proofs.PlanLaws.{PlanPasses, plan-passes}
+use Rattle.formats.proofs.PlanLaws.{plan-passes}
+use Rattle.formats.specs.Passing.{PlanPasses}
 use Rattle.formats.proofs.RuleLaws.{RulesPass, rules-pass, rules-numbered}
 use Rattle.formats.proofs.InputAnswers.{first-part, table-rules, table-labels, table-good}
 use native.Mathlib.Omega.{arith}

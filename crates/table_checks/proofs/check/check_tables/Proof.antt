@@ -1,7 +1,7 @@
 -- `rules::check_tables` meets its contract.
 use mathlib.Core.Path.{sym, _∙_}
 use lib.ListN.{length}
-use Rattle.formats.proofs.PlanLaws.{PlanPasses}
+use Rattle.formats.specs.Passing.{PlanPasses}
 use Rattle.formats.proofs.RuleLaws.{RulesPass}
 use Rattle.formats.proofs.InputLaws.{build-passes}
 use Rattle.formats.specs.Built.{builtNodeTable, builtStateTable}

@@ -4,7 +4,8 @@ use Prim.Native.Nat.{_≤_}
 use Rattle.list_laws.specs.Tests.{allBelow}
 use Rattle.formats.specs.Plan.{labelsIn}
 use Rattle.formats.specs.Checks.{firstNo, planChecks, ruleChecks}
-use Rattle.formats.proofs.PlanLaws.{PlanPasses, plan-passes, labels-part}
+use Rattle.formats.proofs.PlanLaws.{plan-passes, labels-part}
+use Rattle.formats.specs.Passing.{PlanPasses}
 use Rattle.formats.proofs.RuleLaws.{RulesPass, rules-pass}
 use Rattle.colour_tables.proofs.rule.CheckAnswers.{plan-refused, rules-refused, states-refused, labels-refused}
 use Rattle.colour_tables.proofs.rule.CheckAnswers.{room-refused, all-pass}

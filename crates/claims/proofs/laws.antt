@@ -1,0 +1,15 @@
+pub mod ByteAnswers
+pub mod RefusalLaws
+pub mod LoadTables
+pub mod LoadedRecords
+pub mod StartLaws
+pub mod SupersededForms
+pub mod ReorderedLaws
+pub mod ReadsAlikeLaws
+pub mod QuestionEnds
+pub mod LeftOpenLaws
+pub mod ScreenRefusals
+pub mod ScreenHistories
+pub mod LayCalls
+pub mod ScreenLoads
+pub mod LoadThenStart
