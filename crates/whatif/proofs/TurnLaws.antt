@@ -4,7 +4,7 @@
 --     going-start, going-on, going-progress   at the start, after one more chunk, and what is told of it
 --     lines-sent                              what is handed over for a chunk
 use Prim.Native.Nat.{ℕ, _+_, _-_, _*_, _≤_}
-use mathlib.Core.Path.{_≡_, refl, sym, ap, _∙_}
+use mathlib.Core.Path.{_≡_, refl, sym, ap, _∙_, subst}
 use mathlib.Core.List.{List, [], _++_}
 use native.Mathlib.Omega.{arith}
 use lib.ListN.{length, take, length-append}
@@ -58,6 +58,10 @@ going-progress G = (
   record { questions = G .questions; count = omega (arith, G .count); part = G .held .counted; lines = G .lines },
 )
 
-pub lines-sent : {f : List ℕ → List ℕ} {c kept kept′ out out′ : List ℕ} {have have′ end : ℕ} (q : List ℕ)
-    → Held q kept have → Advances f c kept have kept′ have′ out 0 out′ end → Lines f c kept′ have′ (take end out′)
-lines-sent q h A = record { before = q; held = A .held q h; text = A .text q h .text }
+-- `before` is a copy of the buffer
+pub lines-sent : {f : List ℕ → List ℕ} {c before kept kept′ out out′ : List ℕ} {have have′ end : ℕ} → before ≡ kept
+    → Advances f c kept have kept′ have′ out 0 out′ end → Lines f c before have kept′ have′ (take end out′)
+lines-sent {have} e A = record {
+  held = λ q h. A .held q (subst (λ (b : List ℕ). Held q b have) e h);
+  text = λ q h. A .text q (subst (λ (b : List ℕ). Held q b have) e h) .text;
+}

@@ -8,8 +8,8 @@
 -- AnsweredOn p r came sent == as Answered, after the lengths
 -- Progress f came have sent == `came` bytes of the questions came, of which `have` are of the one that is not yet whole, and
 --   the lines of the others, f the line of a question, are `sent` bytes
--- Lines f c kept have t == t are the lines that the chunk c completes, and the buffer holds the question that is not yet
---   whole then
+-- Lines f c kept had kept′ have t == whatever question the buffer kept held: t are the lines that the chunk c completes
+--   after it, and the buffer kept′ holds the question that is not yet whole then
 -- joined cs, linesOver f q cs == chunks as one list, and their lines, one chunk after another
 --
 -- A contract can't name what a system call reads or writes. What came is what the buffers hold after the read; what is
@@ -52,10 +52,9 @@ pub record Progress (f : List ℕ → List ℕ) (came have sent : ℕ) : Type 0 
   pub part : have ≡ length (openBy [] questions)
   pub lines : sent ≡ length (linesBy f [] questions)
 
-pub record Lines (f : List ℕ → List ℕ) (c kept : List ℕ) (have : ℕ) (t : List ℕ) : Type 0 where
-  pub before : List ℕ
-  pub held : Held (openBy before c) kept have
-  pub text : t ≡ linesBy f before c
+pub record Lines (f : List ℕ → List ℕ) (c kept : List ℕ) (had : ℕ) (kept′ : List ℕ) (have : ℕ) (t : List ℕ) : Type 0 where
+  pub held : (q : List ℕ) → Held q kept had → Held (openBy q c) kept′ have
+  pub text : (q : List ℕ) → Held q kept had → t ≡ linesBy f q c
 
 unfoldable pub joined : List (List ℕ) → List ℕ
 joined [] = []

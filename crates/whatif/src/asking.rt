@@ -26,19 +26,22 @@ pub struct Turn {
     pub is_written: bool,
 }
 
-// Reads once, and writes the lines of the questions that became whole. No byte comes where the input ended.
+// Reads once, and writes the lines of the questions that became whole. No byte comes where the input ended. `before` is
+// a copy of what `asked` holds.
 fn some_questions(
     loaded: Session,
     plan: &[u8],
     rules: &[u8],
     node_table: &[u16],
     state_table: &[u8],
+    before: &[u8],
     asked: &mut [u8],
     last: Turn,
     chunk: &mut [u8],
     out: &mut [u8],
 ) -> Turn
     requires { ⌜ Keeps (now asked) (last .have) ⌝ }
+    requires { ⌜ now before ≡ now asked ⌝ }
     requires { ⌜ last .have + last .left ≤ 4294967295 ⌝ }
     requires { ⌜ last .sent + 48 * last .left ≤ 206158430160 ⌝ }
     requires { ⌜ 48 * length (now chunk) ≤ length (now out) ⌝ }
@@ -65,7 +68,16 @@ fn some_questions(
         out,
     );
     let end = taken.end;
-    let sent = send_lines(plan, rules, &chunk[..n], asked, taken.have, &out[..end]);
+    let sent = send_lines(
+        plan,
+        rules,
+        &chunk[..n],
+        before,
+        last.have,
+        asked,
+        taken.have,
+        &out[..end],
+    );
     Turn {
         came: n,
         end,
@@ -104,12 +116,14 @@ pub fn put_questions(
         is_written: true,
     };
     while turn.left > 0 {
+        let before = asked;
         turn = some_questions(
             loaded,
             plan,
             rules,
             node_table,
             state_table,
+            &before,
             &mut asked,
             turn,
             &mut chunk,

@@ -43,7 +43,13 @@ pub fn is_too_large(plan: usize, rules: usize) -> bool
     RULES_LIMIT < rules
 }
 
-// Zeros: only the length is told, which is all that lending asks.
+// Zeros: only the length is promised, which is all that a read asks.
+pub fn head_space() -> [u8; 12]
+    ensures { λ r. ⌜ length r ≡ 12 ⌝ }
+{
+    [0; 12]
+}
+
 pub fn plan_space() -> [u8; PLAN_LIMIT]
     ensures { λ r. ⌜ length r ≡ 2014 ⌝ }
 {

@@ -19,6 +19,7 @@ mod text;
 
 use asking::put_questions;
 use input::Got;
+use input::head_space;
 use input::is_too_large;
 use input::length_at;
 use input::node_table_space;
@@ -123,11 +124,30 @@ fn answer(head: &[u8], plan: &mut [u8], rules: &mut [u8]) -> Ran
     }
 }
 
-fn main() {
-    let mut head = [0u8; 12];
-    let got = read_whole(12, &mut head);
+// What came of the twelve length bytes, and then of the rest.
+struct Whole {
+    head: Got,
+    rest: Ran,
+}
+
+// Reads the lengths, those of the twelve bytes that come, and answers.
+fn run(head: &mut [u8], plan: &mut [u8], rules: &mut [u8]) -> Whole
+    requires { ⌜ (length (now head) ≡ 12) × (length (now plan) ≡ 2014) × (length (now rules) ≡ 16484) ⌝ }
+    ensures { λ r. ⌜ r .head .asked ≡ 12 ⌝ }
+    ensures { λ r. ⌜
+        Answered (take (r .head .count) (now (head .exit))) (take (r .rest .plan .count) (now (plan .exit)))
+        (take (r .rest .rules .count) (now (rules .exit))) (r .rest .came) (r .rest .sent) ⌝ }
+    ensures { λ r. ⌜ AskedFor (take (r .head .count) (now (head .exit))) (r .rest .plan .asked) (r .rest .rules .asked) ⌝ }
+{
+    let got = read_whole(12, head);
     let n = got.count;
+    let rest = answer(&head[..n], plan, rules);
+    Whole { head: got, rest }
+}
+
+fn main() {
+    let mut head = head_space();
     let mut plan = plan_space();
     let mut rules = rules_space();
-    answer(&head[..n], &mut plan, &mut rules);
+    run(&mut head, &mut plan, &mut rules);
 }

@@ -33,16 +33,19 @@ pub fn send_refusal(plan: &[u8], rules: &[u8], text: &[u8]) -> usize
     text.len()
 }
 
-// The lines that a chunk of the questions completes; `asked` holds the question that is not yet whole then.
+// The lines that a chunk of the questions completes. `before` holds the first `had` bytes of the question that was not yet
+// whole, `asked` those of the one that is not yet whole then.
 pub fn send_lines(
     plan: &[u8],
     rules: &[u8],
     chunk: &[u8],
+    before: &[u8],
+    had: usize,
     asked: &[u8],
     have: usize,
     text: &[u8],
 ) -> Sent
-    requires { ⌜ Lines (questionLine (now plan) (now rules)) (now chunk) (now asked) have (now text) ⌝ }
+    requires { ⌜ Lines (questionLine (now plan) (now rules)) (now chunk) (now before) had (now asked) have (now text) ⌝ }
     ensures { λ r. ⌜ r .bytes ≡ length (now (text .entry)) ⌝ }
 {
     let is_written = io::write_all(STDOUT_FILENO, text);

@@ -1,7 +1,7 @@
 use native.Mathlib.Omega.{arith}
 use borrow.Author.Needs.{needs}
 use borrow.Author.Tests.{not-true}
-use mathlib.Core.Path.{_≡_, sym, _∙_}
+use mathlib.Core.Path.{_≡_, refl, sym, _∙_}
 use mathlib.Core.List.{[]}
 use Prim.Native.Nat.{_≤_}
 use lib.ListN.{length}
@@ -36,19 +36,19 @@ abbrev entered : tie.At-loop Inv-loop μ-loop → tie.Start Inv-loop μ-loop
 entered l = l .before .before .before .before .before .before .before .before
 
 abbrev here : tie.After-some-questions Inv-loop μ-loop → tie.At-loop Inv-loop μ-loop
-here c = c .before .before .before .before .before .before
+here c = c .before .before .before .before .before .before .before
 
 some-questions-requires : tie.Need-some-questions-requires Inv-loop μ-loop
 some-questions-requires c κs =
-    let l = c .before .before .before .before .before in
+    let l = c .before .before .before .before .before .before in
     let G = l .loop .inv .0 in
     let n = l .loop .inv .1 in
-    ((openBy [] (G .questions), G .held), (G .have-most, (G .sent-most, (omega (arith, n .0, n .1), entered l .pre .1))))
+    ((openBy [] (G .questions), G .held), (refl, (G .have-most, (G .sent-most, (omega (arith, n .0, n .1), entered l .pre .1)))))
 
 -- one more chunk
 turned : (c : tie.After-some-questions Inv-loop μ-loop)
     → Going (questionLine (entered (here c) .args .plan .now) (entered (here c) .args .rules .now))
-    (entered (here c) .args .stated) (c .some-questions .last .1 .1 .1 .1 .1 .0) (c .some-questions .result .have)
+    (entered (here c) .args .stated) (c .some-questions .last .1 .1 .1 .1 .1 .1 .0) (c .some-questions .result .have)
     (c .some-questions .result .left) (c .some-questions .result .sent)
 turned c =
     let q = c .some-questions .ensures in
@@ -74,9 +74,9 @@ loop-less c =
 loop-again : tie.Need-loop-again Inv-loop μ-loop
 loop-again c =
     let n = c .before .before .before .before .before .before .before in
-    let l = n .before .before .before .before .before .before .loop .inv in
+    let l = here n .loop .inv in
     let k = n .some-questions .kept in
-    (turned n, (k .1 .1 .1 .1 .1 .1 .1 .0 ∙ l .1 .0, k .1 .1 .1 .1 .1 .1 .1 .1 .0 ∙ l .1 .1))
+    (turned n, (k .1 .1 .1 .1 .1 .1 .1 .1 .0 ∙ l .1 .0, k .1 .1 .1 .1 .1 .1 .1 .1 .1 .0 ∙ l .1 .1))
 
 returns-3 : tie.Need-returns-3 Inv-loop μ-loop
 returns-3 c =
@@ -93,6 +93,7 @@ put-questions-spec =
     (λ c κs. search needs)
     (λ c κs. search needs)
     loop-holds
+    (λ c. search needs)
     (λ c. search needs)
     (λ c. search needs)
     (λ c. search needs)

@@ -14,7 +14,7 @@ use Rattle.whatif.proofs.input.read_some.Reads as read-some-reads
 use Rattle.whatif.proofs.send.send_lines.Reads as send-lines-reads
 
 abbrev entered : tie.After-read-some → tie.Start
-entered r = r .before .before .before .before .before .before .before .before .before
+entered r = r .before .before .before .before .before .before .before .before .before .before
 
 abbrev read : tie.After-take-in → tie.After-read-some
 read t = t .before .before .before .before .before .before
@@ -25,7 +25,7 @@ take-in-requires c κs =
     let p = entered r .pre in
     let e = r .read-some .ensures in
     let n = e .1 .1 .1 in
-    (p .0, (omega (arith, e .0, n, p .1 .0), (omega (arith, e .1 .0, n, p .1 .1 .1 .0), p .1 .1 .1 .1)))
+    (p .0, (omega (arith, e .0, n, p .1 .1 .0), (omega (arith, e .1 .0, n, p .1 .1 .1 .1 .0), p .1 .1 .1 .1 .1)))
 
 -- the text ends inside the buffer
 fits : (t : tie.After-take-in) → t .take-in .result .end ≤ length (t .take-in .last .1 .1 .1 .1 .1 .1 .1 .1 .0)
@@ -33,7 +33,7 @@ fits t =
     let p = entered (read t) .pre in
     let e = read t .read-some .ensures in
     let a = t .take-in .ensures in
-    omega (arith, a .1 .0, a .0 .text (p .0 .0) (p .0 .1) .as-long, e .1 .0, e .1 .1 .1, p .1 .1 .1 .0)
+    omega (arith, a .1 .0, a .0 .text (p .0 .0) (p .0 .1) .as-long, e .1 .0, e .1 .1 .1, p .1 .1 .1 .1 .0)
 
 abbrev taken : tie.After-send-lines-arg3 → tie.After-take-in
 taken c = c .before .before .before .before .before .before .before
@@ -50,18 +50,18 @@ send-lines-requires : tie.Need-send-lines-requires
 send-lines-requires c κs =
     let t = taken c in
     let p = entered (read t) .pre in
-    lines-sent (p .0 .0) (p .0 .1) (t .take-in .ensures .0)
+    lines-sent (p .1 .0) (t .take-in .ensures .0)
 
 -- as many bytes are sent as the text has
 bytes-sent : (c : tie.After-send-lines) → c .send-lines .result .bytes ≡ taken (c .before) .take-in .result .end
 bytes-sent c = c .send-lines .ensures ∙ length-take-le _ _ (fits (taken (c .before)))
 
-add-t29 : tie.Need-add-t29
-add-t29 c =
+add-t30 : tie.Need-add-t30
+add-t30 c =
     let t = c .before .before .before .before .before .before .before .before .before .before .before in
     let p = entered (read t) .pre in
     let e = read t .read-some .ensures in
-    omega (arith, bytes-sent (c .before .before .before), t .take-in .ensures .1 .0, e .0, e .1 .1 .1, p .1 .1 .0)
+    omega (arith, bytes-sent (c .before .before .before), t .take-in .ensures .1 .0, e .0, e .1 .1 .1, p .1 .1 .1 .0)
 
 returns : tie.Need-returns
 returns c =
@@ -93,7 +93,7 @@ some-questions-spec =
     slice-aggregate-send-lines-2
     send-lines-requires
     (λ c. search needs)
-    add-t29
+    add-t30
     (λ c. search needs)
     (λ c. search needs)
     (λ c. search needs)
