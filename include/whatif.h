@@ -13,8 +13,8 @@
  * thread writes during the call.
  * Stack of a call, as measured on plans of 65,535 nodes and the largest tables: a fresh run at most 40 KiB, a count of
  * choices at most 35 KiB, agreement of two rule tables at most 12 KiB, a Start, which makes the full check, at most
- * 10 KiB, the full check of a rule table's tables at most 8 KiB, any other call of the session or of the screens at most
- * 4 KiB, a build, a branch table's full check or a question of changes by colours at most 3 KiB, any other at most
+ * 10 KiB, the full check of a rule table's tables at most 8 KiB, any other call of the session or of the screens at
+ * most 4 KiB, a build, a branch table's full check or a question of changes by colours at most 3 KiB, any other at most
  * 1 KiB.
  *
  * What holds for every function:
@@ -73,8 +73,8 @@ extern "C" {
 /* Bytes of a planner's file of n nodes, and of its plan, which has 2n+1. */
 #define WHATIF_PLANNER_BYTES(n) ((size_t)12 + (size_t)2 * (size_t)(n))
 #define WHATIF_PLANNER_PLAN_BYTES(n) ((size_t)14 + (size_t)4 * (size_t)(n))
-/* Elements of the colour tables, numbers (uint16_t) and bytes (uint8_t), for n nodes and a branch table of s states. They
- * may be longer, and their excess is untouched. With 16 states they take 144 bytes a node. */
+/* Elements of the colour tables, numbers (uint16_t) and bytes (uint8_t), for n nodes and a branch table of s states.
+ * They may be longer, and their excess is untouched. With 16 states they take 144 bytes a node. */
 #define WHATIF_COLOUR_BRANCH_NUMBERS(n, s) ((size_t)4 * (size_t)(n) * (size_t)(s))
 #define WHATIF_COLOUR_BRANCH_BYTES(n, s) ((size_t)(n) * (size_t)(s))
 /* The same for a rule table of s states, 1 to WHATIF_MAX_COLOUR_STATES. With 4 states they take 149 bytes a node. */
@@ -229,8 +229,8 @@ uint32_t whatif_branch(const uint8_t *plan, size_t plan_len, const uint8_t *bran
                        uint32_t *links, uint32_t *passed);
 
 /*
- * Branch question with the upper node's label: the branch table reads the labels from node `upper` down to node `lower`,
- * both included, from state 0 on. The same node twice is a word of one letter.
+ * Branch question with the upper node's label: the branch table reads the labels from node `upper` down to node
+ * `lower`, both included, from state 0 on. The same node twice is a word of one letter.
  * Lent:    as for whatif_branch.
  * Written: as by whatif_branch; *links and *passed are the same numbers.
  * Answers: WHATIF_ACCEPTED, or the first of 17, 13, 16, 18, as for whatif_branch; on tables not as built the label of
@@ -244,17 +244,17 @@ uint32_t whatif_branch_with_upper(const uint8_t *plan, size_t plan_len, const ui
 /*
  * Count: how many choices of labels end in each state? Every assignment of the K labels to the nodes listed is one
  * choice, so that there are K to the power nodes_len of them; the other nodes keep their labels.
- * Lent:    the plan, the rule table, the tables of whatif_build and the nodes, read: nodes_len different nodes, 0 to 64.
- *          N, S and K are those of the headers of the plan and the rule table. counts, written.
- * Written: the first S numbers of counts: for each state how many choices end in it at the root; *parts and *links, those
- *          of a question about these nodes. With no node listed the run's own state has 1. The sum is K to the power
- *          nodes_len. The rest of a longer buffer is untouched; WHATIF_MAX_STATES numbers always suffice.
+ * Lent:    the plan, the rule table, the tables of whatif_build and the nodes, read: nodes_len different nodes, 0 to
+ *          64. N, S and K are those of the headers of the plan and the rule table. counts, written.
+ * Written: the first S numbers of counts: for each state how many choices end in it at the root; *parts and *links,
+ *          those of a question about these nodes. With no node listed the run's own state has 1. The sum is K to the
+ *          power nodes_len. The rest of a longer buffer is untouched; WHATIF_MAX_STATES numbers always suffice.
  * Answers: WHATIF_ACCEPTED, or the first of 17, 12, 13, 15, 26, 18, 11. 17 is given too where a header is cut short or
- *          names a number outside its limits; 12 for more than 64 nodes; 26 for more than WHATIF_MAX_ASSIGNMENTS choices,
- *          and not for that many; 11 where counts is shorter than S. 18 is never given on tables as whatif_build wrote
- *          them for what is lent, nor on run states and maps that are any bytes below S. On other tables the call ends
- *          as well, with 18 or with counts, none above WHATIF_MAX_ASSIGNMENTS. Refused, counts, *parts and *links are as
- *          they were.
+ *          names a number outside its limits; 12 for more than 64 nodes; 26 for more than WHATIF_MAX_ASSIGNMENTS
+ *          choices, and not for that many; 11 where counts is shorter than S. 18 is never given on tables as
+ *          whatif_build wrote them for what is lent, nor on run states and maps that are any bytes below S. On other
+ *          tables the call ends as well, with 18 or with counts, none above WHATIF_MAX_ASSIGNMENTS. Refused, counts,
+ *          *parts and *links are as they were.
  */
 uint32_t whatif_count(const uint8_t *plan, size_t plan_len, const uint8_t *rules, size_t rules_len,
                       const uint16_t *node_table, size_t node_table_len, const uint8_t *state_table,
@@ -275,42 +275,44 @@ uint32_t whatif_merge(const uint8_t *first, size_t first_len, const uint8_t *sec
                       size_t merged_len);
 
 /*
- * Do two rule tables agree? They do where every plan, of any size, gets yes from both or no from both. Where they do not, a
- * separating plan is shown, which one of them clears and the other does not: one of least height among all such plans.
+ * Do two rule tables agree? They do where every plan, of any size, gets yes from both or no from both. Where they do
+ * not, a separating plan is shown, which one of them clears and the other does not: one of least height among all such
+ * plans.
  * Lent:    both rule tables, read; lines, written. The same table may be lent twice.
  * Written: *agree, 1 or 0; *count, the lines that are shown, 1 to WHATIF_MAX_LINES, or 0 where the tables agree; and as
- *          many lines, four numbers each: 0 for a leaf, 1 for an inner node; its label, below K; the numbers of its left
- *          and its right line, both 0 for a leaf. Lines are numbered from 0, left and right are earlier lines, the last
- *          line is the root; a line may serve several times, or not at all. The rest of a longer buffer is untouched.
- *          4 * WHATIF_MAX_LINES numbers always suffice. Written out as a tree, the lines may have more nodes than a plan
- *          can have.
- * Answers: WHATIF_ACCEPTED, or the first of 6, 7, 8, 9, 6, 7, 8, 9, 23, 11: 6 to 9 are put to the first table, then to the
- *          second; 11 is given only where the lines do not fit. Refused, lines, *agree and *count are as they were.
+ *          many lines, four numbers each: 0 for a leaf, 1 for an inner node; its label, below K; the numbers of its
+ *          left and its right line, both 0 for a leaf. Lines are numbered from 0, left and right are earlier lines, the
+ *          last line is the root; a line may serve several times, or not at all. The rest of a longer buffer is
+ *          untouched. 4 * WHATIF_MAX_LINES numbers always suffice. Written out as a tree, the lines may have more nodes
+ *          than a plan can have.
+ * Answers: WHATIF_ACCEPTED, or the first of 6, 7, 8, 9, 6, 7, 8, 9, 23, 11: 6 to 9 are put to the first table, then to
+ *          the second; 11 is given only where the lines do not fit. Refused, lines, *agree and *count are as they were.
  */
 uint32_t whatif_agree(const uint8_t *first, size_t first_len, const uint8_t *second, size_t second_len, uint16_t *lines,
                       size_t lines_len, uint32_t *agree, uint32_t *count);
 
 /*
- * Out: from a planner's file, whose nodes stand top first and have 0 to 255 children each, to our plan. A list of siblings
- * becomes an inner node with the first one's label, its children's list at the left and the rest at the right; an empty
- * list a leaf with label 63. So n nodes become 2n+1, and a rule table for such plans has K 64: label 63 is at every leaf.
+ * Out: from a planner's file, whose nodes stand top first and have 0 to 255 children each, to our plan. A list of
+ * siblings becomes an inner node with the first one's label, its children's list at the left and the rest at the right;
+ * an empty list a leaf with label 63. So n nodes become 2n+1, and a rule table for such plans has K 64: label 63 is at
+ * every leaf.
  * Lent:    the planner's file, read; plan and places, written. plan serves as work space before it is written.
  * Written: the first WHATIF_PLANNER_PLAN_BYTES(n) bytes of plan: a plan, which passes 2 to 5; the first n numbers of
- *          places: for each planner node, by its place in the file, its node in our plan. It is an inner node there, with
- *          its own label. The rest of longer buffers is untouched.
+ *          places: for each planner node, by its place in the file, its node in our plan. It is an inner node there,
+ *          with its own label. The rest of longer buffers is untouched.
  * Answers: WHATIF_ACCEPTED, or the first of 19, 20, 21. Refused, plan and places are as they were.
  */
 uint32_t whatif_plan_of_planner(const uint8_t *file, size_t file_len, uint8_t *plan, size_t plan_len, uint16_t *places,
                                 size_t places_len);
 
 /*
- * Home: from our plan back to the planner's file, for exactly the plans that whatif_plan_of_planner can write. Going out
- * and home restores the file, going home and out the plan.
+ * Home: from our plan back to the planner's file, for exactly the plans that whatif_plan_of_planner can write. Going
+ * out and home restores the file, going home and out the plan.
  * Lent:    the plan, read; file, written, and work space before.
- * Written: the first WHATIF_PLANNER_BYTES(n) bytes of file, where the plan has 2n+1 nodes. The rest of a longer buffer is
- *          untouched.
- * Answers: WHATIF_ACCEPTED, or the first of 19, 21: 19 for bytes that 2 to 5 refuse and for every plan that comes from no
- *          planner's file. Refused, file is as it was.
+ * Written: the first WHATIF_PLANNER_BYTES(n) bytes of file, where the plan has 2n+1 nodes. The rest of a longer buffer
+ *          is untouched.
+ * Answers: WHATIF_ACCEPTED, or the first of 19, 21: 19 for bytes that 2 to 5 refuse and for every plan that comes from
+ *          no planner's file. Refused, file is as it was.
  */
 uint32_t whatif_planner_of_plan(const uint8_t *plan, size_t plan_len, uint8_t *file, size_t file_len);
 
@@ -319,11 +321,11 @@ uint32_t whatif_planner_of_plan(const uint8_t *plan, size_t plan_len, uint8_t *f
  * entries for a node in a list the last. It has no plan: nodes and labels may be any.
  * Lent:    both lists, read: lower_nodes_len and lower_labels_len are equal, 0 to 64, and so are the upper's; nodes and
  *          labels, written.
- * Written: *count, the nodes that remain, 0 to 64; as many nodes, rising, and their labels. The rest of a longer buffer is
- *          untouched; WHATIF_MAX_CHANGES numbers and bytes always suffice.
+ * Written: *count, the nodes that remain, 0 to 64; as many nodes, rising, and their labels. The rest of a longer buffer
+ *          is untouched; WHATIF_MAX_CHANGES numbers and bytes always suffice.
  * Answers: WHATIF_ACCEPTED, or the first of 12, 12, 22, 11: 12 is put to the lower list, then to the upper; 22 is given
- *          where more than 64 nodes would remain, 11 where nodes or labels is shorter than *count would be. Refused, nodes,
- *          labels and *count are as they were.
+ *          where more than 64 nodes would remain, 11 where nodes or labels is shorter than *count would be. Refused,
+ *          nodes, labels and *count are as they were.
  */
 uint32_t whatif_lay_over(const uint16_t *lower_nodes, size_t lower_nodes_len, const uint8_t *lower_labels,
                          size_t lower_labels_len, const uint16_t *upper_nodes, size_t upper_nodes_len,
@@ -337,11 +339,11 @@ uint32_t whatif_lay_over(const uint16_t *lower_nodes, size_t lower_nodes_len, co
  * serve many records: a copy of a loaded record is a loaded record, and tables that are only read may be shared.
  *
  * What altered buffers can do: Start makes the full check of what is lent, so nothing needs to be promised about plan,
- * rules and tables between Load and Start. A finished answer is right for what was lent at Start, provided that it stays
- * so until the last advance: an advance tests the lengths of what is lent (17) and the values that it reads (18) alone.
- * On what was altered between Start and the last advance an advance may be refused with 18, and an answer may be another
- * than the fresh run's; but every call ends, and none reads or writes outside what is lent. After the last advance the
- * answer stands in the record, and nothing that is lent can alter it.
+ * rules and tables between Load and Start. A finished answer is right for what was lent at Start, provided that it
+ * stays so until the last advance: an advance tests the lengths of what is lent (17) and the values that it reads (18)
+ * alone. On what was altered between Start and the last advance an advance may be refused with 18, and an answer may be
+ * another than the fresh run's; but every call ends, and none reads or writes outside what is lent. After the last
+ * advance the answer stands in the record, and nothing that is lent can alter it.
  *
  * The last finished answer stays in the record, whatever is started, cancelled or refused afterwards, until the next
  * question is finished or a Load is accepted: a panel may show it again after a Cancel.
@@ -381,8 +383,8 @@ uint32_t whatif_load(uint8_t *record, size_t record_len, const uint8_t *plan, si
  *          finished answer kept.
  * Answers: WHATIF_ACCEPTED, or the first of 1, 17, 12, 13, 14, 18; 12, 13 and 14 are put to the whole list as listed.
  *          18 is given exactly when the plan and the rule table do not pass 2 to 10 or name another N, S or K than the
- *          record, or the tables, excess aside, are not what whatif_build writes from them. So a Start reads all that is
- *          lent. Refused, the record and *parts are as they were.
+ *          record, or the tables, excess aside, are not what whatif_build writes from them. So a Start reads all that
+ *          is lent. Refused, the record and *parts are as they were.
  */
 uint32_t whatif_start(uint8_t *record, size_t record_len, const uint8_t *plan, size_t plan_len, const uint8_t *rules,
                       size_t rules_len, const uint16_t *node_table, size_t node_table_len, const uint8_t *state_table,
@@ -393,8 +395,8 @@ uint32_t whatif_start(uint8_t *record, size_t record_len, const uint8_t *plan, s
  * Advance: handles the next part of the question.
  * Lent:    the record, altered; the plan, the rule table and both tables, read: as at Start, if the answer is to be
  *          that of a fresh run.
- * Written: *finished, 1 where that was the last part, else 0; the record. After the last part the answer is there, in the
- *          place of an earlier one.
+ * Written: *finished, 1 where that was the last part, else 0; the record. After the last part the answer is there, in
+ *          the place of an earlier one.
  * Answers: WHATIF_ACCEPTED, or the first of 1, 17, 18. 18 is never given where all is as at Start and as built. It
  *          leaves the question as it was: with the right tables the next advance goes on. Refused, the record and
  *          *finished are as they were.
@@ -417,28 +419,28 @@ uint32_t whatif_cancel(uint8_t *record, size_t record_len);
  * Written: *state, the root's state; *yes, 1 where it is accepted, else 0; *parts, the number of parts; *links, the
  *          moves of their climbs; *passed, the nodes that these passed over: of each climb the depth of its start less
  *          the depth of its end. Each move passes over one node at least.
- * Answers: WHATIF_ACCEPTED, or the first of 1, where no question was finished since the last accepted Load. Refused, the
- *          five are as they were.
+ * Answers: WHATIF_ACCEPTED, or the first of 1, where no question was finished since the last accepted Load. Refused,
+ *          the five are as they were.
  */
 uint32_t whatif_read(const uint8_t *record, size_t record_len, uint32_t *state, uint32_t *yes, uint32_t *parts,
                      uint32_t *links, uint32_t *passed);
 
 /*
- * Eight screens on one mill: up to eight questions that run at once on one plan, numbered 0 to 7. Their sessions are a run
- * of eight records, WHATIF_SCREENS_BYTES bytes, which belongs to the caller like a record: it is all zero at first and is
- * written by these functions alone. Load is made for all eight; Start, Cancel and Read name a screen; a deal makes one
- * advance for the next running screen after the one that was served last, going from 7 back to 0.
+ * Eight screens on one mill: up to eight questions that run at once on one plan, numbered 0 to 7. Their sessions are a
+ * run of eight records, WHATIF_SCREENS_BYTES bytes, which belongs to the caller like a record: it is all zero at first
+ * and is written by these functions alone. Load is made for all eight; Start, Cancel and Read name a screen; a deal
+ * makes one advance for the next running screen after the one that was served last, going from 7 back to 0.
  *
- * Beside the run travels a number, the screen to try first. whatif_screens_load and whatif_screens_deal tell it: 0 after a
- * Load, else one past the screen served, 0 past 7. The next deal is handed it. Handed on so, a screen that stays running is
- * served within eight accepted deals, and no other screen twice between two of its turns in one question, whatever is lent
- * and whatever the others start or cancel. While plan, rules and tables are as Load left them, every deal with a screen
- * running is accepted.
+ * Beside the run travels a number, the screen to try first. whatif_screens_load and whatif_screens_deal tell it: 0
+ * after a Load, else one past the screen served, 0 past 7. The next deal is handed it. Handed on so, a screen that
+ * stays running is served within eight accepted deals, and no other screen twice between two of its turns in one
+ * question, whatever is lent and whatever the others start or cancel. While plan, rules and tables are as Load left
+ * them, every deal with a screen running is accepted.
  *
- * No screen's answers depend on another's record: Start, Cancel and Read look at the named one alone, a deal at the eight
- * state bytes and at the whole of the one that it serves. A screen's calls and turns are answered as those of a session of
- * its own would be, with its turns as advances. A deal lends one plan to whoever is next: where that is not what its Start
- * was lent, whatif_advance says what may happen.
+ * No screen's answers depend on another's record: Start, Cancel and Read look at the named one alone, a deal at the
+ * eight state bytes and at the whole of the one that it serves. A screen's calls and turns are answered as those of a
+ * session of its own would be, with its turns as advances. A deal lends one plan to whoever is next: where that is not
+ * what its Start was lent, whatif_advance says what may happen.
  *
  * The single records of the run may also be lent to the session's calls, WHATIF_RECORD_BYTES bytes each.
  */
@@ -446,8 +448,8 @@ uint32_t whatif_read(const uint8_t *record, size_t record_len, uint32_t *state, 
 /*
  * Load of all eight: begins with a plan, and writes its tables as whatif_build does.
  * Lent:    the run, altered; the plan and the rule table, read; node_table and state_table, written.
- * Written: both tables as by whatif_build; each of the eight records, exactly as after a first Load of that plan: no answer
- *          is there; *next, 0.
+ * Written: both tables as by whatif_build; each of the eight records, exactly as after a first Load of that plan: no
+ *          answer is there; *next, 0.
  * Answers: WHATIF_ACCEPTED, or the first of 25, 1, 2, 3, 4, 5, 6, 7, 8, 9, 10, 11. 1 is given where a screen is running
  *          or one of the eight records is broken. Refused, the run, both buffers and *next are as they were.
  */
@@ -470,14 +472,14 @@ uint32_t whatif_screens_start(uint8_t *records, size_t records_len, uint32_t scr
 
 /*
  * Deal: one advance for the next running screen, from screen `first` on, going from 7 back to 0.
- * Lent:    the run, altered; first, the screen to try first, 0 to 7, as the last accepted Load or deal told it; the plan,
- *          the rule table and both tables, read, as for whatif_advance.
- * Written: *next, one past the screen served, 0 past 7 (whatif_screens_served, below, has the screen); *finished and the
- *          record of that screen, as by whatif_advance. The other seven stay.
+ * Lent:    the run, altered; first, the screen to try first, 0 to 7, as the last accepted Load or deal told it; the
+ *          plan, the rule table and both tables, read, as for whatif_advance.
+ * Written: *next, one past the screen served, 0 past 7 (whatif_screens_served, below, has the screen); *finished and
+ *          the record of that screen, as by whatif_advance. The other seven stay.
  * Answers: WHATIF_ACCEPTED, or the first of 25, 1, 17, 18. 1 is given where no screen is running, or the record of the
  *          next one is broken: a record is running where its state byte says so. A deal refused with 17 or 18 was this
- *          screen's turn, and no other is served by it. Refused, the run, *next and *finished are as they were: with the
- *          same number the next deal tries the same screen again.
+ *          screen's turn, and no other is served by it. Refused, the run, *next and *finished are as they were: with
+ *          the same number the next deal tries the same screen again.
  */
 uint32_t whatif_screens_deal(uint8_t *records, size_t records_len, uint32_t first, const uint8_t *plan, size_t plan_len,
                              const uint8_t *rules, size_t rules_len, const uint16_t *node_table, size_t node_table_len,
@@ -501,11 +503,11 @@ uint32_t whatif_screens_read(const uint8_t *records, size_t records_len, uint32_
                              uint32_t *yes, uint32_t *parts, uint32_t *links, uint32_t *passed);
 
 /*
- * Questions by colours: the answers of branch questions and of questions once more, by other tables, at a cost that does
- * not grow with the depth of the plan. Every state of every node has a colour; on the way down a path the colour stays or
- * falls, and a question goes from fall to fall. A drop is a place on the path where the colour falls; the moves of the
- * searches for the drops are the links, at most 45 for each drop. These calls stand outside the session. The colour tables
- * are two buffers; their layout is in LAYOUT.md.
+ * Questions by colours: the answers of branch questions and of questions once more, by other tables, at a cost that
+ * does not grow with the depth of the plan. Every state of every node has a colour; on the way down a path the colour
+ * stays or falls, and a question goes from fall to fall. A drop is a place on the path where the colour falls; the
+ * moves of the searches for the drops are the links, at most 45 for each drop. These calls stand outside the session.
+ * The colour tables are two buffers; their layout is in LAYOUT.md.
  *
  * The first WHATIF_NODE_TABLE_LEN(N) numbers of the colour tables are the plan's node table: where no other is at hand,
  * colour_numbers may be lent as node_table too.
@@ -515,8 +517,8 @@ uint32_t whatif_screens_read(const uint8_t *records, size_t records_len, uint32_
  * Writes the colour tables of a plan and a branch table.
  * Lent:    the plan and the branch table, read; colour_numbers and colour_bytes, written.
  * Written: the first WHATIF_COLOUR_BRANCH_NUMBERS(N, S) numbers of colour_numbers and the first
- *          WHATIF_COLOUR_BRANCH_BYTES(N, S) bytes of colour_bytes, N and S as the headers name them. The rest of a longer
- *          buffer is untouched.
+ *          WHATIF_COLOUR_BRANCH_BYTES(N, S) bytes of colour_bytes, N and S as the headers name them. The rest of a
+ *          longer buffer is untouched.
  * Answers: WHATIF_ACCEPTED, or the first of 2, 3, 4, 5, 6, 7, 8, 9, 10, 11. Refused, both buffers are as they were.
  */
 uint32_t whatif_colour_branch_build(const uint8_t *plan, size_t plan_len, const uint8_t *branch, size_t branch_len,
@@ -525,14 +527,15 @@ uint32_t whatif_colour_branch_build(const uint8_t *plan, size_t plan_len, const 
 
 /*
  * Branch question by colours: the word of whatif_branch, from below node `upper` down to node `lower`.
- * Lent:    the plan, the branch table, the node table of whatif_branch_build (or of whatif_build: it is the same) and the
- *          tables of whatif_colour_branch_build, read. N, S and K are those of the headers of the plan and the branch table.
- * Written: *state, the state after the last label; *yes, 1 where its mark is 1, else 0; both are whatif_branch's. *drops,
- *          the places on the path where the colour falls, at most S - 1; *links, the moves of the searches for them, at most
- *          45 for each.
- * Answers: WHATIF_ACCEPTED, or the first of 17, 13, 16, 18. 17 is given too where a header is cut short or names a number
- *          outside its limits. 18 is never given on tables as built for what is lent. On other tables the call ends as
- *          well, with 16, 18 or an answer. Refused, *state, *yes, *drops and *links are as they were.
+ * Lent:    the plan, the branch table, the node table of whatif_branch_build (or of whatif_build: it is the same) and
+ *          the tables of whatif_colour_branch_build, read. N, S and K are those of the headers of the plan and the
+ *          branch table.
+ * Written: *state, the state after the last label; *yes, 1 where its mark is 1, else 0; both are whatif_branch's.
+ *          *drops, the places on the path where the colour falls, at most S - 1; *links, the moves of the searches for
+ *          them, at most 45 for each.
+ * Answers: WHATIF_ACCEPTED, or the first of 17, 13, 16, 18. 17 is given too where a header is cut short or names a
+ *          number outside its limits. 18 is never given on tables as built for what is lent. On other tables the call
+ *          ends as well, with 16, 18 or an answer. Refused, *state, *yes, *drops and *links are as they were.
  */
 uint32_t whatif_colour_branch(const uint8_t *plan, size_t plan_len, const uint8_t *branch, size_t branch_len,
                               const uint16_t *node_table, size_t node_table_len, const uint16_t *colour_numbers,
@@ -541,12 +544,12 @@ uint32_t whatif_colour_branch(const uint8_t *plan, size_t plan_len, const uint8_
                               uint32_t *links);
 
 /*
- * Branch question by colours with the upper node's label: the word of whatif_branch_with_upper, from node `upper` down to
- * node `lower`, both included.
+ * Branch question by colours with the upper node's label: the word of whatif_branch_with_upper, from node `upper` down
+ * to node `lower`, both included.
  * Lent:    as for whatif_colour_branch.
  * Written: as by whatif_colour_branch; drops and links may be others, since the word begins one copy higher.
- * Answers: WHATIF_ACCEPTED, or the first of 17, 13, 16, 18, as for whatif_colour_branch; on tables not as built the parent
- *          of `upper` may lead outside too.
+ * Answers: WHATIF_ACCEPTED, or the first of 17, 13, 16, 18, as for whatif_colour_branch; on tables not as built the
+ *          parent of `upper` may lead outside too.
  */
 uint32_t whatif_colour_branch_with_upper(const uint8_t *plan, size_t plan_len, const uint8_t *branch, size_t branch_len,
                                          const uint16_t *node_table, size_t node_table_len,
@@ -558,9 +561,9 @@ uint32_t whatif_colour_branch_with_upper(const uint8_t *plan, size_t plan_len, c
 /*
  * Writes the colour tables of a plan and a rule table of at most WHATIF_MAX_COLOUR_STATES states.
  * Lent:    the plan and the rule table, read; colour_numbers and colour_bytes, written.
- * Written: the first WHATIF_COLOUR_NUMBERS(N, S) numbers of colour_numbers and the first WHATIF_COLOUR_BYTES(N, S) bytes of
- *          colour_bytes, N and S as the headers name them. They begin with the node table and the state table of
- *          whatif_build. The rest of a longer buffer is untouched.
+ * Written: the first WHATIF_COLOUR_NUMBERS(N, S) numbers of colour_numbers and the first WHATIF_COLOUR_BYTES(N, S)
+ *          bytes of colour_bytes, N and S as the headers name them. They begin with the node table and the state table
+ *          of whatif_build. The rest of a longer buffer is untouched.
  * Answers: WHATIF_ACCEPTED, or the first of 2, 3, 4, 5, 6, 7, 8, 9, 27, 10, 11. Refused, both buffers are as they were.
  */
 uint32_t whatif_colour_build(const uint8_t *plan, size_t plan_len, const uint8_t *rules, size_t rules_len,
@@ -568,19 +571,20 @@ uint32_t whatif_colour_build(const uint8_t *plan, size_t plan_len, const uint8_t
                              size_t colour_bytes_len);
 
 /*
- * Question by colours, whole and outside the session: what would the plan's state be if node nodes[i] took labels[i], for
- * every i?
- * Lent:    the plan, the rule table, the tables of whatif_build, those of whatif_colour_build and the list, read. N, S and K
- *          are those of the headers of the plan and the rule table. nodes_len and labels_len are equal, 0 to 64; of two
- *          entries for a node the last holds, and a node that ends with the label it has is no change, as in whatif_start.
- * Written: *state, the root's state; *yes, 1 where its mark is 1, else 0: both the fresh run's of the changed plan. *parts, the
- *          number of parts, as of whatif_start. *drops: where a part has changes below one child only, that child's state is
- *          found by trying target states in rising order, and the drops of all trials are counted, at most 60 for each such
- *          part. *links, the moves of the searches for them, at most 45 for each.
- * Answers: WHATIF_ACCEPTED, or the first of 17, 27, 12, 13, 14, 18. 17 is given too where a header is cut short or names a
- *          number outside its limits; with S above 4 it is asked of all but the colour tables. 18 is never given on tables as
- *          built for what is lent. On other tables the call ends as well, with 18 or an answer. Refused, the five out values
- *          are as they were.
+ * Question by colours, whole and outside the session: what would the plan's state be if node nodes[i] took labels[i],
+ * for every i?
+ * Lent:    the plan, the rule table, the tables of whatif_build, those of whatif_colour_build and the list, read. N, S
+ *          and K are those of the headers of the plan and the rule table. nodes_len and labels_len are equal, 0 to 64;
+ *          of two entries for a node the last holds, and a node that ends with the label it has is no change, as in
+ *          whatif_start.
+ * Written: *state, the root's state; *yes, 1 where its mark is 1, else 0: both the fresh run's of the changed plan.
+ *          *parts, the number of parts, as of whatif_start. *drops: where a part has changes below one child only, that
+ *          child's state is found by trying target states in rising order, and the drops of all trials are counted, at
+ *          most 60 for each such part. *links, the moves of the searches for them, at most 45 for each.
+ * Answers: WHATIF_ACCEPTED, or the first of 17, 27, 12, 13, 14, 18. 17 is given too where a header is cut short or
+ *          names a number outside its limits; with S above 4 it is asked of all but the colour tables. 18 is never
+ *          given on tables as built for what is lent. On other tables the call ends as well, with 18 or an answer.
+ *          Refused, the five out values are as they were.
  */
 uint32_t whatif_colour_ask(const uint8_t *plan, size_t plan_len, const uint8_t *rules, size_t rules_len,
                            const uint16_t *node_table, size_t node_table_len, const uint8_t *state_table,
@@ -590,9 +594,9 @@ uint32_t whatif_colour_ask(const uint8_t *plan, size_t plan_len, const uint8_t *
                            uint32_t *drops, uint32_t *links, uint32_t *parts);
 
 /* What a record tells. These read single bytes of it, as LAYOUT.md places them. Bytes of another length, or without a
- * state, have WHATIF_NO_STATE and no parts; nothing else is tested. So a refusal 1 means: the call may not be made in the
- * state that is told, or, of a Read, there is no answer yet; or there is no state; or, where the call may be made in it,
- * other bytes of the record are broken. */
+ * state, have WHATIF_NO_STATE and no parts; nothing else is tested. So a refusal 1 means: the call may not be made in
+ * the state that is told, or, of a Read, there is no answer yet; or there is no state; or, where the call may be made
+ * in it, other bytes of the record are broken. */
 enum whatif_state {
     WHATIF_EMPTY = 0,
     WHATIF_LOADED = 1,
