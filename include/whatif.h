@@ -3,10 +3,29 @@
  *
  * Order: version, limits, sizes, answers; the functions for tables and fresh runs, for branch questions, for counts of
  * choices, for two rule tables, for the planner's files, of the panel session, of eight screens, and for questions by
- * colours; then what is written here alone: what a record tells, the session's and the screens' calls with what is lent
- * as one struct, the answers' texts.
+ * colours; then what is written here alone, for safe use: counts of a header, writers, what a record says, what is
+ * passed in and what is answered as one struct, the answer to the current question, the check before a cut, the
+ * answers' texts, damaged records, the causes of 1.
  * The bytes of plans, tables and records are in LAYOUT.md, the order of the checks of each call in REFUSALS.md: both
  * stand in docs/ of the sources, and beside this file where it is installed.
+ *
+ * Which call when:
+ *
+ *     one verdict, now, without tables           whatif_fresh_run
+ *     a question to watch and to cancel          whatif_load, whatif_start, whatif_advance, whatif_cancel: the session
+ *     its answer on the screen                   whatif_read_current
+ *     the last answer again, after a Cancel      whatif_read
+ *     before a blank is cut                      whatif_confirm
+ *     up to eight panels on one mill             whatif_screens_load and the four beside it
+ *     many questions, up to 4 states             whatif_colour_build once, then whatif_colour_ask
+ *     the labels along one path                  whatif_branch_build once, then whatif_branch
+ *     how many choices of labels clear a plan    whatif_build once, then whatif_count
+ *     two rule tables joined, or compared        whatif_merge, whatif_agree
+ *     a bridge planner's file                    whatif_plan_of_planner, whatif_planner_of_plan
+ *
+ * On a full arch of 61,471 nodes Load and Start take about half a millisecond each: every Start checks all that is
+ * passed in. A fresh run takes less than that, an advance less than a microsecond. A question by colours takes some
+ * microseconds, after a build of some milliseconds, and checks only what it reads.
  *
  * Link with libwhatif.a or, where it is installed, with libwhatif.so (x86-64 Linux). The library never allocates, keeps
  * nothing between calls and is re-entrant: any number of threads may call it at once, each with buffers that no other
@@ -15,7 +34,7 @@
  * choices at most 35 KiB, agreement of two rule tables at most 12 KiB, a Start, which makes the full check, at most
  * 10 KiB, the full check of a rule table's tables at most 8 KiB, any other call of the session or of the screens at
  * most 4 KiB, a build, a branch table's full check or a question of changes by colours at most 3 KiB, any other at most
- * 1 KiB.
+ * 1 KiB. A function that is written here needs the stack of the calls that it makes, and at most 2 KiB more.
  *
  * What holds for every function:
  * - A slice is a pointer, then its count of elements (not bytes).
@@ -33,6 +52,24 @@
 
 #include <stddef.h>
 #include <stdint.h>
+
+/* The library is for x86-64: a caller that would not link, or would read its numbers otherwise, stops here. */
+#if UINTPTR_MAX != 0xffffffffffffffffu || SIZE_MAX != 0xffffffffffffffffu
+#error "whatif.h: the library is 64-bit; compile for a target with 64-bit pointers and sizes, without -m32 or -mx32."
+#endif
+#if defined __BYTE_ORDER__ && __BYTE_ORDER__ != __ORDER_LITTLE_ENDIAN__
+#error "whatif.h: the library is little-endian; compile for a little-endian target."
+#endif
+
+/* The compiler warns where the result of such a function is not used. A refused call has written no output, so a
+ * caller that does not look at the answer goes on with what it had. */
+#if defined __GNUC__
+#define WHATIF_NODISCARD __attribute__((warn_unused_result))
+#elif (defined __cplusplus && __cplusplus >= 201703L) || (defined __STDC_VERSION__ && __STDC_VERSION__ >= 202311L)
+#define WHATIF_NODISCARD [[nodiscard]]
+#else
+#define WHATIF_NODISCARD
+#endif
 
 #ifdef __cplusplus
 extern "C" {
@@ -151,6 +188,7 @@ enum whatif_answer {
 };
 
 /* The archive's version, as WHATIF_VERSION_NUMBER is this header's. It is always answered; there is no refusal. */
+WHATIF_NODISCARD
 uint32_t whatif_version(void);
 
 /*
@@ -161,6 +199,7 @@ uint32_t whatif_version(void);
  *          map, for each node), N and S as the headers name them. The rest of a longer buffer is untouched.
  * Answers: WHATIF_ACCEPTED, or the first of 2, 3, 4, 5, 6, 7, 8, 9, 10, 11. Refused, both buffers are as they were.
  */
+WHATIF_NODISCARD
 uint32_t whatif_build(const uint8_t *plan, size_t plan_len, const uint8_t *rules, size_t rules_len,
                       uint16_t *node_table, size_t node_table_len, uint8_t *state_table, size_t state_table_len);
 
@@ -171,6 +210,7 @@ uint32_t whatif_build(const uint8_t *plan, size_t plan_len, const uint8_t *rules
  * Answers: WHATIF_ACCEPTED, or the first of 2, 3, 4, 5, 6, 7, 8, 9, 10, 11. A table too short is 11, never a no.
  *          Refused, *yes is as it was.
  */
+WHATIF_NODISCARD
 uint32_t whatif_check(const uint8_t *plan, size_t plan_len, const uint8_t *rules, size_t rules_len,
                       const uint16_t *node_table, size_t node_table_len, const uint8_t *state_table,
                       size_t state_table_len, uint32_t *yes);
@@ -184,6 +224,7 @@ uint32_t whatif_check(const uint8_t *plan, size_t plan_len, const uint8_t *rules
  * Answers: WHATIF_ACCEPTED, or the first of 2, 3, 4, 5, 6, 7, 8, 9, 10, 12, 13, 14; each is put to the whole list as
  *          listed before the next. Refused, *state and *yes are as they were.
  */
+WHATIF_NODISCARD
 uint32_t whatif_fresh_run(const uint8_t *plan, size_t plan_len, const uint8_t *rules, size_t rules_len,
                           const uint16_t *nodes, size_t nodes_len, const uint8_t *labels, size_t labels_len,
                           uint32_t *state, uint32_t *yes);
@@ -195,6 +236,7 @@ uint32_t whatif_fresh_run(const uint8_t *plan, size_t plan_len, const uint8_t *r
  *          map going from the state after the jump's label to the state after the node's.
  * Answers: WHATIF_ACCEPTED, or the first of 2, 3, 4, 5, 6, 7, 8, 9, 10, 11. Refused, both buffers are as they were.
  */
+WHATIF_NODISCARD
 uint32_t whatif_branch_build(const uint8_t *plan, size_t plan_len, const uint8_t *branch, size_t branch_len,
                              uint16_t *node_table, size_t node_table_len, uint8_t *state_table,
                              size_t state_table_len);
@@ -206,6 +248,7 @@ uint32_t whatif_branch_build(const uint8_t *plan, size_t plan_len, const uint8_t
  * Answers: WHATIF_ACCEPTED, or the first of 2, 3, 4, 5, 6, 7, 8, 9, 10, 11. A table too short is 11, never a no.
  *          Refused, *yes is as it was.
  */
+WHATIF_NODISCARD
 uint32_t whatif_branch_check(const uint8_t *plan, size_t plan_len, const uint8_t *branch, size_t branch_len,
                              const uint16_t *node_table, size_t node_table_len, const uint8_t *state_table,
                              size_t state_table_len, uint32_t *yes);
@@ -223,6 +266,7 @@ uint32_t whatif_branch_check(const uint8_t *plan, size_t plan_len, const uint8_t
  *          lent. On other tables the call ends as well, with 16, 18 or an answer. Refused, *state, *yes, *links
  *          and *passed are as they were.
  */
+WHATIF_NODISCARD
 uint32_t whatif_branch(const uint8_t *plan, size_t plan_len, const uint8_t *branch, size_t branch_len,
                        const uint16_t *node_table, size_t node_table_len, const uint8_t *state_table,
                        size_t state_table_len, uint32_t upper, uint32_t lower, uint32_t *state, uint32_t *yes,
@@ -236,6 +280,7 @@ uint32_t whatif_branch(const uint8_t *plan, size_t plan_len, const uint8_t *bran
  * Answers: WHATIF_ACCEPTED, or the first of 17, 13, 16, 18, as for whatif_branch; on tables not as built the label of
  *          `upper` may lead outside too.
  */
+WHATIF_NODISCARD
 uint32_t whatif_branch_with_upper(const uint8_t *plan, size_t plan_len, const uint8_t *branch, size_t branch_len,
                                   const uint16_t *node_table, size_t node_table_len, const uint8_t *state_table,
                                   size_t state_table_len, uint32_t upper, uint32_t lower, uint32_t *state,
@@ -256,6 +301,7 @@ uint32_t whatif_branch_with_upper(const uint8_t *plan, size_t plan_len, const ui
  *          tables the call ends as well, with 18 or with counts, none above WHATIF_MAX_ASSIGNMENTS. Refused, counts,
  *          *parts and *links are as they were.
  */
+WHATIF_NODISCARD
 uint32_t whatif_count(const uint8_t *plan, size_t plan_len, const uint8_t *rules, size_t rules_len,
                       const uint16_t *node_table, size_t node_table_len, const uint8_t *state_table,
                       size_t state_table_len, const uint16_t *nodes, size_t nodes_len, uint64_t *counts,
@@ -271,6 +317,7 @@ uint32_t whatif_count(const uint8_t *plan, size_t plan_len, const uint8_t *rules
  * Answers: WHATIF_ACCEPTED, or the first of 6, 7, 8, 9, 6, 7, 8, 9, 23, 24, 11: 6 to 9 are put to the first table, then
  *          to the second. Refused, merged is as it was.
  */
+WHATIF_NODISCARD
 uint32_t whatif_merge(const uint8_t *first, size_t first_len, const uint8_t *second, size_t second_len, uint8_t *merged,
                       size_t merged_len);
 
@@ -288,6 +335,7 @@ uint32_t whatif_merge(const uint8_t *first, size_t first_len, const uint8_t *sec
  * Answers: WHATIF_ACCEPTED, or the first of 6, 7, 8, 9, 6, 7, 8, 9, 23, 11: 6 to 9 are put to the first table, then to
  *          the second; 11 is given only where the lines do not fit. Refused, lines, *agree and *count are as they were.
  */
+WHATIF_NODISCARD
 uint32_t whatif_agree(const uint8_t *first, size_t first_len, const uint8_t *second, size_t second_len, uint16_t *lines,
                       size_t lines_len, uint32_t *agree, uint32_t *count);
 
@@ -302,6 +350,7 @@ uint32_t whatif_agree(const uint8_t *first, size_t first_len, const uint8_t *sec
  *          with its own label. The rest of longer buffers is untouched.
  * Answers: WHATIF_ACCEPTED, or the first of 19, 20, 21. Refused, plan and places are as they were.
  */
+WHATIF_NODISCARD
 uint32_t whatif_plan_of_planner(const uint8_t *file, size_t file_len, uint8_t *plan, size_t plan_len, uint16_t *places,
                                 size_t places_len);
 
@@ -314,6 +363,7 @@ uint32_t whatif_plan_of_planner(const uint8_t *file, size_t file_len, uint8_t *p
  * Answers: WHATIF_ACCEPTED, or the first of 19, 21: 19 for bytes that 2 to 5 refuse and for every plan that comes from
  *          no planner's file. Refused, file is as it was.
  */
+WHATIF_NODISCARD
 uint32_t whatif_planner_of_plan(const uint8_t *plan, size_t plan_len, uint8_t *file, size_t file_len);
 
 /*
@@ -327,6 +377,7 @@ uint32_t whatif_planner_of_plan(const uint8_t *plan, size_t plan_len, uint8_t *f
  *          where more than 64 nodes would remain, 11 where nodes or labels is shorter than *count would be. Refused,
  *          nodes, labels and *count are as they were.
  */
+WHATIF_NODISCARD
 uint32_t whatif_lay_over(const uint16_t *lower_nodes, size_t lower_nodes_len, const uint8_t *lower_labels,
                          size_t lower_labels_len, const uint16_t *upper_nodes, size_t upper_nodes_len,
                          const uint8_t *upper_labels, size_t upper_labels_len, uint16_t *nodes, size_t nodes_len,
@@ -348,6 +399,10 @@ uint32_t whatif_lay_over(const uint16_t *lower_nodes, size_t lower_nodes_len, co
  * The last finished answer stays in the record, whatever is started, cancelled or refused afterwards, until the next
  * question is finished or a Load is accepted: a panel may show it again after a Cancel.
  *
+ * So Read alone may show an earlier question's answer. A panel that polls it after a Start gets the old yes for the new
+ * labels, until the last advance. What a panel shows for the question at hand is whatif_read_current, below: it is
+ * refused with 1 unless the session is answered. Before a blank is cut, whatif_confirm compares with a fresh run.
+ *
  * A session is empty, loaded, running or answered:
  *
  *     whatif_load     unless running         then loaded
@@ -357,7 +412,7 @@ uint32_t whatif_lay_over(const uint16_t *lower_nodes, size_t lower_nodes_len, co
  *     whatif_read     in every state, once an answer is there; the state stays
  *
  * Any other call gets 1. So does a record that breaks its layout, or that has another length, as those of another
- * layout version have. whatif_session_state, below, helps to tell which it was.
+ * layout version have. whatif_why_1, below, says in a sentence which it was.
  */
 
 /*
@@ -367,6 +422,7 @@ uint32_t whatif_lay_over(const uint16_t *lower_nodes, size_t lower_nodes_len, co
  * Answers: WHATIF_ACCEPTED, or the first of 1, 2, 3, 4, 5, 6, 7, 8, 9, 10, 11. Refused, the record and both buffers are
  *          as they were.
  */
+WHATIF_NODISCARD
 uint32_t whatif_load(uint8_t *record, size_t record_len, const uint8_t *plan, size_t plan_len, const uint8_t *rules,
                      size_t rules_len, uint16_t *node_table, size_t node_table_len, uint8_t *state_table,
                      size_t state_table_len);
@@ -386,6 +442,7 @@ uint32_t whatif_load(uint8_t *record, size_t record_len, const uint8_t *plan, si
  *          record, or the tables, excess aside, are not what whatif_build writes from them. So a Start reads all that
  *          is lent. Refused, the record and *parts are as they were.
  */
+WHATIF_NODISCARD
 uint32_t whatif_start(uint8_t *record, size_t record_len, const uint8_t *plan, size_t plan_len, const uint8_t *rules,
                       size_t rules_len, const uint16_t *node_table, size_t node_table_len, const uint8_t *state_table,
                       size_t state_table_len, const uint16_t *nodes, size_t nodes_len, const uint8_t *labels,
@@ -401,6 +458,7 @@ uint32_t whatif_start(uint8_t *record, size_t record_len, const uint8_t *plan, s
  *          leaves the question as it was: with the right tables the next advance goes on. Refused, the record and
  *          *finished are as they were.
  */
+WHATIF_NODISCARD
 uint32_t whatif_advance(uint8_t *record, size_t record_len, const uint8_t *plan, size_t plan_len, const uint8_t *rules,
                         size_t rules_len, const uint16_t *node_table, size_t node_table_len,
                         const uint8_t *state_table, size_t state_table_len, uint32_t *finished);
@@ -411,6 +469,7 @@ uint32_t whatif_advance(uint8_t *record, size_t record_len, const uint8_t *plan,
  * Written: the record, as after a first Load in all but the last finished answer, which is kept.
  * Answers: WHATIF_ACCEPTED, or the first of 1. Refused, the record is as it was.
  */
+WHATIF_NODISCARD
 uint32_t whatif_cancel(uint8_t *record, size_t record_len);
 
 /*
@@ -422,6 +481,7 @@ uint32_t whatif_cancel(uint8_t *record, size_t record_len);
  * Answers: WHATIF_ACCEPTED, or the first of 1, where no question was finished since the last accepted Load. Refused,
  *          the five are as they were.
  */
+WHATIF_NODISCARD
 uint32_t whatif_read(const uint8_t *record, size_t record_len, uint32_t *state, uint32_t *yes, uint32_t *parts,
                      uint32_t *links, uint32_t *passed);
 
@@ -443,6 +503,21 @@ uint32_t whatif_read(const uint8_t *record, size_t record_len, uint32_t *state, 
  * what its Start was lent, whatif_advance says what may happen.
  *
  * The single records of the run may also be lent to the session's calls, WHATIF_RECORD_BYTES bytes each.
+ *
+ * If a record is damaged, by a flipped bit or a stray pointer, every call that names its screen gets 1, and so does
+ * Load. If its state byte says running, a deal gets 1 at its turn, with the same number again and again: one record
+ * stops all eight screens. If it is still whole, its turn may get 17 or 18, though all that is passed in is as loaded.
+ * So a deal's 1 is an idle mill only where whatif_screens_running is 0. Else the turn was that of whatif_screens_next,
+ * and its record is damaged. whatif_screens_damaged finds what a Load refuses; whatif_screens_why_1 has the sentence.
+ * Three ways out; in each the other seven go on with their questions:
+ * 1. Put a loaded record in its place (whatif_screens_replace): a copy of any of the eight, kept aside after Load. This
+ *    screen may Start at once. This is the way to take where a copy was kept.
+ * 2. Put a fresh record in its place, all zero. This screen waits for the next Load, which is no longer held up.
+ * 3. Leave it, and hand on one number more: the deal from (whatif_screens_next(..) + 1) % WHATIF_SCREENS. It is needed
+ *    each time the turn comes to the damaged record; where no other screen runs there is nothing left to deal. Load
+ *    stays refused until 1 or 2 is done.
+ * The question of the damaged screen is lost, and its last answer with 1 and 2: it is started again. A flipped bit may
+ * also leave a whole record with another list or state, which no call can see: so confirm before a cut.
  */
 
 /*
@@ -453,6 +528,7 @@ uint32_t whatif_read(const uint8_t *record, size_t record_len, uint32_t *state, 
  * Answers: WHATIF_ACCEPTED, or the first of 25, 1, 2, 3, 4, 5, 6, 7, 8, 9, 10, 11. 1 is given where a screen is running
  *          or one of the eight records is broken. Refused, the run, both buffers and *next are as they were.
  */
+WHATIF_NODISCARD
 uint32_t whatif_screens_load(uint8_t *records, size_t records_len, const uint8_t *plan, size_t plan_len,
                              const uint8_t *rules, size_t rules_len, uint16_t *node_table, size_t node_table_len,
                              uint8_t *state_table, size_t state_table_len, uint32_t *next);
@@ -464,6 +540,7 @@ uint32_t whatif_screens_load(uint8_t *records, size_t records_len, const uint8_t
  * Answers: WHATIF_ACCEPTED, or the first of 25, 1, 17, 12, 13, 14, 18, from 1 on as whatif_start gives them on this
  *          screen's record. Refused, the run and *parts are as they were.
  */
+WHATIF_NODISCARD
 uint32_t whatif_screens_start(uint8_t *records, size_t records_len, uint32_t screen, const uint8_t *plan,
                               size_t plan_len, const uint8_t *rules, size_t rules_len, const uint16_t *node_table,
                               size_t node_table_len, const uint8_t *state_table, size_t state_table_len,
@@ -481,6 +558,7 @@ uint32_t whatif_screens_start(uint8_t *records, size_t records_len, uint32_t scr
  *          screen's turn, and no other is served by it. Refused, the run, *next and *finished are as they were: with
  *          the same number the next deal tries the same screen again.
  */
+WHATIF_NODISCARD
 uint32_t whatif_screens_deal(uint8_t *records, size_t records_len, uint32_t first, const uint8_t *plan, size_t plan_len,
                              const uint8_t *rules, size_t rules_len, const uint16_t *node_table, size_t node_table_len,
                              const uint8_t *state_table, size_t state_table_len, uint32_t *next, uint32_t *finished);
@@ -491,6 +569,7 @@ uint32_t whatif_screens_deal(uint8_t *records, size_t records_len, uint32_t firs
  * Written: the record of this screen, as by whatif_cancel. The other seven stay.
  * Answers: WHATIF_ACCEPTED, or the first of 25, 1. Refused, the run is as it was.
  */
+WHATIF_NODISCARD
 uint32_t whatif_screens_cancel(uint8_t *records, size_t records_len, uint32_t screen);
 
 /*
@@ -499,6 +578,7 @@ uint32_t whatif_screens_cancel(uint8_t *records, size_t records_len, uint32_t sc
  * Written: *state, *yes, *parts, *links and *passed, as by whatif_read.
  * Answers: WHATIF_ACCEPTED, or the first of 25, 1. Refused, the five are as they were.
  */
+WHATIF_NODISCARD
 uint32_t whatif_screens_read(const uint8_t *records, size_t records_len, uint32_t screen, uint32_t *state,
                              uint32_t *yes, uint32_t *parts, uint32_t *links, uint32_t *passed);
 
@@ -521,6 +601,7 @@ uint32_t whatif_screens_read(const uint8_t *records, size_t records_len, uint32_
  *          longer buffer is untouched.
  * Answers: WHATIF_ACCEPTED, or the first of 2, 3, 4, 5, 6, 7, 8, 9, 10, 11. Refused, both buffers are as they were.
  */
+WHATIF_NODISCARD
 uint32_t whatif_colour_branch_build(const uint8_t *plan, size_t plan_len, const uint8_t *branch, size_t branch_len,
                                     uint16_t *colour_numbers, size_t colour_numbers_len, uint8_t *colour_bytes,
                                     size_t colour_bytes_len);
@@ -537,6 +618,7 @@ uint32_t whatif_colour_branch_build(const uint8_t *plan, size_t plan_len, const 
  *          number outside its limits. 18 is never given on tables as built for what is lent. On other tables the call
  *          ends as well, with 16, 18 or an answer. Refused, *state, *yes, *drops and *links are as they were.
  */
+WHATIF_NODISCARD
 uint32_t whatif_colour_branch(const uint8_t *plan, size_t plan_len, const uint8_t *branch, size_t branch_len,
                               const uint16_t *node_table, size_t node_table_len, const uint16_t *colour_numbers,
                               size_t colour_numbers_len, const uint8_t *colour_bytes, size_t colour_bytes_len,
@@ -551,6 +633,7 @@ uint32_t whatif_colour_branch(const uint8_t *plan, size_t plan_len, const uint8_
  * Answers: WHATIF_ACCEPTED, or the first of 17, 13, 16, 18, as for whatif_colour_branch; on tables not as built the
  *          parent of `upper` may lead outside too.
  */
+WHATIF_NODISCARD
 uint32_t whatif_colour_branch_with_upper(const uint8_t *plan, size_t plan_len, const uint8_t *branch, size_t branch_len,
                                          const uint16_t *node_table, size_t node_table_len,
                                          const uint16_t *colour_numbers, size_t colour_numbers_len,
@@ -566,6 +649,7 @@ uint32_t whatif_colour_branch_with_upper(const uint8_t *plan, size_t plan_len, c
  *          of whatif_build. The rest of a longer buffer is untouched.
  * Answers: WHATIF_ACCEPTED, or the first of 2, 3, 4, 5, 6, 7, 8, 9, 27, 10, 11. Refused, both buffers are as they were.
  */
+WHATIF_NODISCARD
 uint32_t whatif_colour_build(const uint8_t *plan, size_t plan_len, const uint8_t *rules, size_t rules_len,
                              uint16_t *colour_numbers, size_t colour_numbers_len, uint8_t *colour_bytes,
                              size_t colour_bytes_len);
@@ -586,6 +670,7 @@ uint32_t whatif_colour_build(const uint8_t *plan, size_t plan_len, const uint8_t
  *          given on tables as built for what is lent. On other tables the call ends as well, with 18 or an answer.
  *          Refused, the five out values are as they were.
  */
+WHATIF_NODISCARD
 uint32_t whatif_colour_ask(const uint8_t *plan, size_t plan_len, const uint8_t *rules, size_t rules_len,
                            const uint16_t *node_table, size_t node_table_len, const uint8_t *state_table,
                            size_t state_table_len, const uint16_t *colour_numbers, size_t colour_numbers_len,
@@ -593,10 +678,198 @@ uint32_t whatif_colour_ask(const uint8_t *plan, size_t plan_len, const uint8_t *
                            size_t nodes_len, const uint8_t *labels, size_t labels_len, uint32_t *state, uint32_t *yes,
                            uint32_t *drops, uint32_t *links, uint32_t *parts);
 
-/* What a record tells. These read single bytes of it, as LAYOUT.md places them. Bytes of another length, or without a
- * state, have WHATIF_NO_STATE and no parts; nothing else is tested. So a refusal 1 means: the call may not be made in
- * the state that is told, or, of a Read, there is no answer yet; or there is no state; or, where the call may be made
- * in it, other bytes of the record are broken. */
+/*
+ * For safe use: what follows is written here alone, and nothing of it is in the archive.
+ *
+ * These functions allocate nothing, keep nothing and read only what they are given. They look at a length before they
+ * read anything behind it, and write an output only where they are accepted. What they answer is tested, not proved;
+ * what the functions above answer is proved, and these call them.
+ *
+ * The mistakes that cost a blank, and what keeps from each:
+ * - An earlier question's yes on the screen: show whatif_read_current, not whatif_read.
+ * - A yes from altered tables, or for another list than the one that is cut: whatif_confirm before each cut.
+ * - A damaged record taken for an idle mill: whatif_screens_running, whatif_screens_damaged, whatif_why_1.
+ * - Outputs in the wrong order: the forms that end in _told, which write one struct with names.
+ * - A refusal that nobody looks at: every function here is WHATIF_NODISCARD.
+ */
+
+/* Counts that a header names. Each is 0 where the bytes are malformed: cut short, a count outside its limits, or
+ * offsets or length not exact (2 to 4 of a plan, 6 to 8 of a table, 19 and 21 of a planner's file). So 0 is never a
+ * count. Kinds, labels, states and marks are not looked at. */
+WHATIF_NODISCARD static inline uint32_t whatif_number(const uint8_t *at) {
+    return (uint32_t)at[0] | (uint32_t)at[1] << 8 | (uint32_t)at[2] << 16 | (uint32_t)at[3] << 24;
+}
+
+/* N of a plan, 1 to WHATIF_MAX_NODES. */
+WHATIF_NODISCARD static inline uint32_t whatif_plan_nodes(const uint8_t *plan, size_t plan_len) {
+    uint32_t n = plan_len < 12u ? 0u : whatif_number(plan);
+    if (n < 1u || n > WHATIF_MAX_NODES || plan_len != WHATIF_PLAN_BYTES(n))
+        return 0u;
+    return whatif_number(plan + 4) == 12u && whatif_number(plan + 8) == 12u + n ? n : 0u;
+}
+
+/* n of a planner's file, 1 to WHATIF_MAX_PLANNER_NODES: its plan has 2n+1 nodes. */
+WHATIF_NODISCARD static inline uint32_t whatif_planner_nodes(const uint8_t *file, size_t file_len) {
+    uint32_t n = whatif_plan_nodes(file, file_len); /* the two headers are alike */
+    return n <= WHATIF_MAX_PLANNER_NODES ? n : 0u;
+}
+
+/* 1 where the first two numbers of a table are an S and a K within their limits, else 0. */
+WHATIF_NODISCARD static inline uint32_t whatif_table_counts(const uint8_t *table, size_t table_len) {
+    uint32_t s = table_len < 16u ? 0u : whatif_number(table), k = table_len < 16u ? 0u : whatif_number(table + 4);
+    return s >= 1u && s <= WHATIF_MAX_STATES && k >= 1u && k <= WHATIF_MAX_LABELS ? 1u : 0u;
+}
+
+/* S of a rule table, 1 to WHATIF_MAX_STATES. */
+WHATIF_NODISCARD static inline uint32_t whatif_rules_states(const uint8_t *rules, size_t rules_len) {
+    uint32_t s, k;
+    if (!whatif_table_counts(rules, rules_len))
+        return 0u;
+    s = whatif_number(rules);
+    k = whatif_number(rules + 4);
+    if (rules_len != WHATIF_RULES_BYTES(s, k) || whatif_number(rules + 8) != 20u)
+        return 0u;
+    return whatif_number(rules + 12) == 20u + k && whatif_number(rules + 16) == 20u + k + s * k * s ? s : 0u;
+}
+
+/* K of a rule table, 1 to WHATIF_MAX_LABELS. */
+WHATIF_NODISCARD static inline uint32_t whatif_rules_labels(const uint8_t *rules, size_t rules_len) {
+    return whatif_rules_states(rules, rules_len) ? whatif_number(rules + 4) : 0u;
+}
+
+/* S of a branch table, 1 to WHATIF_MAX_STATES. */
+WHATIF_NODISCARD static inline uint32_t whatif_branch_states(const uint8_t *branch, size_t branch_len) {
+    uint32_t s, k;
+    if (!whatif_table_counts(branch, branch_len))
+        return 0u;
+    s = whatif_number(branch);
+    k = whatif_number(branch + 4);
+    if (branch_len != WHATIF_BRANCH_BYTES(s, k) || whatif_number(branch + 8) != 16u)
+        return 0u;
+    return whatif_number(branch + 12) == 16u + s * k ? s : 0u;
+}
+
+/* K of a branch table, 1 to WHATIF_MAX_LABELS. */
+WHATIF_NODISCARD static inline uint32_t whatif_branch_labels(const uint8_t *branch, size_t branch_len) {
+    return whatif_branch_states(branch, branch_len) ? whatif_number(branch + 4) : 0u;
+}
+
+/* Used by the writers: a number as four bytes, a run of bytes, and what they check. */
+static inline void whatif_put_number(uint8_t *at, size_t number) {
+    for (size_t i = 0; i < 4; i++)
+        at[i] = (uint8_t)(number >> (8 * i) & 255u);
+}
+
+static inline void whatif_put_bytes(uint8_t *to, const uint8_t *from, size_t count) {
+    for (size_t i = 0; i < count; i++)
+        to[i] = from[i];
+}
+
+WHATIF_NODISCARD static inline uint32_t whatif_all_below(const uint8_t *bytes, size_t count, size_t limit) {
+    for (size_t i = 0; i < count; i++)
+        if (bytes[i] >= limit)
+            return 0u;
+    return 1u;
+}
+
+WHATIF_NODISCARD static inline uint32_t whatif_one_tree(const uint8_t *kinds, size_t count) {
+    size_t waiting = 0;
+    for (size_t v = 0; v < count; v++) {
+        if (kinds[v] > 1u || (kinds[v] == 1u && waiting < 2u))
+            return 0u;
+        waiting = kinds[v] == 1u ? waiting - 1u : waiting + 1u;
+    }
+    return waiting == 1u ? 1u : 0u;
+}
+
+/*
+ * Writes a plan from its labels and kinds (0 leaf, 1 inner), one of each for a node, in post-order.
+ * Written: the first WHATIF_PLAN_BYTES(labels_len) bytes of plan. Load takes exactly these: pass that length on.
+ * Answers: WHATIF_ACCEPTED, or the first of 3, 4, 5, 11: 4 where there are not as many kinds as labels, 11 where plan
+ *          is too short. Refused, plan is unchanged. Accepted, the plan passes 2 to 5; whether the rule table has all
+ *          its labels is asked by Load (10).
+ */
+WHATIF_NODISCARD static inline uint32_t whatif_write_plan(const uint8_t *labels, size_t labels_len,
+                                                          const uint8_t *kinds, size_t kinds_len, uint8_t *plan,
+                                                          size_t plan_len) {
+    size_t n = labels_len;
+    if (n < 1u || n > WHATIF_MAX_NODES)
+        return WHATIF_REFUSED_NODE_COUNT;
+    if (kinds_len != n)
+        return WHATIF_REFUSED_PLAN_LAYOUT;
+    if (!whatif_one_tree(kinds, n))
+        return WHATIF_REFUSED_PLAN_TREE;
+    if (plan_len < WHATIF_PLAN_BYTES(n))
+        return WHATIF_REFUSED_BUFFER_SHORT;
+    whatif_put_number(plan, n);
+    whatif_put_number(plan + 4, 12u);
+    whatif_put_number(plan + 8, 12u + n);
+    whatif_put_bytes(plan + 12, labels, n);
+    whatif_put_bytes(plan + 12 + n, kinds, n);
+    return WHATIF_ACCEPTED;
+}
+
+/*
+ * Writes a rule table. S is marks_len, K is leaf_len. leaf[a] is the state of a leaf with label a. inner is an array
+ * uint8_t inner[S][K][S]: inner[p][a][q] is the state of an inner node with left state p, label a, right state q.
+ * marks[s] is 1 where state s clears the plan, else 0.
+ * Written: the first WHATIF_RULES_BYTES(S, K) bytes of rules. Load takes exactly these: pass that length on.
+ * Answers: WHATIF_ACCEPTED, or the first of 7, 8, 9, 11: 8 where inner_len is not S * K * S, 11 where rules is too
+ *          short. Refused, rules is unchanged. Accepted, the table passes 6 to 9.
+ */
+WHATIF_NODISCARD static inline uint32_t whatif_write_rules(const uint8_t *leaf, size_t leaf_len, const uint8_t *inner,
+                                                           size_t inner_len, const uint8_t *marks, size_t marks_len,
+                                                           uint8_t *rules, size_t rules_len) {
+    size_t s = marks_len, k = leaf_len;
+    if (s < 1u || s > WHATIF_MAX_STATES || k < 1u || k > WHATIF_MAX_LABELS)
+        return WHATIF_REFUSED_TABLE_COUNTS;
+    if (inner_len != s * k * s)
+        return WHATIF_REFUSED_TABLE_LAYOUT;
+    if (!whatif_all_below(leaf, k, s) || !whatif_all_below(inner, inner_len, s) || !whatif_all_below(marks, s, 2u))
+        return WHATIF_REFUSED_TABLE_ENTRY;
+    if (rules_len < WHATIF_RULES_BYTES(s, k))
+        return WHATIF_REFUSED_BUFFER_SHORT;
+    whatif_put_number(rules, s);
+    whatif_put_number(rules + 4, k);
+    whatif_put_number(rules + 8, 20u);
+    whatif_put_number(rules + 12, 20u + k);
+    whatif_put_number(rules + 16, 20u + k + inner_len);
+    whatif_put_bytes(rules + 20, leaf, k);
+    whatif_put_bytes(rules + 20 + k, inner, inner_len);
+    whatif_put_bytes(rules + 20 + k + inner_len, marks, s);
+    return WHATIF_ACCEPTED;
+}
+
+/*
+ * Writes a branch table. S is marks_len, K is steps_len / S. steps is an array uint8_t steps[S][K]: steps[s][a] is the
+ * state after state s reads label a; state 0 is the start. marks[s] is 1 where a word that ends in s gets yes, else 0.
+ * Written: the first WHATIF_BRANCH_BYTES(S, K) bytes of branch. The builds take exactly these: pass that length on.
+ * Answers: WHATIF_ACCEPTED, or the first of 7, 8, 9, 11: 8 where steps_len is not a multiple of S, 11 where branch is
+ *          too short. Refused, branch is unchanged. Accepted, the table passes 6 to 9.
+ */
+WHATIF_NODISCARD static inline uint32_t whatif_write_branch(const uint8_t *steps, size_t steps_len,
+                                                            const uint8_t *marks, size_t marks_len, uint8_t *branch,
+                                                            size_t branch_len) {
+    size_t s = marks_len, k = s < 1u || s > WHATIF_MAX_STATES ? 0u : steps_len / s;
+    if (k < 1u || k > WHATIF_MAX_LABELS)
+        return WHATIF_REFUSED_TABLE_COUNTS;
+    if (steps_len != s * k)
+        return WHATIF_REFUSED_TABLE_LAYOUT;
+    if (!whatif_all_below(steps, steps_len, s) || !whatif_all_below(marks, s, 2u))
+        return WHATIF_REFUSED_TABLE_ENTRY;
+    if (branch_len < WHATIF_BRANCH_BYTES(s, k))
+        return WHATIF_REFUSED_BUFFER_SHORT;
+    whatif_put_number(branch, s);
+    whatif_put_number(branch + 4, k);
+    whatif_put_number(branch + 8, 16u);
+    whatif_put_number(branch + 12, 16u + steps_len);
+    whatif_put_bytes(branch + 16, steps, steps_len);
+    whatif_put_bytes(branch + 16 + steps_len, marks, s);
+    return WHATIF_ACCEPTED;
+}
+
+/* What a record says. These read single bytes of it, as LAYOUT.md places them. Bytes of another length, or without a
+ * state, have WHATIF_NO_STATE and zeros; nothing else is tested. whatif_why_1, below, says what a refusal 1 means. */
 enum whatif_state {
     WHATIF_EMPTY = 0,
     WHATIF_LOADED = 1,
@@ -605,45 +878,102 @@ enum whatif_state {
     WHATIF_NO_STATE = 4
 };
 
-static inline uint32_t whatif_session_state(const uint8_t *record, size_t record_len) {
+WHATIF_NODISCARD static inline uint32_t whatif_session_state(const uint8_t *record, size_t record_len) {
     return record_len == WHATIF_RECORD_BYTES && record[0] < WHATIF_NO_STATE ? record[0] : (uint32_t)WHATIF_NO_STATE;
 }
 
 /* The parts of a question that is running or answered, else 0. */
-static inline uint32_t whatif_parts(const uint8_t *record, size_t record_len) {
+WHATIF_NODISCARD static inline uint32_t whatif_parts(const uint8_t *record, size_t record_len) {
     return whatif_session_state(record, record_len) == WHATIF_NO_STATE ? 0u : (uint32_t)record[7];
 }
 
 /* How many of them are handled. */
-static inline uint32_t whatif_parts_done(const uint8_t *record, size_t record_len) {
+WHATIF_NODISCARD static inline uint32_t whatif_parts_done(const uint8_t *record, size_t record_len) {
     return whatif_session_state(record, record_len) == WHATIF_NO_STATE ? 0u : (uint32_t)record[8];
 }
 
+/* S, K and N of the plan and the rule table that were loaded, 0 before a Load. */
+WHATIF_NODISCARD static inline uint32_t whatif_record_states(const uint8_t *record, size_t record_len) {
+    return whatif_session_state(record, record_len) == WHATIF_NO_STATE ? 0u : (uint32_t)record[2];
+}
+
+WHATIF_NODISCARD static inline uint32_t whatif_record_labels(const uint8_t *record, size_t record_len) {
+    return whatif_session_state(record, record_len) == WHATIF_NO_STATE ? 0u : (uint32_t)record[3];
+}
+
+WHATIF_NODISCARD static inline uint32_t whatif_record_nodes(const uint8_t *record, size_t record_len) {
+    if (whatif_session_state(record, record_len) == WHATIF_NO_STATE)
+        return 0u;
+    return (uint32_t)record[4] | (uint32_t)record[5] << 8;
+}
+
+/* How many changes the question lists that is running or answered, 0 to WHATIF_MAX_CHANGES, else 0. */
+WHATIF_NODISCARD static inline uint32_t whatif_listed(const uint8_t *record, size_t record_len) {
+    if (whatif_session_state(record, record_len) == WHATIF_NO_STATE || record[6] > WHATIF_MAX_CHANGES)
+        return 0u;
+    return (uint32_t)record[6];
+}
+
+/* Node and label of entry i of that list, as Start was given them; 0 where i is not below whatif_listed. */
+WHATIF_NODISCARD static inline uint32_t whatif_listed_node(const uint8_t *record, size_t record_len, size_t i) {
+    if (i >= whatif_listed(record, record_len))
+        return 0u;
+    return (uint32_t)record[13 + 2 * i] | (uint32_t)record[14 + 2 * i] << 8;
+}
+
+WHATIF_NODISCARD static inline uint32_t whatif_listed_label(const uint8_t *record, size_t record_len, size_t i) {
+    if (i >= whatif_listed(record, record_len))
+        return 0u;
+    return (uint32_t)record[141 + i];
+}
+
 /* The same of a screen of a run. A run of another length and a screen above 7 have WHATIF_NO_STATE and no parts. */
-static inline uint32_t whatif_screens_state(const uint8_t *records, size_t records_len, uint32_t screen) {
+WHATIF_NODISCARD static inline uint32_t whatif_screens_state(const uint8_t *records, size_t records_len,
+                                                             uint32_t screen) {
     return records_len == WHATIF_SCREENS_BYTES && screen < WHATIF_SCREENS
                ? whatif_session_state(records + WHATIF_RECORD_BYTES * screen, WHATIF_RECORD_BYTES)
                : (uint32_t)WHATIF_NO_STATE;
 }
 
-static inline uint32_t whatif_screens_parts(const uint8_t *records, size_t records_len, uint32_t screen) {
+WHATIF_NODISCARD static inline uint32_t whatif_screens_parts(const uint8_t *records, size_t records_len,
+                                                             uint32_t screen) {
     return whatif_screens_state(records, records_len, screen) == WHATIF_NO_STATE
                ? 0u
                : whatif_parts(records + WHATIF_RECORD_BYTES * screen, WHATIF_RECORD_BYTES);
 }
 
-static inline uint32_t whatif_screens_parts_done(const uint8_t *records, size_t records_len, uint32_t screen) {
+WHATIF_NODISCARD static inline uint32_t whatif_screens_parts_done(const uint8_t *records, size_t records_len,
+                                                                  uint32_t screen) {
     return whatif_screens_state(records, records_len, screen) == WHATIF_NO_STATE
                ? 0u
                : whatif_parts_done(records + WHATIF_RECORD_BYTES * screen, WHATIF_RECORD_BYTES);
 }
 
-/* The screen that a deal served, of the number that it told. */
-static inline uint32_t whatif_screens_served(uint32_t next) {
+/* The screen that a deal served, of the number that it returned. */
+WHATIF_NODISCARD static inline uint32_t whatif_screens_served(uint32_t next) {
     return (next + WHATIF_SCREENS - 1u) % WHATIF_SCREENS;
 }
 
-/* What is lent with each Start and advance, as one struct: members have names, so plan and rules are not exchanged. */
+/* The screen that a deal from `first` would serve: the next whose state byte says running. WHATIF_SCREENS where none
+ * is, where first is above 7 and where the run has another length. */
+WHATIF_NODISCARD static inline uint32_t whatif_screens_next(const uint8_t *records, size_t records_len,
+                                                            uint32_t first) {
+    for (uint32_t i = 0; first < WHATIF_SCREENS && i < WHATIF_SCREENS; i++)
+        if (whatif_screens_state(records, records_len, (first + i) % WHATIF_SCREENS) == WHATIF_RUNNING)
+            return (first + i) % WHATIF_SCREENS;
+    return WHATIF_SCREENS;
+}
+
+/* How many screens are running by their state bytes, 0 to 8. A deal's 1 means an idle mill only where this is 0. */
+WHATIF_NODISCARD static inline uint32_t whatif_screens_running(const uint8_t *records, size_t records_len) {
+    uint32_t count = 0;
+    for (uint32_t i = 0; i < WHATIF_SCREENS; i++)
+        count += whatif_screens_state(records, records_len, i) == WHATIF_RUNNING ? 1u : 0u;
+    return count;
+}
+
+/* What is passed in with each Start and advance, as one struct: members have names, so plan and rules are not
+ * exchanged. whatif_load_lent fills it. */
 struct whatif_lent {
     const uint8_t *plan;
     size_t plan_len;
@@ -655,40 +985,410 @@ struct whatif_lent {
     size_t state_table_len;
 };
 
-/* whatif_start with what is lent as one struct, and count nodes with as many labels. */
-static inline uint32_t whatif_start_lent(uint8_t *record, size_t record_len, const struct whatif_lent *lent,
-                                         const uint16_t *nodes, const uint8_t *labels, size_t count, uint32_t *parts) {
+/* The caller's memory for one plan: what Load reads, and the two tables that it writes. The macros
+ * WHATIF_NODE_TABLE_LEN and WHATIF_STATE_TABLE_LEN have the counts of elements that these need. */
+struct whatif_buffers {
+    const uint8_t *plan;
+    size_t plan_len;
+    const uint8_t *rules;
+    size_t rules_len;
+    uint16_t *node_table;
+    size_t node_table_len;
+    uint8_t *state_table;
+    size_t state_table_len;
+};
+
+/* The same memory as the calls after Load take it. */
+WHATIF_NODISCARD static inline struct whatif_lent whatif_lent_of(const struct whatif_buffers *buffers) {
+    struct whatif_lent lent;
+    lent.plan = buffers->plan;
+    lent.plan_len = buffers->plan_len;
+    lent.rules = buffers->rules;
+    lent.rules_len = buffers->rules_len;
+    lent.node_table = buffers->node_table;
+    lent.node_table_len = buffers->node_table_len;
+    lent.state_table = buffers->state_table;
+    lent.state_table_len = buffers->state_table_len;
+    return lent;
+}
+
+/* whatif_load with the caller's memory as one struct. Accepted, *lent is what Start and the advances take; refused, it
+ * is unchanged. */
+WHATIF_NODISCARD static inline uint32_t
+whatif_load_lent(uint8_t *record, size_t record_len, const struct whatif_buffers *buffers, struct whatif_lent *lent) {
+    uint32_t answer =
+        whatif_load(record, record_len, buffers->plan, buffers->plan_len, buffers->rules, buffers->rules_len,
+                    buffers->node_table, buffers->node_table_len, buffers->state_table, buffers->state_table_len);
+    if (answer == WHATIF_ACCEPTED)
+        *lent = whatif_lent_of(buffers);
+    return answer;
+}
+
+/* whatif_screens_load in the same way. */
+WHATIF_NODISCARD static inline uint32_t whatif_screens_load_lent(uint8_t *records, size_t records_len,
+                                                                 const struct whatif_buffers *buffers,
+                                                                 struct whatif_lent *lent, uint32_t *next) {
+    uint32_t answer = whatif_screens_load(records, records_len, buffers->plan, buffers->plan_len, buffers->rules,
+                                          buffers->rules_len, buffers->node_table, buffers->node_table_len,
+                                          buffers->state_table, buffers->state_table_len, next);
+    if (answer == WHATIF_ACCEPTED)
+        *lent = whatif_lent_of(buffers);
+    return answer;
+}
+
+/* whatif_start with what is passed in as one struct, and count nodes with as many labels. */
+WHATIF_NODISCARD static inline uint32_t whatif_start_lent(uint8_t *record, size_t record_len,
+                                                          const struct whatif_lent *lent, const uint16_t *nodes,
+                                                          const uint8_t *labels, size_t count, uint32_t *parts) {
     return whatif_start(record, record_len, lent->plan, lent->plan_len, lent->rules, lent->rules_len, lent->node_table,
                         lent->node_table_len, lent->state_table, lent->state_table_len, nodes, count, labels, count,
                         parts);
 }
 
-/* whatif_advance with what is lent as one struct. */
-static inline uint32_t whatif_advance_lent(uint8_t *record, size_t record_len, const struct whatif_lent *lent,
-                                           uint32_t *finished) {
+/* whatif_advance with what is passed in as one struct. */
+WHATIF_NODISCARD static inline uint32_t whatif_advance_lent(uint8_t *record, size_t record_len,
+                                                            const struct whatif_lent *lent, uint32_t *finished) {
     return whatif_advance(record, record_len, lent->plan, lent->plan_len, lent->rules, lent->rules_len,
                           lent->node_table, lent->node_table_len, lent->state_table, lent->state_table_len, finished);
 }
 
-/* whatif_screens_start with what is lent as one struct, and count nodes with as many labels. */
-static inline uint32_t whatif_screens_start_lent(uint8_t *records, size_t records_len, uint32_t screen,
-                                                 const struct whatif_lent *lent, const uint16_t *nodes,
-                                                 const uint8_t *labels, size_t count, uint32_t *parts) {
+/* whatif_screens_start with what is passed in as one struct, and count nodes with as many labels. */
+WHATIF_NODISCARD static inline uint32_t whatif_screens_start_lent(uint8_t *records, size_t records_len, uint32_t screen,
+                                                                  const struct whatif_lent *lent, const uint16_t *nodes,
+                                                                  const uint8_t *labels, size_t count,
+                                                                  uint32_t *parts) {
     return whatif_screens_start(records, records_len, screen, lent->plan, lent->plan_len, lent->rules, lent->rules_len,
                                 lent->node_table, lent->node_table_len, lent->state_table, lent->state_table_len, nodes,
                                 count, labels, count, parts);
 }
 
-/* whatif_screens_deal with what is lent as one struct. */
-static inline uint32_t whatif_screens_deal_lent(uint8_t *records, size_t records_len, uint32_t first,
-                                                const struct whatif_lent *lent, uint32_t *next, uint32_t *finished) {
+/* whatif_screens_deal with what is passed in as one struct. */
+WHATIF_NODISCARD static inline uint32_t whatif_screens_deal_lent(uint8_t *records, size_t records_len, uint32_t first,
+                                                                 const struct whatif_lent *lent, uint32_t *next,
+                                                                 uint32_t *finished) {
     return whatif_screens_deal(records, records_len, first, lent->plan, lent->plan_len, lent->rules, lent->rules_len,
                                lent->node_table, lent->node_table_len, lent->state_table, lent->state_table_len, next,
                                finished);
 }
 
+/* What a question answers, with names: the outputs of a call in one struct, so that none is taken for another. A value
+ * that the question does not have is 0. Begin with a struct that is all zero: where the call is refused, it says no. */
+struct whatif_told {
+    uint32_t state;  /* the state at the end: of the root, or after the last label of a word */
+    uint32_t yes;    /* 1 where that state is accepted, else 0; of whatif_agree, 1 where the tables agree */
+    uint32_t parts;  /* the number of parts */
+    uint32_t links;  /* the moves of the climbs or of the searches */
+    uint32_t passed; /* the nodes that the climbs passed over */
+    uint32_t drops;  /* the places where a colour falls */
+    uint32_t lines;  /* the lines that whatif_agree wrote */
+};
+
+WHATIF_NODISCARD static inline struct whatif_told whatif_nothing_told(void) {
+    struct whatif_told nothing = {0u, 0u, 0u, 0u, 0u, 0u, 0u};
+    return nothing;
+}
+
+/*
+ * The forms that end in _told: the call of that name, with the same inputs and checks, and its outputs as one struct.
+ * Refused, *told is unchanged.
+ */
+WHATIF_NODISCARD static inline uint32_t whatif_fresh_run_told(const uint8_t *plan, size_t plan_len,
+                                                              const uint8_t *rules, size_t rules_len,
+                                                              const uint16_t *nodes, size_t nodes_len,
+                                                              const uint8_t *labels, size_t labels_len,
+                                                              struct whatif_told *told) {
+    struct whatif_told now = whatif_nothing_told();
+    uint32_t answer =
+        whatif_fresh_run(plan, plan_len, rules, rules_len, nodes, nodes_len, labels, labels_len, &now.state, &now.yes);
+    if (answer == WHATIF_ACCEPTED)
+        *told = now;
+    return answer;
+}
+
+WHATIF_NODISCARD static inline uint32_t whatif_branch_told(const uint8_t *plan, size_t plan_len, const uint8_t *branch,
+                                                           size_t branch_len, const uint16_t *node_table,
+                                                           size_t node_table_len, const uint8_t *state_table,
+                                                           size_t state_table_len, uint32_t upper, uint32_t lower,
+                                                           struct whatif_told *told) {
+    struct whatif_told now = whatif_nothing_told();
+    uint32_t answer = whatif_branch(plan, plan_len, branch, branch_len, node_table, node_table_len, state_table,
+                                    state_table_len, upper, lower, &now.state, &now.yes, &now.links, &now.passed);
+    if (answer == WHATIF_ACCEPTED)
+        *told = now;
+    return answer;
+}
+
+WHATIF_NODISCARD static inline uint32_t
+whatif_branch_with_upper_told(const uint8_t *plan, size_t plan_len, const uint8_t *branch, size_t branch_len,
+                              const uint16_t *node_table, size_t node_table_len, const uint8_t *state_table,
+                              size_t state_table_len, uint32_t upper, uint32_t lower, struct whatif_told *told) {
+    struct whatif_told now = whatif_nothing_told();
+    uint32_t answer =
+        whatif_branch_with_upper(plan, plan_len, branch, branch_len, node_table, node_table_len, state_table,
+                                 state_table_len, upper, lower, &now.state, &now.yes, &now.links, &now.passed);
+    if (answer == WHATIF_ACCEPTED)
+        *told = now;
+    return answer;
+}
+
+WHATIF_NODISCARD static inline uint32_t whatif_count_told(const uint8_t *plan, size_t plan_len, const uint8_t *rules,
+                                                          size_t rules_len, const uint16_t *node_table,
+                                                          size_t node_table_len, const uint8_t *state_table,
+                                                          size_t state_table_len, const uint16_t *nodes,
+                                                          size_t nodes_len, uint64_t *counts, size_t counts_len,
+                                                          struct whatif_told *told) {
+    struct whatif_told now = whatif_nothing_told();
+    uint32_t answer = whatif_count(plan, plan_len, rules, rules_len, node_table, node_table_len, state_table,
+                                   state_table_len, nodes, nodes_len, counts, counts_len, &now.parts, &now.links);
+    if (answer == WHATIF_ACCEPTED)
+        *told = now;
+    return answer;
+}
+
+WHATIF_NODISCARD static inline uint32_t whatif_agree_told(const uint8_t *first, size_t first_len, const uint8_t *second,
+                                                          size_t second_len, uint16_t *lines, size_t lines_len,
+                                                          struct whatif_told *told) {
+    struct whatif_told now = whatif_nothing_told();
+    uint32_t answer = whatif_agree(first, first_len, second, second_len, lines, lines_len, &now.yes, &now.lines);
+    if (answer == WHATIF_ACCEPTED)
+        *told = now;
+    return answer;
+}
+
+WHATIF_NODISCARD static inline uint32_t whatif_read_told(const uint8_t *record, size_t record_len,
+                                                         struct whatif_told *told) {
+    struct whatif_told now = whatif_nothing_told();
+    uint32_t answer = whatif_read(record, record_len, &now.state, &now.yes, &now.parts, &now.links, &now.passed);
+    if (answer == WHATIF_ACCEPTED)
+        *told = now;
+    return answer;
+}
+
+WHATIF_NODISCARD static inline uint32_t whatif_screens_read_told(const uint8_t *records, size_t records_len,
+                                                                 uint32_t screen, struct whatif_told *told) {
+    struct whatif_told now = whatif_nothing_told();
+    uint32_t answer =
+        whatif_screens_read(records, records_len, screen, &now.state, &now.yes, &now.parts, &now.links, &now.passed);
+    if (answer == WHATIF_ACCEPTED)
+        *told = now;
+    return answer;
+}
+
+WHATIF_NODISCARD static inline uint32_t
+whatif_colour_branch_told(const uint8_t *plan, size_t plan_len, const uint8_t *branch, size_t branch_len,
+                          const uint16_t *node_table, size_t node_table_len, const uint16_t *colour_numbers,
+                          size_t colour_numbers_len, const uint8_t *colour_bytes, size_t colour_bytes_len,
+                          uint32_t upper, uint32_t lower, struct whatif_told *told) {
+    struct whatif_told now = whatif_nothing_told();
+    uint32_t answer = whatif_colour_branch(plan, plan_len, branch, branch_len, node_table, node_table_len,
+                                           colour_numbers, colour_numbers_len, colour_bytes, colour_bytes_len, upper,
+                                           lower, &now.state, &now.yes, &now.drops, &now.links);
+    if (answer == WHATIF_ACCEPTED)
+        *told = now;
+    return answer;
+}
+
+WHATIF_NODISCARD static inline uint32_t
+whatif_colour_branch_with_upper_told(const uint8_t *plan, size_t plan_len, const uint8_t *branch, size_t branch_len,
+                                     const uint16_t *node_table, size_t node_table_len, const uint16_t *colour_numbers,
+                                     size_t colour_numbers_len, const uint8_t *colour_bytes, size_t colour_bytes_len,
+                                     uint32_t upper, uint32_t lower, struct whatif_told *told) {
+    struct whatif_told now = whatif_nothing_told();
+    uint32_t answer = whatif_colour_branch_with_upper(
+        plan, plan_len, branch, branch_len, node_table, node_table_len, colour_numbers, colour_numbers_len,
+        colour_bytes, colour_bytes_len, upper, lower, &now.state, &now.yes, &now.drops, &now.links);
+    if (answer == WHATIF_ACCEPTED)
+        *told = now;
+    return answer;
+}
+
+WHATIF_NODISCARD static inline uint32_t
+whatif_colour_ask_told(const uint8_t *plan, size_t plan_len, const uint8_t *rules, size_t rules_len,
+                       const uint16_t *node_table, size_t node_table_len, const uint8_t *state_table,
+                       size_t state_table_len, const uint16_t *colour_numbers, size_t colour_numbers_len,
+                       const uint8_t *colour_bytes, size_t colour_bytes_len, const uint16_t *nodes, size_t nodes_len,
+                       const uint8_t *labels, size_t labels_len, struct whatif_told *told) {
+    struct whatif_told now = whatif_nothing_told();
+    uint32_t answer =
+        whatif_colour_ask(plan, plan_len, rules, rules_len, node_table, node_table_len, state_table, state_table_len,
+                          colour_numbers, colour_numbers_len, colour_bytes, colour_bytes_len, nodes, nodes_len, labels,
+                          labels_len, &now.state, &now.yes, &now.drops, &now.links, &now.parts);
+    if (answer == WHATIF_ACCEPTED)
+        *told = now;
+    return answer;
+}
+
+/* What a deal answers, with names. */
+struct whatif_dealt {
+    uint32_t screen;   /* the screen that was served */
+    uint32_t next;     /* the number to hand to the next deal */
+    uint32_t finished; /* 1 where that was the last part of its question, else 0 */
+};
+
+/* whatif_screens_deal_lent with its outputs as one struct. Refused, *dealt is unchanged. */
+WHATIF_NODISCARD static inline uint32_t whatif_screens_deal_told(uint8_t *records, size_t records_len, uint32_t first,
+                                                                 const struct whatif_lent *lent,
+                                                                 struct whatif_dealt *dealt) {
+    struct whatif_dealt now = {0u, 0u, 0u};
+    uint32_t answer = whatif_screens_deal_lent(records, records_len, first, lent, &now.next, &now.finished);
+    if (answer != WHATIF_ACCEPTED)
+        return answer;
+    now.screen = whatif_screens_served(now.next);
+    *dealt = now;
+    return answer;
+}
+
+/*
+ * The answer to the question that was started last, and to no other: what a panel shows.
+ * whatif_read returns the last finished answer in every state. While a question is running, or after a Cancel, that is
+ * the answer to an earlier question, with an earlier list.
+ * Answers: WHATIF_ACCEPTED, or 1 unless the session is answered. Refused, *told is unchanged.
+ * A refused Start is no question: the session stays answered with the earlier one, and so does this. Look at the answer
+ * of Start before, and confirm a yes with the list before a cut.
+ */
+WHATIF_NODISCARD static inline uint32_t whatif_read_current(const uint8_t *record, size_t record_len,
+                                                            struct whatif_told *told) {
+    return whatif_session_state(record, record_len) == WHATIF_ANSWERED ? whatif_read_told(record, record_len, told)
+                                                                       : (uint32_t)WHATIF_REFUSED_SESSION_STATE;
+}
+
+/* The same on a screen. Answers: WHATIF_ACCEPTED, or the first of 25, 1. */
+WHATIF_NODISCARD static inline uint32_t whatif_screens_read_current(const uint8_t *records, size_t records_len,
+                                                                    uint32_t screen, struct whatif_told *told) {
+    if (records_len != WHATIF_SCREENS_BYTES || screen >= WHATIF_SCREENS)
+        return WHATIF_REFUSED_SCREEN;
+    return whatif_read_current(records + WHATIF_RECORD_BYTES * screen, WHATIF_RECORD_BYTES, told);
+}
+
+/* Why whatif_confirm says what it says. The numbers are fixed for good. */
+enum whatif_reason {
+    /* Nothing was compared: whatif_confirm was not called. */
+    WHATIF_CONFIRM_NOTHING = 0,
+    /* Cleared: the session and a fresh run both say yes to this list. */
+    WHATIF_CONFIRM_CLEARED = 1,
+    /* Not cleared: the session and a fresh run both say no to this list. */
+    WHATIF_CONFIRM_NOT_CLEARED = 2,
+    /* The session is not answered, or its record is damaged. */
+    WHATIF_CONFIRM_NO_ANSWER = 3,
+    /* The plan or the rule table is malformed, or names other counts than the session. */
+    WHATIF_CONFIRM_OTHER_COUNTS = 4,
+    /* This is not the list that the session answered, entry by entry. */
+    WHATIF_CONFIRM_OTHER_LIST = 5,
+    /* The fresh run refused the plan, the rule table or the list. */
+    WHATIF_CONFIRM_RUN_REFUSED = 6,
+    /* The fresh run ends otherwise than the session: plan, rules or tables were altered. */
+    WHATIF_CONFIRM_DIFFERS = 7
+};
+
+/* What whatif_confirm returns. A struct and no number, so that `if (whatif_confirm(..))` does not compile; all zero
+ * means do not cut. */
+struct whatif_confirmed {
+    uint32_t cut;     /* 1 where the blank may be cut, else 0 */
+    uint32_t reason;  /* of enum whatif_reason; whatif_confirm_text has its sentence */
+    uint32_t refusal; /* of WHATIF_CONFIRM_NO_ANSWER and WHATIF_CONFIRM_RUN_REFUSED the refusal's number, else 0 */
+};
+
+/* Used by whatif_confirm: 1 where the record lists exactly these changes, in this order. */
+WHATIF_NODISCARD static inline uint32_t whatif_same_list(const uint8_t *record, size_t record_len,
+                                                         const uint16_t *nodes, const uint8_t *labels, size_t count) {
+    if (count != whatif_listed(record, record_len))
+        return 0u;
+    for (size_t i = 0; i < count; i++)
+        if (whatif_listed_node(record, record_len, i) != nodes[i] ||
+            whatif_listed_label(record, record_len, i) != labels[i])
+            return 0u;
+    return 1u;
+}
+
+/* Used by whatif_confirm: 1 where plan and rule table name the record's N, S and K. */
+WHATIF_NODISCARD static inline uint32_t whatif_same_counts(const uint8_t *record, size_t record_len,
+                                                           const struct whatif_lent *lent) {
+    return whatif_record_nodes(record, record_len) == whatif_plan_nodes(lent->plan, lent->plan_len) &&
+                   whatif_record_states(record, record_len) == whatif_rules_states(lent->rules, lent->rules_len) &&
+                   whatif_record_labels(record, record_len) == whatif_rules_labels(lent->rules, lent->rules_len)
+               ? 1u
+               : 0u;
+}
+
+WHATIF_NODISCARD static inline struct whatif_confirmed whatif_confirmed_as(enum whatif_reason reason,
+                                                                           uint32_t refusal) {
+    struct whatif_confirmed confirmed = {0u, 0u, 0u};
+    confirmed.cut = reason == WHATIF_CONFIRM_CLEARED ? 1u : 0u;
+    confirmed.reason = (uint32_t)reason;
+    confirmed.refusal = refusal;
+    return confirmed;
+}
+
+/*
+ * Confirm before cutting: may the blank be cut with this plan, these rules and this list?
+ * Given:   the session's record; of *lent the plan and the rule table that will be cut, its tables are not read; the
+ *          list that will be cut: count nodes and as many labels.
+ * Checked: the session is answered (3); plan and rule table name its N, S and K (4); the record lists exactly these
+ *          changes (5); a fresh run of this plan and these rules with this list is accepted (6), and ends in the
+ *          session's state with the session's yes or no (7). Then yes (1) or no (2).
+ * Returns: cut, 1 only where all of this holds and both say yes; the reason, the first of 3, 4, 5, 6, 7 that does not
+ *          hold, else 1 or 2; the refusal's number where there is one.
+ * After a yes the blank depends on no table, record or jump: whatif_fresh_run is proved, and it read this very plan.
+ * The lists are compared entry by entry, in order, without superseding. A list in another order, or with an entry that
+ * a later one supersedes left out, gets 5: ask again with the list that will be cut.
+ * It takes a fresh run's time and stack.
+ */
+WHATIF_NODISCARD static inline struct whatif_confirmed whatif_confirm(const uint8_t *record, size_t record_len,
+                                                                      const struct whatif_lent *lent,
+                                                                      const uint16_t *nodes, const uint8_t *labels,
+                                                                      size_t count) {
+    struct whatif_told session = whatif_nothing_told(), run = whatif_nothing_told();
+    uint32_t answer = whatif_read_current(record, record_len, &session);
+    if (answer != WHATIF_ACCEPTED)
+        return whatif_confirmed_as(WHATIF_CONFIRM_NO_ANSWER, answer);
+    if (!whatif_same_counts(record, record_len, lent))
+        return whatif_confirmed_as(WHATIF_CONFIRM_OTHER_COUNTS, 0u);
+    if (!whatif_same_list(record, record_len, nodes, labels, count))
+        return whatif_confirmed_as(WHATIF_CONFIRM_OTHER_LIST, 0u);
+    answer = whatif_fresh_run_told(lent->plan, lent->plan_len, lent->rules, lent->rules_len, nodes, count, labels,
+                                   count, &run);
+    if (answer != WHATIF_ACCEPTED)
+        return whatif_confirmed_as(WHATIF_CONFIRM_RUN_REFUSED, answer);
+    if (run.state != session.state || run.yes != session.yes)
+        return whatif_confirmed_as(WHATIF_CONFIRM_DIFFERS, 0u);
+    return whatif_confirmed_as(run.yes == 1u ? WHATIF_CONFIRM_CLEARED : WHATIF_CONFIRM_NOT_CLEARED, 0u);
+}
+
+/* The same on a screen. A screen above 7, or a run of another length, is 3 with the refusal 25. */
+WHATIF_NODISCARD static inline struct whatif_confirmed
+whatif_screens_confirm(const uint8_t *records, size_t records_len, uint32_t screen, const struct whatif_lent *lent,
+                       const uint16_t *nodes, const uint8_t *labels, size_t count) {
+    if (records_len != WHATIF_SCREENS_BYTES || screen >= WHATIF_SCREENS)
+        return whatif_confirmed_as(WHATIF_CONFIRM_NO_ANSWER, WHATIF_REFUSED_SCREEN);
+    return whatif_confirm(records + WHATIF_RECORD_BYTES * screen, WHATIF_RECORD_BYTES, lent, nodes, labels, count);
+}
+
+/* The text of a reason, in one sentence: that of its comment above. */
+WHATIF_NODISCARD static inline const char *whatif_confirm_text(uint32_t reason) {
+    switch (reason) {
+    case WHATIF_CONFIRM_NOTHING:
+        return "Nothing was compared: whatif_confirm was not called.";
+    case WHATIF_CONFIRM_CLEARED:
+        return "Cleared: the session and a fresh run both say yes to this list.";
+    case WHATIF_CONFIRM_NOT_CLEARED:
+        return "Not cleared: the session and a fresh run both say no to this list.";
+    case WHATIF_CONFIRM_NO_ANSWER:
+        return "The session is not answered, or its record is damaged.";
+    case WHATIF_CONFIRM_OTHER_COUNTS:
+        return "The plan or the rule table is malformed, or names other counts than the session.";
+    case WHATIF_CONFIRM_OTHER_LIST:
+        return "This is not the list that the session answered, entry by entry.";
+    case WHATIF_CONFIRM_RUN_REFUSED:
+        return "The fresh run refused the plan, the rule table or the list.";
+    case WHATIF_CONFIRM_DIFFERS:
+        return "The fresh run ends otherwise than the session: plan, rules or tables were altered.";
+    default:
+        return "This is no reason of this version.";
+    }
+}
+
 /* The text of an answer, in one sentence: that of its comment above. */
-static inline const char *whatif_answer_text(uint32_t answer) {
+WHATIF_NODISCARD static inline const char *whatif_answer_text(uint32_t answer) {
     switch (answer) {
     case WHATIF_ACCEPTED:
         return "The call was accepted.";
@@ -749,6 +1449,119 @@ static inline const char *whatif_answer_text(uint32_t answer) {
     default:
         return "This is no answer of this version.";
     }
+}
+
+/* 1 where the session's calls refuse this record in every state: its length is another, or its bytes break the layout.
+ * Else 0. It asks the library, on a copy: a Load with nothing passed in, or a Cancel where a question is running.
+ * A flipped bit that leaves a record whole is not seen here, nor by any call: it is one more reason to confirm. */
+WHATIF_NODISCARD static inline uint32_t whatif_record_damaged(const uint8_t *record, size_t record_len) {
+    uint8_t copy[WHATIF_RECORD_BYTES];
+    uint32_t answer;
+    if (record_len != WHATIF_RECORD_BYTES)
+        return 1u;
+    whatif_put_bytes(copy, record, sizeof copy);
+    if (whatif_session_state(copy, sizeof copy) == WHATIF_RUNNING)
+        answer = whatif_cancel(copy, sizeof copy);
+    else
+        answer = whatif_load(copy, sizeof copy, NULL, 0, NULL, 0, NULL, 0, NULL, 0);
+    return answer == WHATIF_REFUSED_SESSION_STATE ? 1u : 0u;
+}
+
+/* The first screen whose record is damaged; WHATIF_SCREENS where none is, or where the run has another length. */
+WHATIF_NODISCARD static inline uint32_t whatif_screens_damaged(const uint8_t *records, size_t records_len) {
+    for (uint32_t i = 0; records_len == WHATIF_SCREENS_BYTES && i < WHATIF_SCREENS; i++)
+        if (whatif_record_damaged(records + WHATIF_RECORD_BYTES * i, WHATIF_RECORD_BYTES))
+            return i;
+    return WHATIF_SCREENS;
+}
+
+/*
+ * Puts a record in the place of a screen's: a loaded one that was kept aside, or a fresh one, all zero.
+ * Answers: WHATIF_ACCEPTED, or the first of 25, 1: 1 where `record` is damaged or running. Refused, the run is
+ * unchanged.
+ */
+WHATIF_NODISCARD static inline uint32_t whatif_screens_replace(uint8_t *records, size_t records_len, uint32_t screen,
+                                                               const uint8_t *record, size_t record_len) {
+    if (records_len != WHATIF_SCREENS_BYTES || screen >= WHATIF_SCREENS)
+        return WHATIF_REFUSED_SCREEN;
+    if (whatif_record_damaged(record, record_len) || whatif_session_state(record, record_len) == WHATIF_RUNNING)
+        return WHATIF_REFUSED_SESSION_STATE;
+    whatif_put_bytes(records + WHATIF_RECORD_BYTES * screen, record, WHATIF_RECORD_BYTES);
+    return WHATIF_ACCEPTED;
+}
+
+/* The calls that may get 1. A deal is an advance on a screen. */
+enum whatif_call {
+    WHATIF_CALL_LOAD = 0,
+    WHATIF_CALL_START = 1,
+    WHATIF_CALL_ADVANCE = 2,
+    WHATIF_CALL_CANCEL = 3,
+    WHATIF_CALL_READ = 4,
+    WHATIF_CALL_READ_CURRENT = 5
+};
+
+/* Used by whatif_why_1: what a call meets in a state that is not for it; NULL where the state is. */
+WHATIF_NODISCARD static inline const char *whatif_why_state(uint32_t state, enum whatif_call call) {
+    static const char *const why[6][4] = {
+        {NULL, NULL, "A question is running: Load waits until it is finished or cancelled.", NULL},
+        {"No plan is loaded: call Load first.", NULL,
+         "A question is running already: finish it or cancel it before the next Start.", NULL},
+        {"No plan is loaded: call Load, then Start.", "No question is running: call Start first.", NULL,
+         "The question is finished: read its answer."},
+        {"Nothing to cancel: no plan is loaded.", "Nothing to cancel: no question is running.", NULL,
+         "Nothing to cancel: the question is finished."},
+        {"No plan is loaded: there is no answer.", "No question was finished since the last Load: there is no answer.",
+         "No question was finished since the last Load: this one is still running.", NULL},
+        {"No plan is loaded: there is no answer.", "No question is asked now: an earlier answer is not this one's.",
+         "The question is still running: an earlier answer is not this one's.", NULL},
+    };
+    return state < WHATIF_NO_STATE && (uint32_t)call <= WHATIF_CALL_READ_CURRENT ? why[call][state] : NULL;
+}
+
+/*
+ * Which of the causes of 1 it was, as a sentence: the length, a damaged record, or what this call needs and this state
+ * is not. Pass the record as it was refused: a refused call has not changed it.
+ */
+WHATIF_NODISCARD static inline const char *whatif_why_1(const uint8_t *record, size_t record_len,
+                                                        enum whatif_call call) {
+    struct whatif_told told;
+    const char *why;
+    if (record_len != WHATIF_RECORD_BYTES)
+        return "The record does not have WHATIF_RECORD_BYTES bytes: another layout version, or a wrong length.";
+    if (whatif_record_damaged(record, record_len))
+        return "The record is damaged: put a loaded one in its place, or zero it and call Load.";
+    if ((uint32_t)call > WHATIF_CALL_READ_CURRENT)
+        return "This is no call that gets 1.";
+    why = whatif_why_state(whatif_session_state(record, record_len), call);
+    if (call == WHATIF_CALL_READ && whatif_read_told(record, record_len, &told) == WHATIF_ACCEPTED)
+        why = NULL;
+    return why ? why : "This record allows this call: the refusal was another record's or another call's.";
+}
+
+/* Used by whatif_screens_why_1. */
+WHATIF_NODISCARD static inline const char *whatif_why_load_of_eight(const uint8_t *records, size_t records_len) {
+    if (whatif_screens_damaged(records, records_len) < WHATIF_SCREENS)
+        return "A screen's record is damaged: whatif_screens_damaged has its number. Replace it.";
+    return whatif_screens_running(records, records_len)
+               ? "A screen is running: Load waits until all are finished or cancelled."
+               : "These records allow a Load: the refusal was another run's or another call's.";
+}
+
+/*
+ * The same of a call of the screens. `screen` is the one that the call named, of a deal the number to try first, of a
+ * Load any. What gets 25 has the sentence of 25.
+ */
+WHATIF_NODISCARD static inline const char *whatif_screens_why_1(const uint8_t *records, size_t records_len,
+                                                                uint32_t screen, enum whatif_call call) {
+    if (records_len != WHATIF_SCREENS_BYTES || (call != WHATIF_CALL_LOAD && screen >= WHATIF_SCREENS))
+        return whatif_answer_text(WHATIF_REFUSED_SCREEN);
+    if (call == WHATIF_CALL_LOAD)
+        return whatif_why_load_of_eight(records, records_len);
+    if (call == WHATIF_CALL_ADVANCE)
+        screen = whatif_screens_next(records, records_len, screen);
+    if (screen == WHATIF_SCREENS)
+        return "No screen is running: there is nothing to deal.";
+    return whatif_why_1(records + WHATIF_RECORD_BYTES * screen, WHATIF_RECORD_BYTES, call);
 }
 
 #ifdef __cplusplus
