@@ -1,8 +1,8 @@
 /*
- * The answer on the screen is the question's own, and a yes is confirmed before it is cut: whatif_read_current and
- * whatif_confirm in every state, on every list of at most two changes of the sample, on other lists, plans and rules,
- * on tables altered between Start and the last advance, and on records with flipped bits. What it prints is compared
- * with confirm.expected.
+ * The answer on the screen is the question's own, and a yes is confirmed before it is cut. whatif_read_current and
+ * whatif_confirm are tried in every state and on every list of at most two changes of the sample. Then on other lists,
+ * plans and rules, on tables altered between Start and the last advance, and on records with flipped bits. What it
+ * prints is compared with confirm.expected.
  */
 #define _DEFAULT_SOURCE
 #include "guarded.h"
@@ -197,7 +197,7 @@ static void damaged_plan(void) {
 }
 
 /*
- * Each byte of the state table and each mark altered after Start and until the last advance: the session may say yes
+ * Each byte of the state table and each mark, altered after Start and until the last advance. The session may say yes
  * where the fresh run says no, or the other way. Such an answer looks like any other; it is never confirmed.
  */
 static void altered_tables(void) {

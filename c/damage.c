@@ -1,7 +1,7 @@
 /*
  * Damaged records. Each bit of a record flipped, in every state of a session: whatif_record_damaged and whatif_why_1
- * say what the library's own refusals say. Then each bit of each of eight screens' records: by each of the header's
- * three ways out the other seven end byte for byte as without the damage. What it prints is compared with
+ * say what the library's own refusals say. Then each bit of each of eight screens' records, by each of the header's
+ * three ways out. The other seven end byte for byte as without the damage. What it prints is compared with
  * damage.expected.
  */
 #include "sample.h"

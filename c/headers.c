@@ -1,7 +1,7 @@
 /*
- * The header's counts and writers against the library: a count is 0 exactly where the library refuses the header, and
- * what a writer accepts the library takes. Every buffer ends at a page that must not be touched, or begins behind one.
- * What it prints is compared with headers.expected.
+ * The header's counts and writers against the library. A count is 0 exactly where the library refuses the header; what
+ * a writer accepts the library takes. Every buffer ends at a page that must not be touched, or begins behind one. What
+ * it prints is compared with headers.expected.
  */
 #define _DEFAULT_SOURCE
 #include "guarded.h"

@@ -1,6 +1,6 @@
 /*
- * The forms that end in _told and _lent, and what a record says, beside the plain calls: the same answer, each value in
- * its own member, 0 where the question has none, and nothing written where it is refused. On a comb of 21 nodes with 4
+ * The forms that end in _told and _lent, and what a record says, beside the plain calls. Each has the same answer, each
+ * value in its own member, and 0 where the question has none; refused, it writes nothing. On a comb of 21 nodes with 4
  * states and 4 labels, so that state, yes, parts, links, nodes passed over and drops differ. What it prints is compared
  * with told.expected.
  */

@@ -1,6 +1,6 @@
 /*
  * Branch questions: what a branch table reads along one path of the plan, without the label of the upper node and with
- * it; then the same by colours, whose cost does not grow with the depth. The tables are built once for a plan.
+ * it. Then the same by colours, whose cost does not grow with the depth. The tables are built once for a plan.
  * Build it with: cc examples/branch.c $(PKG_CONFIG_PATH=build pkg-config --cflags --libs whatif), after tools/archive.
  */
 #include "whatif.h"
@@ -9,7 +9,7 @@
 
 enum { NODES = 7, STATES = 3, LABELS = 2 };
 
-/* Nodes 0 and 1 below 2, nodes 3 and 4 below 5, nodes 2 and 5 below the root 6; 0 is a leaf, 1 an inner node. */
+/* Nodes 0 and 1 below 2, nodes 3 and 4 below 5, nodes 2 and 5 below the root 6. Kind 0 is a leaf, 1 an inner node. */
 static const uint8_t labels[NODES] = {1, 1, 1, 0, 1, 0, 1}, kinds[NODES] = {0, 0, 1, 0, 0, 1, 1};
 /* State 0 until a label 1 was read, then 1, and 2 once a label 0 came after it; state 2 gets yes. */
 static const uint8_t steps[STATES][LABELS] = {{0, 1}, {2, 1}, {2, 2}}, marks[STATES] = {0, 0, 1};

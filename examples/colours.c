@@ -1,7 +1,7 @@
 /*
  * Many questions on one plan: by colours, after two builds, each is answered whole in some microseconds; up to 4
  * states. Then counts: how many choices of labels for some open nodes end in each state. Nothing here has a session, so
- * nothing checks the tables before each question: a full check says whether they are as built.
+ * no Start checks the tables: a full check says whether they are as built.
  * Build it with: cc examples/colours.c $(PKG_CONFIG_PATH=build pkg-config --cflags --libs whatif), after tools/archive.
  */
 #include "whatif.h"

@@ -1,6 +1,6 @@
 /*
  * A trainer's walk at the panel: Load, Start, Cancel, Start, advances with a progress bar, the answer, the check before
- * the blank is cut; one refusal; then another Start and a Cancel, after which Read brings the earlier answer back.
+ * the blank is cut. Then refusals, and another Start and Cancel, after which Read brings the earlier answer back.
  * Build it with: cc examples/panel.c $(PKG_CONFIG_PATH=build pkg-config --cflags --libs whatif), after tools/archive.
  */
 #include "whatif.h"

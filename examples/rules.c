@@ -1,8 +1,7 @@
 /*
- * Two rule tables and two lists: the practice's table and the blank maker's merged into one that clears what both
- * clear; whether an edited table still agrees with the old one, and a plan on which they differ; one list laid over
- * another. Build it with: cc examples/rules.c $(PKG_CONFIG_PATH=build pkg-config --cflags --libs whatif), after
- * tools/archive.
+ * Two rule tables: the practice's and the blank maker's merged into one that clears what both clear. Then whether an
+ * edited table still agrees with the old one, and a plan on which they differ. At last one list laid over another.
+ * Build it with: cc examples/rules.c $(PKG_CONFIG_PATH=build pkg-config --cflags --libs whatif), after tools/archive.
  */
 #include "whatif.h"
 

@@ -1,8 +1,8 @@
 /*
  * Two screens on one mill: the trainer's question runs on screen 0, while a class on screen 1 starts one, cancels it
  * and starts another. A deal serves them by turns, and the trainer's answer is what it would be alone. A Load has to
- * wait until no screen runs. Then a bit of the class's record flips: the deals stop, the record is replaced by a loaded
- * one that was kept aside, and both go on.
+ * wait until no screen runs. Then a bit of the class's record flips, and the deals stop. The record is replaced by a
+ * loaded one that was kept aside, and both go on.
  * Build it with: cc examples/screens.c $(PKG_CONFIG_PATH=build pkg-config --cflags --libs whatif), after tools/archive.
  */
 #include "whatif.h"
@@ -19,8 +19,8 @@ static const uint8_t plan[] = {7, 0, 0, 0, 12, 0, 0, 0, 19, 0, 0, 0, 1, 1, 1, 0,
 static const uint8_t rules[] = {2,  0, 0, 0, 2, 0, 0, 0, 20, 0, 0, 0, 22, 0, 0, 0,
                                 30, 0, 0, 0, 0, 1, 0, 1, 0,  0, 1, 1, 0,  1, 0, 1};
 
-/* What the lab keeps: the run of eight records, all zero at first, the screen to try first, the plan's tables, and a
- * copy of a loaded record, in case one is damaged. */
+/* What the lab keeps: the run of eight records, all zero at first, the screen to try first, and the plan's tables. Also
+ * a copy of a loaded record, in case one is damaged. */
 static uint8_t run[WHATIF_SCREENS_BYTES], loaded[WHATIF_RECORD_BYTES];
 static uint32_t first;
 static uint16_t node_table[WHATIF_NODE_TABLE_LEN(7)];

@@ -1,8 +1,8 @@
 /*
- * Eight screens served in a loop, with recovery: each asks three questions, a deal handles one part of whoever is next,
- * every answer is confirmed before it counts. Four times a bit of a record flips, in four different ways. The server
- * finds the screen, puts a loaded record in its place and asks again; the other seven go on. A server would wait for
- * its panels where this one looks for the next question.
+ * Eight screens served in a loop, with recovery. Each asks three questions, a deal handles one part of whoever is next,
+ * and every answer is confirmed before it counts. Four times a bit of a record flips, in four different ways. The
+ * server finds the screen, puts a loaded record in its place and asks again; the other seven go on. A server would wait
+ * for its panels where this one looks for the next question.
  * Build it with: cc examples/server.c $(PKG_CONFIG_PATH=build pkg-config --cflags --libs whatif), after tools/archive.
  */
 #include "whatif.h"

@@ -1,11 +1,10 @@
 /*
  * whatif.h: the what-if checker for C and C++.
  *
- * Order: version, limits, sizes, answers; the functions for tables and fresh runs, for branch questions, for counts of
- * choices, for two rule tables, for the planner's files, of the panel session, of eight screens, and for questions by
- * colours; then what is written here alone, for safe use: counts of a header, writers, what a record says, what is
- * passed in and what is answered as one struct, the answer to the current question, the check before a cut, the
- * answers' texts, damaged records, the causes of 1.
+ * Order: version, limits, sizes, answers. The functions of the library: tables and fresh runs, branch questions, counts
+ * of choices, two rule tables, the planner's files, the panel session, eight screens, colours. Then what is written
+ * here alone, for safe use: counts and writers, what a record says, structs for inputs and outputs, the current answer,
+ * the check before a cut, texts, damaged records.
  * The bytes of plans, tables and records are in LAYOUT.md, the order of the checks of each call in REFUSALS.md: both
  * stand in docs/ of the sources, and beside this file where it is installed.
  *
@@ -23,8 +22,8 @@
  *     two rule tables joined, or compared        whatif_merge, whatif_agree
  *     a bridge planner's file                    whatif_plan_of_planner, whatif_planner_of_plan
  *
- * On a full arch of 61,471 nodes Load and Start take about half a millisecond each: every Start checks all that is
- * passed in. A fresh run takes less than that, an advance less than a microsecond. A question by colours takes some
+ * On a full arch of 61,471 nodes Load and Start take less than a millisecond each: every Start checks all that is
+ * passed in. A fresh run takes a fraction of that, an advance less than a microsecond. A question by colours takes some
  * microseconds, after a build of some milliseconds, and checks only what it reads.
  *
  * Link with libwhatif.a or, where it is installed, with libwhatif.so (x86-64 Linux). The library never allocates, keeps
@@ -505,17 +504,16 @@ uint32_t whatif_read(const uint8_t *record, size_t record_len, uint32_t *state, 
  * The single records of the run may also be lent to the session's calls, WHATIF_RECORD_BYTES bytes each.
  *
  * If a record is damaged, by a flipped bit or a stray pointer, every call that names its screen gets 1, and so does
- * Load. If its state byte says running, a deal gets 1 at its turn, with the same number again and again: one record
- * stops all eight screens. If it is still whole, its turn may get 17 or 18, though all that is passed in is as loaded.
+ * Load. If its state byte says running, every deal gets 1 at its turn, and the number stays: one record stops all eight
+ * screens. If it is still whole, its turn may get 17 or 18, though all that is passed in is as loaded.
  * So a deal's 1 is an idle mill only where whatif_screens_running is 0. Else the turn was that of whatif_screens_next,
  * and its record is damaged. whatif_screens_damaged finds what a Load refuses; whatif_screens_why_1 has the sentence.
  * Three ways out; in each the other seven go on with their questions:
  * 1. Put a loaded record in its place (whatif_screens_replace): a copy of any of the eight, kept aside after Load. This
  *    screen may Start at once. This is the way to take where a copy was kept.
  * 2. Put a fresh record in its place, all zero. This screen waits for the next Load, which is no longer held up.
- * 3. Leave it, and hand on one number more: the deal from (whatif_screens_next(..) + 1) % WHATIF_SCREENS. It is needed
- *    each time the turn comes to the damaged record; where no other screen runs there is nothing left to deal. Load
- *    stays refused until 1 or 2 is done.
+ * 3. Leave it, and deal from the number after it: (whatif_screens_next(..) + 1) % WHATIF_SCREENS. Do so each time the
+ *    turn comes to it; where no other screen runs there is nothing left to deal. Load stays refused until 1 or 2.
  * The question of the damaged screen is lost, and its last answer with 1 and 2: it is started again. A flipped bit may
  * also leave a whole record with another list or state, which no call can see: so confirm before a cut.
  */
@@ -693,12 +691,14 @@ uint32_t whatif_colour_ask(const uint8_t *plan, size_t plan_len, const uint8_t *
  * - A refusal that nobody looks at: every function here is WHATIF_NODISCARD.
  */
 
-/* Counts that a header names. Each is 0 where the bytes are malformed: cut short, a count outside its limits, or
- * offsets or length not exact (2 to 4 of a plan, 6 to 8 of a table, 19 and 21 of a planner's file). So 0 is never a
- * count. Kinds, labels, states and marks are not looked at. */
+/* A number of four bytes. */
 WHATIF_NODISCARD static inline uint32_t whatif_number(const uint8_t *at) {
     return (uint32_t)at[0] | (uint32_t)at[1] << 8 | (uint32_t)at[2] << 16 | (uint32_t)at[3] << 24;
 }
+
+/* Counts that a header names. Each is 0 where the bytes are malformed: cut short, a count outside its limits, offsets
+ * or length not exact. These are 2 to 4 of a plan, 6 to 8 of a table, 19 and 21 of a planner's file. So 0 is never a
+ * count. Kinds, labels, states and marks are not looked at. */
 
 /* N of a plan, 1 to WHATIF_MAX_NODES. */
 WHATIF_NODISCARD static inline uint32_t whatif_plan_nodes(const uint8_t *plan, size_t plan_len) {
@@ -785,9 +785,9 @@ WHATIF_NODISCARD static inline uint32_t whatif_one_tree(const uint8_t *kinds, si
 /*
  * Writes a plan from its labels and kinds (0 leaf, 1 inner), one of each for a node, in post-order.
  * Written: the first WHATIF_PLAN_BYTES(labels_len) bytes of plan. Load takes exactly these: pass that length on.
- * Answers: WHATIF_ACCEPTED, or the first of 3, 4, 5, 11: 4 where there are not as many kinds as labels, 11 where plan
- *          is too short. Refused, plan is unchanged. Accepted, the plan passes 2 to 5; whether the rule table has all
- *          its labels is asked by Load (10).
+ * Answers: WHATIF_ACCEPTED, or the first of 3, 4, 5, 11. 4 is given where there are not as many kinds as labels, 11
+ *          where plan is too short. Refused, plan is unchanged. Accepted, the plan passes 2 to 5; Load asks whether the
+ *          rule table has all its labels (10).
  */
 WHATIF_NODISCARD static inline uint32_t whatif_write_plan(const uint8_t *labels, size_t labels_len,
                                                           const uint8_t *kinds, size_t kinds_len, uint8_t *plan,
@@ -814,8 +814,8 @@ WHATIF_NODISCARD static inline uint32_t whatif_write_plan(const uint8_t *labels,
  * uint8_t inner[S][K][S]: inner[p][a][q] is the state of an inner node with left state p, label a, right state q.
  * marks[s] is 1 where state s clears the plan, else 0.
  * Written: the first WHATIF_RULES_BYTES(S, K) bytes of rules. Load takes exactly these: pass that length on.
- * Answers: WHATIF_ACCEPTED, or the first of 7, 8, 9, 11: 8 where inner_len is not S * K * S, 11 where rules is too
- *          short. Refused, rules is unchanged. Accepted, the table passes 6 to 9.
+ * Answers: WHATIF_ACCEPTED, or the first of 7, 8, 9, 11. 8 is given where inner_len is not S * K * S, 11 where rules is
+ *          too short. Refused, rules is unchanged. Accepted, the table passes 6 to 9.
  */
 WHATIF_NODISCARD static inline uint32_t whatif_write_rules(const uint8_t *leaf, size_t leaf_len, const uint8_t *inner,
                                                            size_t inner_len, const uint8_t *marks, size_t marks_len,
@@ -844,8 +844,8 @@ WHATIF_NODISCARD static inline uint32_t whatif_write_rules(const uint8_t *leaf, 
  * Writes a branch table. S is marks_len, K is steps_len / S. steps is an array uint8_t steps[S][K]: steps[s][a] is the
  * state after state s reads label a; state 0 is the start. marks[s] is 1 where a word that ends in s gets yes, else 0.
  * Written: the first WHATIF_BRANCH_BYTES(S, K) bytes of branch. The builds take exactly these: pass that length on.
- * Answers: WHATIF_ACCEPTED, or the first of 7, 8, 9, 11: 8 where steps_len is not a multiple of S, 11 where branch is
- *          too short. Refused, branch is unchanged. Accepted, the table passes 6 to 9.
+ * Answers: WHATIF_ACCEPTED, or the first of 7, 8, 9, 11. 8 is given where steps_len is not a multiple of S, 11 where
+ *          branch is too short. Refused, branch is unchanged. Accepted, the table passes 6 to 9.
  */
 WHATIF_NODISCARD static inline uint32_t whatif_write_branch(const uint8_t *steps, size_t steps_len,
                                                             const uint8_t *marks, size_t marks_len, uint8_t *branch,
@@ -1310,6 +1310,7 @@ WHATIF_NODISCARD static inline uint32_t whatif_same_counts(const uint8_t *record
                : 0u;
 }
 
+/* Used by whatif_confirm: the struct of a reason. This is the only place where cut becomes 1. */
 WHATIF_NODISCARD static inline struct whatif_confirmed whatif_confirmed_as(enum whatif_reason reason,
                                                                            uint32_t refusal) {
     struct whatif_confirmed confirmed = {0u, 0u, 0u};
@@ -1321,17 +1322,19 @@ WHATIF_NODISCARD static inline struct whatif_confirmed whatif_confirmed_as(enum 
 
 /*
  * Confirm before cutting: may the blank be cut with this plan, these rules and this list?
- * Given:   the session's record; of *lent the plan and the rule table that will be cut, its tables are not read; the
- *          list that will be cut: count nodes and as many labels.
- * Checked: the session is answered (3); plan and rule table name its N, S and K (4); the record lists exactly these
- *          changes (5); a fresh run of this plan and these rules with this list is accepted (6), and ends in the
- *          session's state with the session's yes or no (7). Then yes (1) or no (2).
- * Returns: cut, 1 only where all of this holds and both say yes; the reason, the first of 3, 4, 5, 6, 7 that does not
- *          hold, else 1 or 2; the refusal's number where there is one.
- * After a yes the blank depends on no table, record or jump: whatif_fresh_run is proved, and it read this very plan.
- * The lists are compared entry by entry, in order, without superseding. A list in another order, or with an entry that
- * a later one supersedes left out, gets 5: ask again with the list that will be cut.
- * It takes a fresh run's time and stack.
+ * Given:   the session's record. The plan and the rule table of *lent, as they will be cut; its tables are not read.
+ *          The list as it will be cut: count nodes and as many labels.
+ * Checked: - The session is answered, so that this is no earlier question (else 3).
+ *          - Plan and rule table name the session's N, S and K (else 4).
+ *          - The record lists exactly these changes (else 5).
+ *          - A fresh run of this plan and these rules with this list is accepted (else 6).
+ *          - It ends in the session's state, with the session's yes or no (else 7).
+ * Returns: reason, the first of 3, 4, 5, 6, 7 whose check fails, else 1 for yes or 2 for no. cut is 1 with reason 1
+ *          alone. refusal is the number that a call gave, with reason 3 or 6.
+ * After a cut of 1 the blank depends on no table, record or jump: whatif_fresh_run is proved, and it read this plan.
+ * The lists are compared entry by entry, in order, without superseding. So 5 is also given for the same changes in
+ * another order. Ask again with the list that will be cut.
+ * It takes the time of a fresh run.
  */
 WHATIF_NODISCARD static inline struct whatif_confirmed whatif_confirm(const uint8_t *record, size_t record_len,
                                                                       const struct whatif_lent *lent,
@@ -1476,9 +1479,10 @@ WHATIF_NODISCARD static inline uint32_t whatif_screens_damaged(const uint8_t *re
 }
 
 /*
- * Puts a record in the place of a screen's: a loaded one that was kept aside, or a fresh one, all zero.
- * Answers: WHATIF_ACCEPTED, or the first of 25, 1: 1 where `record` is damaged or running. Refused, the run is
- * unchanged.
+ * Puts a record in the place of a screen's: a loaded one that was kept aside, or a fresh one, all zero. It may also be
+ * that of another screen.
+ * Answers: WHATIF_ACCEPTED, or the first of 25, 1. 1 is given where `record` is damaged or running. Refused, the run is
+ *          unchanged.
  */
 WHATIF_NODISCARD static inline uint32_t whatif_screens_replace(uint8_t *records, size_t records_len, uint32_t screen,
                                                                const uint8_t *record, size_t record_len) {
@@ -1500,18 +1504,24 @@ enum whatif_call {
     WHATIF_CALL_READ_CURRENT = 5
 };
 
-/* Used by whatif_why_1: what a call meets in a state that is not for it; NULL where the state is. */
+/* Used by whatif_why_1: what a call meets in a state that is not for it, by call and state; NULL where it is. */
 WHATIF_NODISCARD static inline const char *whatif_why_state(uint32_t state, enum whatif_call call) {
     static const char *const why[6][4] = {
+        /* Load */
         {NULL, NULL, "A question is running: Load waits until it is finished or cancelled.", NULL},
+        /* Start */
         {"No plan is loaded: call Load first.", NULL,
          "A question is running already: finish it or cancel it before the next Start.", NULL},
+        /* advance, deal */
         {"No plan is loaded: call Load, then Start.", "No question is running: call Start first.", NULL,
          "The question is finished: read its answer."},
+        /* Cancel */
         {"Nothing to cancel: no plan is loaded.", "Nothing to cancel: no question is running.", NULL,
          "Nothing to cancel: the question is finished."},
+        /* Read */
         {"No plan is loaded: there is no answer.", "No question was finished since the last Load: there is no answer.",
          "No question was finished since the last Load: this one is still running.", NULL},
+        /* whatif_read_current */
         {"No plan is loaded: there is no answer.", "No question is asked now: an earlier answer is not this one's.",
          "The question is still running: an earlier answer is not this one's.", NULL},
     };
@@ -1519,8 +1529,8 @@ WHATIF_NODISCARD static inline const char *whatif_why_state(uint32_t state, enum
 }
 
 /*
- * Which of the causes of 1 it was, as a sentence: the length, a damaged record, or what this call needs and this state
- * is not. Pass the record as it was refused: a refused call has not changed it.
+ * Which of the causes of 1 it was, as a sentence: the length, a damaged record, or a state that is not for this call.
+ * Pass the record that was refused: a refused call has not changed it.
  */
 WHATIF_NODISCARD static inline const char *whatif_why_1(const uint8_t *record, size_t record_len,
                                                         enum whatif_call call) {
@@ -1538,7 +1548,7 @@ WHATIF_NODISCARD static inline const char *whatif_why_1(const uint8_t *record, s
     return why ? why : "This record allows this call: the refusal was another record's or another call's.";
 }
 
-/* Used by whatif_screens_why_1. */
+/* Used by whatif_screens_why_1: what a Load of eight meets. */
 WHATIF_NODISCARD static inline const char *whatif_why_load_of_eight(const uint8_t *records, size_t records_len) {
     if (whatif_screens_damaged(records, records_len) < WHATIF_SCREENS)
         return "A screen's record is damaged: whatif_screens_damaged has its number. Replace it.";
