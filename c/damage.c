@@ -159,6 +159,9 @@ static int recover(enum way way, uint32_t screen) {
     return whatif_screens_next(run, sizeof run, first) != screen;
 }
 
+/* How many deals were refused with 17 or 18: the record is whole, but not as it was. */
+static size_t by_length_or_value;
+
 /* Deals until nobody runs, or only the screen that is handed on; the refusals on the way. */
 static size_t serve(enum way way, uint32_t damaged) {
     size_t refusals = 0;
@@ -178,6 +181,7 @@ static size_t serve(enum way way, uint32_t damaged) {
             continue;
         }
         refusals++;
+        by_length_or_value += answer == WHATIF_REFUSED_LENT_LENGTH || answer == WHATIF_REFUSED_LENT_VALUE;
         sure(next == damaged, "the refused turn is the damaged screen's");
         sure((answer == WHATIF_REFUSED_SESSION_STATE) == (whatif_record_damaged(record_of(run, next), RECORD) == 1),
              "a deal's 1 with a screen running is a damaged record");
@@ -241,6 +245,7 @@ static void eight_screens(void) {
     serve(REPLACED, WHATIF_SCREENS), memcpy(after, run, sizeof run);
     for (int way = 0; way < WAYS; way++) {
         size_t stopped = 0, held_up = 0, wrong = 0;
+        by_length_or_value = 0;
         for (uint32_t screen = 0; screen < WHATIF_SCREENS; screen++)
             for (size_t bit = 0; bit < BITS; bit++) {
                 memcpy(run, before, sizeof run);
@@ -254,6 +259,8 @@ static void eight_screens(void) {
             }
         printf("%s: of %u flipped bits %zu stop the deals, %zu a Load; %zu answers are wrong, none is cut\n", ways[way],
                WHATIF_SCREENS * BITS, stopped, held_up, wrong);
+        if (way == REPLACED)
+            printf("of these deals %zu got 17 or 18\n", by_length_or_value);
     }
 }
 
