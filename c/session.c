@@ -1,7 +1,7 @@
 /*
  * The sample clearance of document 01 through the session's calls: a line for each of its nine questions, state, yes or
- * no, parts, links and nodes passed over, or the refusal. What it prints is held to examples/sample.expected. Before them, Starts on altered
- * tables, which print nothing where all is well.
+ * no, parts, links and nodes passed over, or the refusal. What it prints is held to examples/sample.expected. Before
+ * them, Starts on altered tables, which print nothing where all is well.
  */
 #include "sample.h"
 
@@ -27,6 +27,11 @@ static void tells(uint32_t state, uint32_t parts, uint32_t done) {
     if (whatif_session_state(record, sizeof record) != state || whatif_parts(record, sizeof record) != parts ||
         whatif_parts_done(record, sizeof record) != done)
         printf("the record tells something ELSE\n");
+}
+
+static void must(uint32_t answer, uint32_t wanted) {
+    if (answer != wanted)
+        printf("answered %u, NOT %u\n", answer, wanted);
 }
 
 /* A refused call leaves the record and what it would tell. */
@@ -79,22 +84,23 @@ static void reads_nothing(void) {
 static void survives(void) {
     uint32_t parts = 0, finished = 0;
     const struct question *q = &questions[3];
-    whatif_start_lent(record, sizeof record, &lent, q->nodes, q->labels, q->m, &parts);
+    must(whatif_start_lent(record, sizeof record, &lent, q->nodes, q->labels, q->m, &parts), WHATIF_ACCEPTED);
     while (!finished && whatif_advance_lent(record, sizeof record, &lent, &finished) == WHATIF_ACCEPTED)
         ;
     reads(0, 0, 5, 0, 0);
-    whatif_start_lent(record, sizeof record, &lent, questions[1].nodes, questions[1].labels, 1, &parts);
+    must(whatif_start_lent(record, sizeof record, &lent, questions[1].nodes, questions[1].labels, 1, &parts), 0);
     tells(WHATIF_RUNNING, 2, 0);
     reads(0, 0, 5, 0, 0);
-    whatif_advance_lent(record, sizeof record, &lent, &finished);
+    must(whatif_advance_lent(record, sizeof record, &lent, &finished), WHATIF_ACCEPTED);
     reads(0, 0, 5, 0, 0);
-    whatif_cancel(record, sizeof record);
+    must(whatif_cancel(record, sizeof record), WHATIF_ACCEPTED);
     tells(WHATIF_LOADED, 0, 0);
     reads(0, 0, 5, 0, 0);
-    whatif_load(record, sizeof record, NULL, 0, NULL, 0, NULL, 0, NULL, 0);
+    must(whatif_load(record, sizeof record, NULL, 0, NULL, 0, NULL, 0, NULL, 0), WHATIF_REFUSED_PLAN_SHORT);
     reads(0, 0, 5, 0, 0);
-    whatif_load(record, sizeof record, plan, sizeof plan, rules, sizeof rules, node_table, lent.node_table_len,
-                state_table, lent.state_table_len);
+    must(whatif_load(record, sizeof record, plan, sizeof plan, rules, sizeof rules, node_table, lent.node_table_len,
+                     state_table, lent.state_table_len),
+         WHATIF_ACCEPTED);
     reads_nothing();
 }
 
@@ -131,9 +137,10 @@ static void gap(void) {
     struct whatif_lent all = {deep,    sizeof deep,  rules,  sizeof rules, numbers, WHATIF_NODE_TABLE_LEN(13),
                               states, sizeof states};
     uint32_t out[5], parts, finished = 0;
-    whatif_load(own, sizeof own, deep, sizeof deep, rules, sizeof rules, numbers, all.node_table_len, states,
-                sizeof states);
-    whatif_start_lent(own, sizeof own, &all, nodes, labels, 2, &parts);
+    must(whatif_load(own, sizeof own, deep, sizeof deep, rules, sizeof rules, numbers, all.node_table_len, states,
+                     sizeof states),
+         WHATIF_ACCEPTED);
+    must(whatif_start_lent(own, sizeof own, &all, nodes, labels, 2, &parts), WHATIF_ACCEPTED);
     while (!finished && whatif_advance_lent(own, sizeof own, &all, &finished) == WHATIF_ACCEPTED)
         ;
     if (whatif_read(own, sizeof own, out, out + 1, out + 2, out + 3, out + 4) != WHATIF_ACCEPTED || out[2] != 2 ||

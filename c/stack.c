@@ -1,6 +1,7 @@
 /*
- * The stack that each call needs, on plans of 65,535 nodes with 16 states, 64 labels and 64 changes: it is run on a painted
- * stack, and what it leaves unpainted is counted, less what an empty call leaves. Held to what the header says.
+ * The stack that each call needs, on plans of 65,535 nodes with 16 states, 64 labels and 64 changes: it is run on a
+ * painted stack, and what it leaves unpainted is counted, less what an empty call leaves. It is compared with what the
+ * header says.
  */
 #define _POSIX_C_SOURCE 200809L
 #include "whatif.h"
@@ -92,6 +93,14 @@ static void advance(void) {
         answer = whatif_advance(RECORD, RULES, TABLES, out);
     while (!answer && !out[0]);
 }
+/* the inline functions that need most */
+static void confirm(void) {
+    const struct whatif_lent lent = {RULES, TABLES};
+    uint32_t reason = whatif_confirm(RECORD, &lent, nodes, labels, WHATIF_MAX_CHANGES).reason;
+    answer = reason == WHATIF_CONFIRM_CLEARED || reason == WHATIF_CONFIRM_NOT_CLEARED ? WHATIF_ACCEPTED : reason;
+}
+static void why(void) { answer = !whatif_why_1(RECORD, WHATIF_CALL_ADVANCE); }
+static void replace(void) { answer = whatif_screens_replace(RUN, 5, RECORD); }
 static void load_all(void) { answer = whatif_screens_load(RUN, RULES, TABLES, out); }
 static void start_on(void) { answer = whatif_screens_start(RUN, 5, RULES, TABLES, LIST, out); }
 static void cancel_on(void) { answer = whatif_screens_cancel(RUN, 5); }
@@ -117,6 +126,9 @@ static const struct call {
     {"start", start, 10 * 1024},
     {"advance", advance, 4096},
     {"read", read_answer, 4096},
+    {"whatif_confirm", confirm, 42 * 1024},
+    {"whatif_why_1", why, 6 * 1024},
+    {"whatif_screens_replace", replace, 6 * 1024},
     {"load of eight", load_all, 4096},
     {"start on a screen", start_on, 10 * 1024},
     {"cancel on a screen", cancel_on, 4096},
@@ -170,7 +182,8 @@ static void header(uint8_t *at, size_t count, const size_t *numbers) {
         put(at + 4 * i, numbers[i]);
 }
 
-/* A comb to the left or to the right; a planner's chain, or pairs of children, below the first of which others stand; tables and lists that lead anywhere. */
+/* A comb to the left or to the right; a planner's chain, or pairs of children, below the first of which others are;
+ * tables and lists that lead anywhere. */
 static void make_inputs(int left) {
     const size_t inner = 20 + LABELS, marks = inner + STATES * LABELS * STATES, branch_marks = 16 + STATES * LABELS;
     header(plan, 3, (const size_t[]){N, 12, 12 + N});

@@ -1,7 +1,7 @@
 /*
  * Questions from four threads about one full arch: two combs of 15,367 inner nodes each, which meet at the root, 61,471
- * nodes in all. One Load serves all threads: each has a record of its own, a copy of the loaded one, and all are lent the
- * same plan, rules and tables, which nobody writes after Load. Every answer is held to a fresh run.
+ * nodes in all. One Load serves all threads: each has a record of its own, a copy of the loaded one. All are given the
+ * same plan, rules and tables, which nobody writes after Load. Every answer is confirmed by a fresh run.
  * Build it with: cc -pthread examples/threads.c $(PKG_CONFIG_PATH=build pkg-config --cflags --libs whatif), after
  * tools/archive.
  */
@@ -20,12 +20,12 @@
 
 static uint8_t plan[WHATIF_PLAN_BYTES(NODES)];
 /* The state is 1 where the number of labels 1 in the subtree is odd; state 1 clears the plan. */
-static const uint8_t rules[] = {2, 0,  0, 0, 2, 0, 0, 0, 20, 0, 0, 0, 22, 0, 0, 0,
+static const uint8_t rules[] = {2,  0, 0, 0, 2, 0, 0, 0, 20, 0, 0, 0, 22, 0, 0, 0,
                                 30, 0, 0, 0, 0, 1, 0, 1, 1,  0, 1, 0, 0,  1, 0, 1};
 static uint16_t node_table[WHATIF_NODE_TABLE_LEN(NODES)];
 static uint8_t state_table[WHATIF_STATE_TABLE_LEN(NODES, STATES)];
 static uint8_t loaded[WHATIF_RECORD_BYTES];
-static const struct whatif_lent lent = {
+static const struct whatif_buffers buffers = {
     .plan = plan,
     .plan_len = sizeof plan,
     .rules = rules,
@@ -35,59 +35,55 @@ static const struct whatif_lent lent = {
     .state_table = state_table,
     .state_table_len = sizeof state_table,
 };
+static struct whatif_lent lent;
 
 /* What a thread is given, and what it found. */
 struct work {
     pthread_t thread;
-    uint32_t chance;
+    uint32_t seed;
     unsigned cleared, parts, most_links, passed, wrong;
 };
 
-static uint32_t below(uint32_t *chance, uint32_t limit) {
-    *chance = *chance * 1664525u + 1013904223u;
-    return (uint32_t)(((uint64_t)*chance * limit) >> 32);
+static uint32_t below(uint32_t *seed, uint32_t limit) {
+    *seed = *seed * 1664525u + 1013904223u;
+    return (uint32_t)(((uint64_t)*seed * limit) >> 32);
 }
 
-/* Post-order: the left side hangs from its left children, the right side from its right ones; label and kind of each. */
-static void draw_arch(void) {
-    const uint32_t header[3] = {NODES, 12, 12 + NODES};
-    uint8_t *labels = plan + 12, *kinds = labels + NODES;
-    uint32_t chance = 7;
-    for (unsigned i = 0; i < 12; i++)
-        plan[i] = (uint8_t)(header[i / 4] >> (8 * (i % 4)));
-    for (size_t v = 1; v <= 2 * SIDE; v++)
-        kinds[v] = v % 2 == 0;
-    for (size_t v = 3 * SIDE + 2; v < NODES; v++)
-        kinds[v] = 1;
-    for (size_t v = 0; v < NODES; v++)
-        labels[v] = (uint8_t)below(&chance, 2);
+/* Post-order: the left side hangs from its left children, the right side from its right ones. */
+static uint32_t draw_arch(void) {
+    static uint8_t labels[NODES], kinds[NODES];
+    uint32_t seed = 7;
+    for (size_t v = 0; v < NODES; v++) {
+        labels[v] = (uint8_t)below(&seed, 2);
+        kinds[v] = v <= 2 * SIDE ? v > 0 && v % 2 == 0 : v >= 3 * SIDE + 2;
+    }
+    return whatif_write_plan(labels, NODES, kinds, NODES, plan, sizeof plan);
 }
 
-/* One question, from Start to Read. */
+/* One question, from Start to its answer, confirmed. */
 static void ask(struct work *work, uint8_t *record) {
     uint16_t nodes[CHANGES];
     uint8_t labels[CHANGES];
-    uint32_t parts, finished = 0, state, yes, links, passed, run_state, run_yes;
+    uint32_t parts, finished = 0;
+    struct whatif_told told = {0};
     for (uint32_t i = 0; i < CHANGES; i++) {
-        nodes[i] = (uint16_t)(i * (NODES / CHANGES) + below(&work->chance, NODES / CHANGES));
-        labels[i] = (uint8_t)below(&work->chance, 2);
+        nodes[i] = (uint16_t)(i * (NODES / CHANGES) + below(&work->seed, NODES / CHANGES));
+        labels[i] = (uint8_t)below(&work->seed, 2);
     }
     uint32_t refused = whatif_start_lent(record, WHATIF_RECORD_BYTES, &lent, nodes, labels, CHANGES, &parts);
     while (!refused && !finished)
         refused = whatif_advance_lent(record, WHATIF_RECORD_BYTES, &lent, &finished);
     if (!refused)
-        refused = whatif_read(record, WHATIF_RECORD_BYTES, &state, &yes, &parts, &links, &passed);
-    if (!refused)
-        refused = whatif_fresh_run(plan, sizeof plan, rules, sizeof rules, nodes, CHANGES, labels, CHANGES, &run_state,
-                                   &run_yes);
-    if (refused || state != run_state || yes != run_yes) {
+        refused = whatif_read_current(record, WHATIF_RECORD_BYTES, &told);
+    struct whatif_confirmed confirmed = whatif_confirm(record, WHATIF_RECORD_BYTES, &lent, nodes, labels, CHANGES);
+    if (refused || confirmed.reason != (told.yes ? WHATIF_CONFIRM_CLEARED : WHATIF_CONFIRM_NOT_CLEARED)) {
         work->wrong++;
         return;
     }
-    work->cleared += yes;
-    work->parts += parts;
-    work->most_links = links > work->most_links ? links : work->most_links;
-    work->passed += passed;
+    work->cleared += told.yes;
+    work->parts += told.parts;
+    work->most_links = told.links > work->most_links ? told.links : work->most_links;
+    work->passed += told.passed;
 }
 
 static void *ask_all(void *given) {
@@ -103,14 +99,14 @@ int main(void) {
         return fprintf(stderr, "header %s, archive %u\n", WHATIF_VERSION, whatif_version()), 1;
     struct work works[THREADS] = {0};
     unsigned wrong = 0;
-    draw_arch();
-    uint32_t answer = whatif_load(loaded, sizeof loaded, plan, sizeof plan, rules, sizeof rules, node_table,
-                                  lent.node_table_len, state_table, lent.state_table_len);
+    uint32_t answer = draw_arch();
+    if (answer == WHATIF_ACCEPTED)
+        answer = whatif_load_lent(loaded, sizeof loaded, &buffers, &lent);
     if (answer != WHATIF_ACCEPTED)
         return fprintf(stderr, "refused %u: %s\n", answer, whatif_answer_text(answer)), 1;
     printf("loaded: %u nodes\n", NODES);
     for (unsigned i = 0; i < THREADS; i++) {
-        works[i].chance = i + 1;
+        works[i].seed = i + 1;
         if (pthread_create(&works[i].thread, NULL, ask_all, &works[i]))
             return fprintf(stderr, "no thread %u\n", i), 1;
     }

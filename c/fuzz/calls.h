@@ -34,6 +34,10 @@ enum try {
     COLOUR_BRANCH,
     COLOUR_BUILD,
     COLOUR_ASK,
+    CONFIRM,
+    RECORD,
+    RUN,
+    WRITTEN,
     TRIES
 };
 
@@ -86,5 +90,12 @@ uint32_t try_colour_branch(struct input *in);
 /* The same for questions. colours.c */
 uint32_t try_colour_build(struct input *in);
 uint32_t try_colour_ask(struct input *in);
+
+/* The functions that the header has by itself: the check before a cut, what a record and a run say, counts and writers.
+ * inlines.c */
+uint32_t try_confirm(struct input *in);
+uint32_t try_record(struct input *in);
+uint32_t try_run(struct input *in);
+uint32_t try_written(struct input *in);
 
 #endif

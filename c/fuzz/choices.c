@@ -1,6 +1,6 @@
 /* The count of choices, on whatever an input lends. */
 #include "calls.h"
-#include "whatif.h"
+#include "told.h"
 
 /* What is lent for a count, the list first. */
 struct asked {
@@ -59,6 +59,13 @@ uint32_t try_count(struct input *in) {
     }
     sure(named(&q.rules, 0) <= counts.count, "an accepted count has room");
     held(&counts, named(&q.rules, 0), "the excess behind the counts stays");
+    keep(&counts);
+    struct whatif_told one = nothing_told(), plain = {.parts = out[0], .links = out[1]};
+    as_told(answer, plain,
+            whatif_count_told(LENT(q.plan), LENT(q.rules), LENT(q.nodes), LENT(q.states), LENT(q.open), LENT(counts),
+                              &one),
+            &one);
+    held(&counts, 0, "the told form writes the same counts");
     sure(out[0] >= 1 && out[0] <= WHATIF_MAX_PARTS, "1 to 254 parts");
     for (size_t i = 0; i < named(&q.rules, 0); i++)
         sure(((const uint64_t *)counts.at)[i] <= WHATIF_MAX_ASSIGNMENTS, "no count is above the limit");

@@ -1,8 +1,6 @@
 /* Branch questions and questions by colours, on whatever an input lends. */
 #include "calls.h"
-#include "whatif.h"
-
-#include <string.h>
+#include "told.h"
 
 /* What is lent: plan and branch table, node table, colour tables. */
 struct coloured {
@@ -87,11 +85,22 @@ static int as_built(const struct coloured *q) {
     return same;
 }
 
+/* The told form of either reading. */
+static void ask_told(const struct coloured *q, int with_upper, uint32_t upper, uint32_t lower, uint32_t answer,
+                     const uint32_t *out) {
+    struct whatif_told one = nothing_told();
+    struct whatif_told plain = {.state = out[0], .yes = out[1], .drops = out[2], .links = out[3]};
+    uint32_t told_answer = (with_upper ? whatif_colour_branch_with_upper_told : whatif_colour_branch_told)(
+        LENT(q->plan), LENT(q->branch), LENT(q->nodes), LENT(q->numbers), LENT(q->bytes), upper, lower, &one);
+    as_told(answer, plain, told_answer, &one);
+}
+
 static uint32_t ask(const struct coloured *q, int with_upper, uint32_t upper, uint32_t lower, int built) {
     colour_call *call = with_upper ? whatif_colour_branch_with_upper : whatif_colour_branch;
     uint32_t out[4] = {UNSET, UNSET, UNSET, UNSET};
     uint32_t answer = call(LENT(q->plan), LENT(q->branch), LENT(q->nodes), LENT(q->numbers), LENT(q->bytes), upper,
                            lower, &out[0], &out[1], &out[2], &out[3]);
+    ask_told(q, with_upper, upper, lower, answer, out);
     all_held(q);
     told(answer, out, 4);
     if (answer == WHATIF_ACCEPTED) {
@@ -195,6 +204,12 @@ uint32_t try_colour_ask(struct input *in) {
     uint32_t out[5] = {UNSET, UNSET, UNSET, UNSET, UNSET}, fresh[2];
     uint32_t answer = whatif_colour_ask(LENT(plan), LENT(rules), LENT(nodes), LENT(states), LENT(numbers), LENT(bytes),
                                         LENT(listed), LENT(labels), &out[0], &out[1], &out[2], &out[3], &out[4]);
+    struct whatif_told one = nothing_told();
+    struct whatif_told plain = {.state = out[0], .yes = out[1], .drops = out[2], .links = out[3], .parts = out[4]};
+    as_told(answer, plain,
+            whatif_colour_ask_told(LENT(plan), LENT(rules), LENT(nodes), LENT(states), LENT(numbers), LENT(bytes),
+                                   LENT(listed), LENT(labels), &one),
+            &one);
     const struct lent all[] = {listed, labels, plan, rules, nodes, states, numbers, bytes};
     for (size_t i = 0; i < sizeof all / sizeof *all; i++)
         held(&all[i], 0, "what is lent stays");

@@ -1,6 +1,6 @@
 /* The calls on two rule tables, on whatever an input lends. */
 #include "calls.h"
-#include "whatif.h"
+#include "told.h"
 
 /* What a fresh run without changes tells: whether it is accepted, state and yes. */
 static int runs(const struct lent *plan, const uint8_t *rules, size_t rules_len, uint32_t out[2]) {
@@ -90,6 +90,10 @@ uint32_t try_agree(struct input *in) {
     sure(out[0] <= 1 && (count == 0) == (out[0] == 1), "there are lines exactly where the tables do not agree");
     sure(count <= WHATIF_MAX_LINES && 4 * count <= lines.count, "at most 256 lines, and these fit");
     held(&lines, 4 * count, "the excess behind the lines stays");
+    keep(&lines);
+    struct whatif_told one = nothing_told(), plain = {.yes = out[0], .lines = out[1]};
+    as_told(answer, plain, whatif_agree_told(LENT(first), LENT(second), LENT(lines), &one), &one);
+    held(&lines, 0, "the told form writes the same lines");
     if (count > 0)
         separating(&first, &second, lines.at, count);
     else

@@ -5,9 +5,7 @@
  */
 #include "calls.h"
 #include "session.h"
-#include "whatif.h"
-
-#include <string.h>
+#include "told.h"
 
 #define MOST_STEPS 80
 #define MOST_TABLE 65535
@@ -106,6 +104,12 @@ static uint32_t read_on(struct screens *all, uint32_t screen) {
     if (begin(all, screen))
         wanted.answer = whatif_read(RECORD(screen), to, to + 1, to + 2, to + 3, to + 4);
     uint32_t answer = whatif_screens_read(LENT(all->run), screen, out, out + 1, out + 2, out + 3, out + 4);
+    struct whatif_told one = nothing_told(), now = nothing_told();
+    struct whatif_told plain = {.state = out[0], .yes = out[1], .parts = out[2], .links = out[3], .passed = out[4]};
+    as_told(answer, plain, whatif_screens_read_told(LENT(all->run), screen, &one), &one);
+    int there = all->run.count == WHATIF_SCREENS_BYTES && screen < WHATIF_SCREENS;
+    int current = there && ((const uint8_t *)all->run.at)[WHATIF_RECORD_BYTES * screen] == ANSWERED;
+    as_told(!there ? 25 : current ? answer : 1, plain, whatif_screens_read_current(LENT(all->run), screen, &now), &now);
     as_wanted(all, answer, out);
     return answer;
 }

@@ -90,6 +90,10 @@ static const char *const folders[TRIES] = {
     [COLOUR_BRANCH] = "colour-branch",
     [COLOUR_BUILD] = "colour-build",
     [COLOUR_ASK] = "colour-ask",
+    [CONFIRM] = "confirm",
+    [RECORD] = "record",
+    [RUN] = "run",
+    [WRITTEN] = "written",
 };
 
 /* A file in the folder of its call. */
@@ -507,6 +511,86 @@ static void sets(void) {
     sets_build("five", plan, SAMPLE_NODES, five, 2, 5);
 }
 
+static void confirmation(const struct plan *p, const char *which, const struct question *list, const uint8_t *record) {
+    begin(CONFIRM, p->name, which), put(BEFORE, 1), changes(list), bytes(record, WHATIF_RECORD_BYTES), plan_and_rules(p);
+    end();
+}
+
+static void record_alone(const struct plan *p, const char *which, const uint8_t *record, size_t len) {
+    begin(RECORD, p->name, which), put(BEHIND, 1), bytes(record, len), end();
+}
+
+/* A record on some screens, and another to put in the place of the one with this number. */
+static void run_of(const struct plan *p, const char *which, uint32_t number, uint32_t length, uint32_t on,
+                   const uint8_t *record, const uint8_t *other) {
+    begin(RUN, p->name, which), put(BEFORE, 1), put(number, 4), put(length, 1), put(on, 1);
+    bytes(record, WHATIF_RECORD_BYTES), bytes(other, WHATIF_RECORD_BYTES), end();
+}
+
+/* Records in each state; confirmed with their list and with others; alone, short, damaged; as runs. */
+static void on_own_functions(const struct plan *p, const struct question *list) {
+    uint8_t fresh[WHATIF_RECORD_BYTES] = {0}, loaded[WHATIF_RECORD_BYTES] = {0}, running[WHATIF_RECORD_BYTES];
+    uint8_t answered[WHATIF_RECORD_BYTES], other_plan[WHATIF_PLAN_BYTES(N)];
+    uint32_t parts, finished = 0;
+    size_t numbers_len = WHATIF_NODE_TABLE_LEN(p->n), bytes_len = WHATIF_STATE_TABLE_LEN(p->n, p->s);
+    struct question other = *list;
+    struct plan altered = *p;
+    other.labels[list->m - 1] ^= 1;
+    memcpy(other_plan, p->plan, WHATIF_PLAN_BYTES(p->n));
+    altered.plan = other_plan;
+    must(whatif_load(loaded, sizeof loaded, PLAN(p), RULES(p), nodes, numbers_len, states, bytes_len) == 0);
+    memcpy(running, loaded, sizeof running);
+    must(whatif_start(running, sizeof running, PLAN(p), RULES(p), nodes, numbers_len, states, bytes_len, list->nodes,
+                      list->m, list->labels, list->m, &parts) == 0);
+    memcpy(answered, running, sizeof answered);
+    while (!finished)
+        must(whatif_advance(answered, sizeof answered, PLAN(p), RULES(p), nodes, numbers_len, states, bytes_len,
+                            &finished) == 0);
+    confirmation(p, "", list, answered), confirmation(p, "-running", list, running);
+    confirmation(p, "-other-list", &other, answered);
+    other = *list, other.nodes[0]++, confirmation(p, "-other-node", &other, answered);
+    other = *list, other.m--, confirmation(p, "-fewer", &other, answered);
+    other_plan[12 + p->n - 1] ^= 1, confirmation(&altered, "-other-root", list, answered);
+    other_plan[12 + p->n] = 1, confirmation(&altered, "-no-tree", list, answered);
+    altered = p == &sample ? comb : sample, altered.name = p->name;
+    confirmation(&altered, "-other-plan", list, answered);
+    record_alone(p, "-fresh", fresh, sizeof fresh), record_alone(p, "-loaded", loaded, sizeof loaded);
+    record_alone(p, "-running", running, sizeof running), record_alone(p, "-answered", answered, sizeof answered);
+    record_alone(p, "-short", answered, sizeof answered - 1);
+    run_of(p, "", 2, 0, 0x34, running, loaded), run_of(p, "-idle", 7, 0, 0xff, answered, fresh);
+    run_of(p, "-not-at-rest", 5, 0, 0xff, loaded, running), run_of(p, "-25", 8, 0, 0x01, running, loaded);
+    run_of(p, "-short", 1, 1, 0x81, running, loaded), run_of(p, "-long", 1, 2, 0x81, running, loaded);
+    answered[1] ^= 2, running[1] ^= 2;
+    confirmation(p, "-damaged", list, answered), record_alone(p, "-damaged", running, sizeof running);
+    run_of(p, "-damaged", 6, 0, 0x0c, running, answered);
+    run_of(p, "-damaged-at-rest", 0, 0, 0x40, answered, loaded);
+}
+
+/* Bytes to count; labels and kinds of the plan; the parts of its rule table. */
+static void written(const struct plan *p, const char *which, const uint8_t *counted, size_t len, size_t kinds,
+                    size_t room) {
+    const uint8_t *of_plan = p->plan + 12, *of_rules = p->rules + 20;
+    size_t inner = p->s * p->k * p->s;
+    begin(WRITTEN, p->name, which), put(BEFORE, 1), bytes(counted, len), bytes(of_plan, p->n);
+    bytes(of_plan + p->n, kinds), put((uint32_t)room, 2), bytes(of_rules, p->k), bytes(of_rules + p->k, inner);
+    bytes(of_rules + p->k + inner, p->s), put((uint32_t)WHATIF_RULES_BYTES(p->s, p->k) + 1, 2), end();
+}
+
+static void counts_and_writers(const struct plan *p) {
+    static const uint8_t file_of_three[] = {3, 0, 0, 0, 12, 0, 0, 0, 15, 0, 0, 0, 5, 6, 7, 2, 0, 0};
+    uint8_t other[WHATIF_PLAN_BYTES(N)], longer[WHATIF_BRANCH_BYTES(S, K) + 1] = {0};
+    size_t len = WHATIF_PLAN_BYTES(p->n), branch_len = WHATIF_BRANCH_BYTES(p->branch_states, p->k);
+    struct plan leaves = *p;
+    leaves.plan = other;
+    memcpy(other, p->plan, len), memset(other + 12 + p->n, 0, p->n), other[8]++;
+    memcpy(longer, p->branch, branch_len);
+    written(&leaves, "-leaves", other, len, p->n, len), written(p, "-longer", longer, branch_len + 1, p->n, len);
+    written(p, "-plan", PLAN(p), p->n, len + 1), written(p, "-rules", RULES(p), p->n, len);
+    written(p, "-branch", BRANCH_TABLE(p), p->n - 1, len), written(p, "-11", PLAN(p), p->n, len - 1);
+    written(p, "-planner", file_of_three, sizeof file_of_three, p->n, len);
+    written(p, "-short", p->plan, 11, p->n, len);
+}
+
 int main(int argc, char **argv) {
     must(argc == 2);
     folder = argv[1];
@@ -527,6 +611,8 @@ int main(int argc, char **argv) {
     on_screens(&sample, &questions[1]), screens_list(&sample, &questions[3]);
     on_screens(&comb, &far), screens_list(&comb, &far);
     colours(&sample), colours(&comb), sets();
+    on_own_functions(&sample, &questions[2]), on_own_functions(&comb, &far);
+    counts_and_writers(&sample), counts_and_writers(&comb);
     on_tables(&comb), on_records(&comb, &far), panel(&comb, &far), question(&comb, &far, "");
     for (size_t i = 0; i < QUESTIONS; i++) {
         char which[] = {'-', (char)('1' + i), 0};

@@ -2,9 +2,7 @@
 #include "session.h"
 
 #include "calls.h"
-#include "whatif.h"
-
-#include <string.h>
+#include "told.h"
 
 /* What Read answers now, with its five values. */
 struct last {
@@ -122,6 +120,11 @@ uint32_t tell(struct session *s, struct answer *read) {
     uint32_t out[5] = {UNSET, UNSET, UNSET, UNSET, UNSET};
     uint32_t answer = whatif_read(LENT(s->record), &out[0], &out[1], &out[2], &out[3], &out[4]);
     told(answer, out, 5);
+    struct whatif_told one = nothing_told(), now = nothing_told();
+    struct whatif_told plain = {.state = out[0], .yes = out[1], .parts = out[2], .links = out[3], .passed = out[4]};
+    as_told(answer, plain, whatif_read_told(LENT(s->record), &one), &one);
+    int current = s->record.count > 0 && ((const uint8_t *)s->record.at)[0] == ANSWERED;
+    as_told(current ? answer : 1, plain, whatif_read_current(LENT(s->record), &now), &now);
     held(&s->record, 0, "Read leaves the record");
     int fits = out[0] < WHATIF_MAX_STATES && out[1] <= 1 && out[2] >= 1 && out[2] <= WHATIF_MAX_PARTS;
     sure(answer != WHATIF_ACCEPTED || fits, "Read tells a state, yes or no, and 1 to 254 parts");

@@ -30,4 +30,9 @@ uint32_t advance(struct session *s, uint32_t *finished);
 uint32_t cancel(struct session *s);
 uint32_t tell(struct session *s, struct answer *told);
 
+/* whatif_confirm, compared with the checks that the header lists: 0 where session and fresh run agree, 1 without an answer,
+ * else its reason. inlines.c */
+uint32_t confirmed(const struct lent *record, const struct lent *plan, const struct lent *rules, const uint16_t *nodes,
+                   const uint8_t *labels, size_t count);
+
 #endif

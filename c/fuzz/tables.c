@@ -1,6 +1,6 @@
 /* The seven calls on tables, on whatever an input lends. */
 #include "calls.h"
-#include "whatif.h"
+#include "told.h"
 
 typedef uint32_t build_call(const uint8_t *, size_t, const uint8_t *, size_t, uint16_t *, size_t, uint8_t *, size_t);
 typedef uint32_t check_call(const uint8_t *, size_t, const uint8_t *, size_t, const uint16_t *, size_t, const uint8_t *,
@@ -9,6 +9,8 @@ typedef uint32_t check_call(const uint8_t *, size_t, const uint8_t *, size_t, co
 /* The branch question, in either reading. */
 typedef uint32_t branch_call(const uint8_t *, size_t, const uint8_t *, size_t, const uint16_t *, size_t, const uint8_t *,
                              size_t, uint32_t, uint32_t, uint32_t *, uint32_t *, uint32_t *, uint32_t *);
+typedef uint32_t told_call(const uint8_t *, size_t, const uint8_t *, size_t, const uint16_t *, size_t, const uint8_t *,
+                           size_t, uint32_t, uint32_t, struct whatif_told *);
 
 /* What the seven have in common: plan and table, and the two tables of the nodes. */
 struct tables {
@@ -92,13 +94,20 @@ uint32_t try_fresh_run(struct input *in) {
     held(&nodes, 0, "the listed nodes stay");
     held(&labels, 0, "the listed labels stay");
     told(answer, out, 2);
+    struct whatif_told one = nothing_told(), plain = {.state = out[0], .yes = out[1]};
+    as_told(answer, plain, whatif_fresh_run_told(LENT(plan), LENT(rules), LENT(nodes), LENT(labels), &one), &one);
     sure(answer != WHATIF_ACCEPTED || (out[0] < named(&rules, 0) && out[1] <= 1), "a fresh run tells a state");
     return answer;
 }
 
-static uint32_t ask(branch_call *call, const struct tables *t, uint32_t upper, uint32_t lower, uint32_t *out) {
+static uint32_t ask(branch_call *call, told_call *told_by, const struct tables *t, uint32_t upper, uint32_t lower,
+                    uint32_t *out) {
     uint32_t answer = call(LENT(t->plan), LENT(t->table), LENT(t->nodes), LENT(t->states), upper, lower, &out[0],
                            &out[1], &out[2], &out[3]);
+    struct whatif_told one = nothing_told();
+    struct whatif_told plain = {.state = out[0], .yes = out[1], .links = out[2], .passed = out[3]};
+    as_told(answer, plain,
+            told_by(LENT(t->plan), LENT(t->table), LENT(t->nodes), LENT(t->states), upper, lower, &one), &one);
     all_held(t);
     told(answer, out, 4);
     int fits = out[0] < named(&t->table, 0) && out[1] <= 1 && out[2] < named(&t->plan, 0);
@@ -113,8 +122,8 @@ uint32_t try_branch(struct input *in) {
     uint32_t upper = take(in, 4), lower = take(in, 4), out[4] = {UNSET, UNSET, UNSET, UNSET};
     uint32_t below[4] = {UNSET, UNSET, UNSET, UNSET};
     struct tables t = lend_tables(in);
-    uint32_t answer = ask(whatif_branch_with_upper, &t, upper, lower, out);
-    uint32_t answer_below = ask(whatif_branch, &t, upper, lower, below);
+    uint32_t answer = ask(whatif_branch_with_upper, whatif_branch_with_upper_told, &t, upper, lower, out);
+    uint32_t answer_below = ask(whatif_branch, whatif_branch_told, &t, upper, lower, below);
     if (answer_below != answer)
         sure((answer == WHATIF_REFUSED_LENT_VALUE && answer_below == WHATIF_ACCEPTED) ||
                  (answer == WHATIF_ACCEPTED && answer_below == WHATIF_REFUSED_LENT_VALUE),

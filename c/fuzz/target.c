@@ -46,6 +46,10 @@ static const struct {
     [COLOUR_BRANCH] = {"whatif_colour_branch, both readings", try_colour_branch, 1u | FROM(13, 13) | FROM(16, 18)},
     [COLOUR_BUILD] = {"whatif_colour_build", try_colour_build, 1u | FROM(2, 11) | FROM(27, 27)},
     [COLOUR_ASK] = {"whatif_colour_ask", try_colour_ask, 1u | FROM(12, 14) | FROM(17, 18) | FROM(27, 27)},
+    [CONFIRM] = {"whatif_confirm (4 to 7: its reasons)", try_confirm, FROM(0, 1) | FROM(4, 7)},
+    [RECORD] = {"what a record says", try_record, FROM(0, 1)},
+    [RUN] = {"what a run says, a replacement", try_run, FROM(0, 1) | FROM(25, 25)},
+    [WRITTEN] = {"counts and writers", try_written, 1u | FROM(3, 5) | FROM(11, 11)},
 };
 
 #define MOST 27 /* the greatest number of a refusal */

@@ -7,11 +7,14 @@
 
 #define MOST_STEPS 60
 
-/* A session's phase, and whether there is a finished answer, and which. */
+/* A session's phase, whether there is a finished answer, and which; the list that was started last. */
 struct walk {
     enum phase phase;
     int answered;
     struct answer last;
+    size_t count;
+    uint16_t nodes[WHATIF_MAX_CHANGES];
+    uint8_t labels[WHATIF_MAX_CHANGES];
 };
 
 struct session fresh(struct input *in) {
@@ -67,8 +70,10 @@ uint32_t try_question(struct input *in) {
     }
     uint32_t answer = start(&s, &listed, &labels, &parts);
     sure(answer == run, "Start and a fresh run refuse a list alike");
-    if (answer == WHATIF_ACCEPTED)
+    if (answer == WHATIF_ACCEPTED) {
         finish(&s, left_of(&s, &listed, &labels), parts, state, yes);
+        sure(confirmed(&s.record, &s.plan, &s.rules, listed.at, labels.at, listed.count) == 0, "it is confirmed");
+    }
     return answer;
 }
 
@@ -82,10 +87,15 @@ void alter(struct session *s, struct input *in) {
     keep(one);
 }
 
-static uint32_t start_from(struct session *s, struct input *in) {
+static uint32_t start_from(struct session *s, struct walk *walk, struct input *in) {
     uint32_t parts;
     struct lent listed = lend(in, 2), labels = lend(in, 1);
     uint32_t answer = start(s, &listed, &labels, &parts);
+    if (answer == WHATIF_ACCEPTED) {
+        walk->count = listed.count;
+        memcpy(walk->nodes, listed.at, listed.count * sizeof *walk->nodes);
+        memcpy(walk->labels, labels.at, labels.count);
+    }
     give_back_last(2);
     return answer;
 }
@@ -103,7 +113,7 @@ static uint32_t step(struct session *s, struct walk *walk, struct input *in) {
         walk->answered &= answer != WHATIF_ACCEPTED;
         break;
     case DO_START:
-        answer = start_from(s, in), next = RUNNING, allowed = was == LOADED || was == ANSWERED;
+        answer = start_from(s, walk, in), next = RUNNING, allowed = was == LOADED || was == ANSWERED;
         break;
     case DO_CANCEL:
         answer = cancel(s), next = LOADED, allowed = was == RUNNING;
@@ -130,9 +140,9 @@ static uint32_t step(struct session *s, struct walk *walk, struct input *in) {
 
 uint32_t try_panel(struct input *in) {
     struct session s = fresh(in);
-    struct walk walk = {EMPTY, 0, {0, 0, 0, 0, 0}};
+    struct walk walk = {.phase = EMPTY};
     uint32_t answer = WHATIF_ACCEPTED;
     for (size_t i = 0; i < MOST_STEPS && in->left > 0; i++)
-        answer = step(&s, &walk, in);
+        answer = step(&s, &walk, in), confirmed(&s.record, &s.plan, &s.rules, walk.nodes, walk.labels, walk.count);
     return answer;
 }
