@@ -117,7 +117,7 @@ static const struct call {
     void (*make)(void);
     size_t most;
 } calls[] = {
-    {"build", build, 3072},
+    {"build", build, 5 * 1024},
     {"check", check, 8 * 1024},
     {"fresh run", fresh_run, 40 * 1024},
     {"load", load, 4096},
@@ -136,7 +136,7 @@ static const struct call {
     {"deal", deal, 4096},
     {"read on a screen", read_on, 4096},
     {"count", count, 35 * 1024},
-    {"branch build", branch_build, 3072},
+    {"branch build", branch_build, 5 * 1024},
     {"branch check", branch_check, 3072},
     {"branch question", ask, 1024},
     {"branch question with upper", ask_with_upper, 1024},
@@ -145,11 +145,11 @@ static const struct call {
     {"planner out", planner_out, 1024},
     {"planner home", planner_home, 1024},
     {"laying over", lay_over, 1024},
-    {"colour branch build", colour_branch_build, 3072},
+    {"colour branch build", colour_branch_build, 5 * 1024},
     {"colour branch question", colour_ask, 1024},
     {"colour branch question with upper", colour_ask_with_upper, 1024},
-    {"build of four states", build_of_four, 3072},
-    {"colour build", colour_build, 3072},
+    {"build of four states", build_of_four, 5 * 1024},
+    {"colour build", colour_build, 5 * 1024},
     {"colour question", colour_question, 3072},
 };
 

@@ -31,9 +31,10 @@
  * thread writes during the call.
  * Stack of a call, as measured on plans of 65,535 nodes and the largest tables: a fresh run at most 40 KiB, a count of
  * choices at most 35 KiB, agreement of two rule tables at most 12 KiB, a Start, which makes the full check, at most
- * 10 KiB, the full check of a rule table's tables at most 8 KiB, any other call of the session or of the screens at
- * most 4 KiB, a build, a branch table's full check or a question of changes by colours at most 3 KiB, any other at most
- * 1 KiB. A function that is written here needs the stack of the calls that it makes, and at most 2 KiB more.
+ * 10 KiB, the full check of a rule table's tables at most 8 KiB, a build at most 5 KiB, any other call of the session
+ * or of the screens at most 4 KiB, a branch table's full check or a question of changes by colours at most 3 KiB, any
+ * other at most 1 KiB. A function that is written here needs the stack of the calls that it makes, and at most 2 KiB
+ * more.
  *
  * What holds for every function:
  * - A slice is a pointer, then its count of elements (not bytes).
@@ -582,9 +583,10 @@ uint32_t whatif_screens_read(const uint8_t *records, size_t records_len, uint32_
 
 /*
  * Questions by colours: the answers of branch questions and of questions once more, by other tables, at a cost that
- * does not grow with the depth of the plan. Every state of every node has a colour; on the way down a path the colour
- * stays or falls, and a question goes from fall to fall. A drop is a place on the path where the colour falls; the
- * moves of the searches for the drops are the links, at most 45 for each drop. These calls stand outside the session.
+ * depends on how often colours fall on the paths, and little on the depth of the plan. Every state of every node has a
+ * colour; on the way down a path the colour stays or falls, and a question goes from fall to fall. A drop is a place on
+ * the path where the colour falls; the moves of the searches for the drops are the links, at most 45 for each drop.
+ * These calls stand outside the session.
  * The colour tables are two buffers; their layout is in LAYOUT.md.
  *
  * The first WHATIF_NODE_TABLE_LEN(N) numbers of the colour tables are the plan's node table: where no other is at hand,
