@@ -9,7 +9,7 @@
 --                                               return
 --     twice-changed, still-a-plan               plans
 --     on-a-changed-plan, over-by-value, over-in-place, over-on-bytes    questions
--- Where each word of a statement is defined: README, *Reading order*; docs/NAMES.md.
+-- What a word of a statement means: tools/believe, docs/PROVED.md.
 use Prim.Native.Nat.{ℕ, _≤_, _<_}
 use mathlib.Core.Path.{_≡_, sym, _∙_}
 use mathlib.Core.Bool.{Bool, true, false}
