@@ -38,21 +38,13 @@ fn library() -> Result<Option<Found>, String> {
     let wanted = find::wanted(env::var("WHATIF_LINK").ok().as_deref())?;
     let beside = PathBuf::from(env::var("CARGO_MANIFEST_DIR").unwrap_or_default()).join("../../build");
     let found = match env::var_os("WHATIF_LIB_DIR") {
-        Some(named) => find::in_folder(&watched(named.into()), wanted),
-        None => find::in_folder(&watched(beside), wanted).or_else(|| find::by_pkg_config(wanted)),
+        Some(named) => find::in_folder(&PathBuf::from(named), wanted),
+        None => find::in_folder(&beside, wanted).or_else(|| find::by_pkg_config(wanted)),
     };
     if let Some(version) = found.as_ref().and_then(|found| found.version.as_ref()) {
         find::may_link(version)?;
     }
     Ok(found)
-}
-
-/// A folder whose library may come or go.
-fn watched(folder: PathBuf) -> PathBuf {
-    for name in ["libwhatif.a", "libwhatif.so"] {
-        println!("cargo:rerun-if-changed={}", folder.join(name).display());
-    }
-    folder
 }
 
 fn link(found: &Found) {
@@ -71,6 +63,8 @@ fn link(found: &Found) {
 fn no_library() {
     let ways = "make it with tools/archive, install it, or set WHATIF_LIB_DIR";
     println!("cargo:warning=the library is not there, so nothing can be linked: {}", ways);
+    // a file that is never there: the next build looks for the library again
+    println!("cargo:rerun-if-changed=library-not-there");
     // not static: that is looked for before anything is linked
     println!("cargo:rustc-link-lib=dylib=whatif");
 }

@@ -1,0 +1,197 @@
+//! A mill with eight screens: their sessions with the plan, the rules and the tables that they work on.
+
+use crate::buffers::Buffers;
+use crate::lists::Split;
+use crate::{Answer, Change, Deal, Lent, Plan, Refusal, Rules, Screens, Session, Unconfirmed};
+use core::fmt;
+use core::iter::FusedIterator;
+
+/// A mill with a plan loaded and up to eight questions running, one on each screen: it owns the plan, the rules, their
+/// tables and the screens. So nothing can be exchanged or altered between the calls.
+///
+/// A [`deal`](Mill::deal) handles one part for the next running screen, in turn. One that finds no screen running returns
+/// none, so that a refusal means that a record is damaged: [`repair`](Mill::repair) it.
+///
+/// ```
+/// use whatif::{Kind::{Inner, Leaf}, Mill, Plan, Refusal, Rules};
+/// let plan = Plan::new(&[1, 1, 0], &[Leaf, Leaf, Inner])?;
+/// let rules = Rules::from_fn(2, 2, |a| a, |p, _, q| p.min(q), |state| state == 1)?;
+/// let mut mill = Mill::new(plan, rules)?;
+/// mill.start(2, &[(0, 0)])?;
+/// mill.start(5, &[(2, 1)])?;
+/// for deal in mill.deals() {
+///     println!("screen {} was served", deal?.screen);
+/// }
+/// assert!(!mill.current(2)?.yes && mill.current(5)?.yes);
+/// assert_eq!(mill.start(8, &[]), Err(Refusal::Screen));
+/// # Ok::<(), Refusal>(())
+/// ```
+#[derive(Clone)]
+pub struct Mill {
+    buffers: Buffers,
+    screens: Screens,
+    /// As every screen's was after the Load.
+    loaded: Session,
+}
+
+impl Mill {
+    /// A mill with this plan and these rules loaded on all eight screens.
+    ///
+    /// # Errors
+    /// 10 where the plan has a label that the rules do not have.
+    pub fn new(plan: Plan, rules: Rules) -> Result<Mill, Refusal> {
+        let mut screens = Screens::new();
+        let buffers =
+            Buffers::load(plan, rules, |plan, rules, nodes, states| screens.load(plan, rules, nodes, states))?;
+        let loaded = screens.session(0).unwrap_or_default();
+        Ok(Mill { buffers, screens, loaded })
+    }
+
+    /// Another plan, or other rules, in the place of the first, on all eight screens. No answer is kept.
+    ///
+    /// # Errors
+    /// 1 while a screen is running or a record is damaged, then 10; the mill is unchanged then.
+    pub fn load(&mut self, plan: Plan, rules: Rules) -> Result<(), Refusal> {
+        let screens = &mut self.screens;
+        self.buffers =
+            Buffers::load(plan, rules, |plan, rules, nodes, states| screens.load(plan, rules, nodes, states))?;
+        self.loaded = self.screens.session(0).unwrap_or_default();
+        Ok(())
+    }
+
+    /// Asks a question on a screen, and returns the number of its parts: as many turns of the screen answer it.
+    ///
+    /// # Errors
+    /// 25 for a screen above 7, 1 while a question is running there, 12 for more than 64 changes, 13 for a node that the
+    /// plan does not have, 14 for a label that the rules do not have.
+    pub fn start(&mut self, screen: u32, changes: &[Change]) -> Result<u32, Refusal> {
+        let list = Split::of(changes);
+        self.screens.start(screen, &self.buffers.lent(), list.nodes(), list.labels())
+    }
+
+    /// Handles one part for the next running screen; none where no screen is running.
+    ///
+    /// # Errors
+    /// 1 where the record of the next screen, [`Screens::next`], is damaged.
+    pub fn deal(&mut self) -> Result<Option<Deal>, Refusal> {
+        match self.screens.next() {
+            None => Ok(None),
+            Some(_) => self.screens.deal(&self.buffers.lent()).map(Some),
+        }
+    }
+
+    /// Deals until no screen is running, as an iterator. It ends after a refusal too. It may be left early.
+    pub fn deals(&mut self) -> Deals<'_> {
+        Deals { mill: self, ended: false }
+    }
+
+    /// Drops a screen's question. Its last finished answer stays.
+    ///
+    /// # Errors
+    /// 25, then 1 unless a question is running there.
+    pub fn cancel(&mut self, screen: u32) -> Result<(), Refusal> {
+        self.screens.cancel(screen)
+    }
+
+    /// The answer of the question that was asked last on a screen: what it shows.
+    ///
+    /// # Errors
+    /// 25, then 1 unless it is answered.
+    pub fn current(&self, screen: u32) -> Result<Answer, Refusal> {
+        self.screens.current(screen)
+    }
+
+    /// A screen's last finished answer. It may be an earlier question's.
+    ///
+    /// # Errors
+    /// 25, then 1 where no question was finished there since the last load.
+    pub fn last(&self, screen: u32) -> Result<Answer, Refusal> {
+        self.screens.read(screen)
+    }
+
+    /// Confirms a screen's yes before a blank is cut, as [`Panel::confirm`](crate::Panel::confirm) does.
+    ///
+    /// # Errors
+    /// 25, then what [`Unconfirmed`] says.
+    pub fn confirm(&self, screen: u32, changes: &[Change]) -> Result<Answer, Unconfirmed> {
+        let list = Split::of(changes);
+        self.screens.confirm(screen, &self.buffers.lent(), list.nodes(), list.labels())
+    }
+
+    /// Puts the loaded record in the place of a screen's, whatever was there, and returns what was: its question and its
+    /// answer are gone, the other screens go on, and a question can be started there at once.
+    ///
+    /// # Errors
+    /// 25 for a screen above 7.
+    ///
+    /// ```
+    /// # use whatif::{Kind::Leaf, Mill, Plan, Rules};
+    /// # let mut mill = Mill::new(Plan::new(&[0], &[Leaf])?, Rules::new(&[0], &[0], &[true])?)?;
+    /// let damaged: Vec<u32> = mill.screens().damaged().collect();
+    /// for screen in damaged {
+    ///     mill.repair(screen)?;
+    /// }
+    /// # Ok::<(), whatif::Refusal>(())
+    /// ```
+    pub fn repair(&mut self, screen: u32) -> Result<Session, Refusal> {
+        self.screens.replace(screen, &self.loaded)
+    }
+
+    /// The plan.
+    #[must_use]
+    pub fn plan(&self) -> &Plan {
+        &self.buffers.plan
+    }
+
+    /// The rules.
+    #[must_use]
+    pub fn rules(&self) -> &Rules {
+        &self.buffers.rules
+    }
+
+    /// The screens: their states and parts, which are running, which is next, which are damaged.
+    #[must_use]
+    pub fn screens(&self) -> &Screens {
+        &self.screens
+    }
+
+    /// Plan, rules and tables, for the calls on bytes.
+    #[must_use]
+    pub fn lent(&self) -> Lent<'_> {
+        self.buffers.lent()
+    }
+}
+
+/// The deals of a mill, until no screen is running: each asked for handles one part. It ends after a refusal too.
+#[derive(Debug)]
+#[must_use = "no part is handled before the iterator is asked for it"]
+pub struct Deals<'a> {
+    mill: &'a mut Mill,
+    ended: bool,
+}
+
+impl Iterator for Deals<'_> {
+    type Item = Result<Deal, Refusal>;
+
+    fn next(&mut self) -> Option<Result<Deal, Refusal>> {
+        if self.ended {
+            return None;
+        }
+        let dealt = self.mill.deal().transpose();
+        self.ended = !matches!(dealt, Some(Ok(_)));
+        dealt
+    }
+}
+
+impl FusedIterator for Deals<'_> {}
+
+/// Without the tables.
+impl fmt::Debug for Mill {
+    fn fmt(&self, f: &mut fmt::Formatter<'_>) -> fmt::Result {
+        f.debug_struct("Mill")
+            .field("plan", self.plan())
+            .field("rules", self.rules())
+            .field("screens", &self.screens)
+            .finish_non_exhaustive()
+    }
+}
