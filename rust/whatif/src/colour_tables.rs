@@ -132,7 +132,7 @@ impl RuleColours {
         colour_ask(plan, rules, numbers, bytes, numbers, bytes, list.nodes(), list.labels())
     }
 
-    /// Confirms a yes before a blank is cut: asks with the list that goes to the mill, and returns the answer only where it
+    /// Confirms a yes before a blank is cut: asks with the list that goes to the mill. It is confirmed only where the answer
     /// is a yes and a fresh run of the plan with the list says the same.
     ///
     /// # Errors
@@ -142,14 +142,14 @@ impl RuleColours {
     /// # use whatif::{Kind::Leaf, Plan, RuleColours, Rules};
     /// # let rules = Rules::new(&[0, 1], &[0; 8], &[false, true])?;
     /// # let colours = RuleColours::build(Plan::new(&[0], &[Leaf])?, rules)?;
-    /// assert!(colours.confirm(&[(0, 1)])?.yes);
+    /// colours.confirm(&[(0, 1)])?; // and cut
     /// assert!(colours.confirm(&[(0, 0)]).is_err());
     /// # Ok::<(), Box<dyn std::error::Error>>(())
     /// ```
-    pub fn confirm(&self, changes: &[Change]) -> Result<ColourAnswer, Unconfirmed> {
+    pub fn confirm(&self, changes: &[Change]) -> Result<(), Unconfirmed> {
         let (answer, list) = (self.ask(changes)?, Split::of(changes));
         let fresh = fresh_run(self.plan.as_bytes(), self.rules.as_bytes(), list.nodes(), list.labels())?;
-        confirmed(Verdict { state: answer.state, yes: answer.yes }, fresh).map(|()| answer)
+        confirmed(Verdict { state: answer.state, yes: answer.yes }, fresh)
     }
 
     /// The plan.

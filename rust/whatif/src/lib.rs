@@ -128,6 +128,11 @@ pub use planned::{Planned, PlannerNode};
 #[cfg(feature = "alloc")]
 pub use rules::Rules;
 
+/// The example of README.md is a test.
+#[cfg(doctest)]
+#[doc = include_str!("../README.md")]
+struct Readme;
+
 /// This crate's version.
 pub const VERSION: &str = env!("CARGO_PKG_VERSION");
 

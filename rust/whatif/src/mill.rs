@@ -10,7 +10,7 @@ use core::iter::FusedIterator;
 /// tables and the screens. So nothing can be exchanged or altered between the calls.
 ///
 /// A [`deal`](Mill::deal) handles one part for the next running screen, in turn. One that finds no screen running returns
-/// none, so that a refusal means that a record is damaged: [`repair`](Mill::repair) it.
+/// none. So a refusal means that the record of that screen is damaged: [`repair`](Mill::repair) it.
 ///
 /// ```
 /// use whatif::{Kind::{Inner, Leaf}, Mill, Plan, Refusal, Rules};
@@ -72,7 +72,8 @@ impl Mill {
     /// Handles one part for the next running screen; none where no screen is running.
     ///
     /// # Errors
-    /// 1 where the record of the next screen, [`Screens::next`], is damaged.
+    /// 1, or 17 or 18 where it still keeps its layout, where the record of the next screen is damaged. [`Screens::next`]
+    /// has its number.
     pub fn deal(&mut self) -> Result<Option<Deal>, Refusal> {
         match self.screens.next() {
             None => Ok(None),
@@ -113,7 +114,7 @@ impl Mill {
     ///
     /// # Errors
     /// 25, then what [`Unconfirmed`] says.
-    pub fn confirm(&self, screen: u32, changes: &[Change]) -> Result<Answer, Unconfirmed> {
+    pub fn confirm(&self, screen: u32, changes: &[Change]) -> Result<(), Unconfirmed> {
         let list = Split::of(changes);
         self.screens.confirm(screen, &self.buffers.lent(), list.nodes(), list.labels())
     }
@@ -127,10 +128,13 @@ impl Mill {
     /// ```
     /// # use whatif::{Kind::Leaf, Mill, Plan, Rules};
     /// # let mut mill = Mill::new(Plan::new(&[0], &[Leaf])?, Rules::new(&[0], &[0], &[true])?)?;
-    /// let damaged: Vec<u32> = mill.screens().damaged().collect();
-    /// for screen in damaged {
-    ///     mill.repair(screen)?;
+    /// # mill.start(3, &[])?;
+    /// while mill.screens().is_running() {
+    ///     if let (Err(_), Some(screen)) = (mill.deal(), mill.screens().next()) {
+    ///         mill.repair(screen)?;
+    ///     }
     /// }
+    /// # assert!(mill.current(3)?.yes);
     /// # Ok::<(), whatif::Refusal>(())
     /// ```
     pub fn repair(&mut self, screen: u32) -> Result<Session, Refusal> {
@@ -193,5 +197,58 @@ impl fmt::Debug for Mill {
             .field("rules", self.rules())
             .field("screens", &self.screens)
             .finish_non_exhaustive()
+    }
+}
+
+#[cfg(test)]
+mod tests {
+    use super::{Mill, Screens};
+    use crate::sizes::RECORD_BYTES;
+    use crate::Kind::{Inner, Leaf};
+    use crate::{Plan, Refusal, Rules, State};
+    use std::vec::Vec;
+
+    fn mill() -> Mill {
+        let plan = Plan::new(&[1, 1, 0], &[Leaf, Leaf, Inner]).unwrap();
+        let rules = Rules::from_fn(2, 2, |a| a, |p, _, q| p.min(q), |state| state == 1).unwrap();
+        Mill::new(plan, rules).unwrap()
+    }
+
+    /// With a bit of a screen's record flipped.
+    fn flip(mill: &mut Mill, screen: usize, bit: usize) {
+        let mut records = *mill.screens.as_bytes();
+        records[RECORD_BYTES * screen + bit / 8] ^= 1 << (bit % 8);
+        mill.screens = Screens::from_bytes(records, mill.screens.first());
+    }
+
+    /// Every bit of a running screen's record: a refused deal names it as the next screen, a repair frees the other.
+    #[test]
+    fn a_damaged_record_is_repaired() {
+        let (mut refused, mut whole) = (Vec::new(), 0);
+        for bit in 0..8 * RECORD_BYTES {
+            let mut mill = mill();
+            mill.start(1, &[(0, 0)]).unwrap();
+            mill.start(4, &[(1, 0)]).unwrap();
+            flip(&mut mill, 1, bit);
+            match mill.deal() {
+                Err(refusal) => {
+                    refused.push(refusal);
+                    assert_eq!((mill.deal(), mill.screens().next()), (Err(refusal), Some(1)));
+                    assert_eq!(mill.deals().collect::<Vec<_>>(), [Err(refusal)], "bit {}", bit);
+                    mill.repair(1).unwrap();
+                    assert_eq!(mill.screens().state(1), Some(State::Loaded));
+                }
+                Ok(_) => whole += 1,
+            }
+            while mill.deal() != Ok(None) {
+                if let (Err(_), Some(screen)) = (mill.deal(), mill.screens().next()) {
+                    mill.repair(screen).unwrap();
+                }
+            }
+            assert_eq!(mill.current(4).map(|answer| answer.yes), Ok(false), "bit {}", bit);
+        }
+        let number = |wanted| refused.iter().filter(|&&refusal| refusal == wanted).count();
+        let [broken, lengths] = [Refusal::SessionState, Refusal::LentLength].map(number);
+        assert!(broken > 7_000 && lengths > 0 && whole > 10, "{} {} {}", broken, lengths, whole);
     }
 }

@@ -6,7 +6,7 @@ use crate::{Advances, Answer, Change, Counts, Lent, Plan, Progress, Refusal, Rul
 use core::fmt;
 
 /// A panel with a plan loaded: it owns the plan, the rules, their tables and the session. So nothing can be exchanged or
-/// altered between the calls, and the refusals 2 to 9, 11, 17 and 18 do not come.
+/// altered between the calls, and the refusals 2 to 9, 11, 17 and 18 do not come unless the memory itself is damaged.
 ///
 /// A question is a list of changes, each a node and the label it takes. [`ask`](Panel::ask) answers it at once;
 /// [`start`](Panel::start) and [`advances`](Panel::advances) answer it part by part, and [`cancel`](Panel::cancel) drops
@@ -31,6 +31,26 @@ use core::fmt;
 /// assert!(!panel.current()?.yes);
 /// assert_eq!(panel.ask(&[(3, 0)]), Err(Refusal::Node));
 /// # Ok::<(), Refusal>(())
+/// ```
+///
+/// What a panel owns can't be altered while it works:
+///
+/// ```compile_fail,E0502
+/// # fn example(panel: &mut whatif::Panel) {
+/// let tables = panel.lent();
+/// panel.advance(); // while `tables` is in use
+/// println!("{:?}", tables);
+/// # }
+/// ```
+///
+/// Nor can an answer be passed over:
+///
+/// ```compile_fail
+/// # #![deny(unused_must_use)]
+/// # fn example(panel: &mut whatif::Panel) -> Result<(), whatif::Refusal> {
+/// panel.ask(&[(0, 0)])?; // cleared or not?
+/// # Ok(())
+/// # }
 /// ```
 #[derive(Clone)]
 pub struct Panel {
@@ -109,7 +129,7 @@ impl Panel {
     /// The answer of the question that was asked last: what the panel shows.
     ///
     /// # Errors
-    /// 1 unless it is answered.
+    /// 1 unless it is answered. A refused `start` is no question: the earlier one stays answered.
     pub fn current(&self) -> Result<Answer, Refusal> {
         self.session.current()
     }
@@ -123,8 +143,8 @@ impl Panel {
         self.session.read()
     }
 
-    /// Confirms a yes before a blank is cut: pass in the list that goes to the mill. The answer comes back only where the
-    /// question is answered, this was its list, and a fresh run of the plan with the list says the same yes.
+    /// Confirms a yes before a blank is cut: pass in the list that goes to the mill. It is confirmed only where the question
+    /// is answered, this was its list, and a fresh run of the plan with the list says the same yes.
     ///
     /// # Errors
     /// [`Unconfirmed`] says what is wrong; a no is not confirmed either.
@@ -139,7 +159,7 @@ impl Panel {
     /// assert_eq!(panel.confirm(&[(0, 2)]), Err(Unconfirmed::OtherList));
     /// # Ok::<(), Box<dyn std::error::Error>>(())
     /// ```
-    pub fn confirm(&self, changes: &[Change]) -> Result<Answer, Unconfirmed> {
+    pub fn confirm(&self, changes: &[Change]) -> Result<(), Unconfirmed> {
         let list = Split::of(changes);
         self.session.confirm(&self.buffers.lent(), list.nodes(), list.labels())
     }

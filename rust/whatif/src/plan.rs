@@ -43,6 +43,13 @@ impl Kind {
 /// assert_eq!(Plan::new(&[1, 0], &[Leaf, Leaf]), Err(Refusal::PlanTree));
 /// # Ok::<(), Refusal>(())
 /// ```
+///
+/// Labels and kinds can't be exchanged:
+///
+/// ```compile_fail,E0308
+/// # use whatif::{Kind::{Inner, Leaf}, Plan};
+/// let plan = Plan::new(&[Leaf, Leaf, Inner], &[1, 0, 2]);
+/// ```
 #[derive(Clone, PartialEq, Eq, Hash)]
 pub struct Plan {
     bytes: Vec<u8>,
@@ -173,7 +180,8 @@ impl AsRef<[u8]> for Plan {
 impl fmt::Debug for Plan {
     fn fmt(&self, f: &mut fmt::Formatter<'_>) -> fmt::Result {
         const SHOWN: usize = 15;
-        write!(f, "Plan of {} nodes [", self.nodes())?;
+        let nodes = if self.nodes() == 1 { "node" } else { "nodes" };
+        write!(f, "Plan of {} {} [", self.nodes(), nodes)?;
         for (v, (kind, label)) in self.kinds().zip(self.labels()).take(SHOWN).enumerate() {
             let between = if v == 0 { "" } else { ", " };
             let name = if kind == Kind::Leaf { "leaf" } else { "inner" };

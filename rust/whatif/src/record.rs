@@ -4,6 +4,9 @@
 use crate::sizes::{MAX_CHANGES, MAX_PARTS, RECORD_BYTES};
 
 const STATE: usize = 0; // state
+const S: usize = 2; // S
+const K: usize = 3; // K
+const N: usize = 4; // N
 const CHANGES: usize = 6; // m, how many changes are listed
 const PARTS: usize = 7; // how many parts there are
 const PARTS_DONE: usize = 8; // how many parts are handled
@@ -17,6 +20,11 @@ pub(crate) type Record = [u8; RECORD_BYTES];
 
 pub(crate) const fn state(record: &Record) -> u8 {
     record[STATE]
+}
+
+/// N, S and K of the plan and the rules that were loaded.
+pub(crate) const fn counts(record: &Record) -> [usize; 3] {
+    [word(record, N) as usize, record[S] as usize, record[K] as usize]
 }
 
 pub(crate) const fn changes(record: &Record) -> usize {

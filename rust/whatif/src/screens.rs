@@ -16,9 +16,11 @@ use core::fmt;
 ///
 /// # If a record is damaged
 /// One flipped bit in one record can stop all eight: at that screen's turn every deal is refused with 1, and so is a Load.
-/// [`next`](Screens::next) is the screen whose turn it is, [`damaged`](Screens::damaged) finds the record, and
-/// [`replace`](Screens::replace) puts a loaded one in its place, after which the others go on and a new question can be
-/// started there. Keep a loaded record aside for that: `screens.session(0)` after a Load.
+/// Where the record still keeps its layout the turn may be refused with 17 or 18. So a deal's 1 means that nothing runs only
+/// where [`next`](Screens::next) is none; else the damaged record is that screen's. [`damaged`](Screens::damaged) finds
+/// records that break their layout. [`replace`](Screens::replace) puts a loaded one in the place of a damaged one: the
+/// others go on, and a new question can be started there. Keep a loaded record aside for that: `screens.session(0)` after a
+/// Load.
 ///
 /// ```
 /// # use whatif::{sizes, Kind::{Inner, Leaf}, Lent, Plan, Refusal, Rules, Screens};
@@ -44,7 +46,6 @@ pub struct Screens {
 
 /// What a deal answers.
 #[derive(Clone, Copy, Debug, PartialEq, Eq, Hash)]
-#[must_use]
 pub struct Deal {
     /// The screen that was served.
     pub screen: u32,
@@ -131,6 +132,7 @@ impl Screens {
     /// # Errors
     /// 1 where no screen is running, or the record of the [`next`](Screens::next) one is damaged; then 17, 18: that was the
     /// screen's turn, nobody else is served, and the next deal tries the same one.
+    /// [`why_no_deal`](Screens::why_no_deal) says what a 1 was.
     pub fn deal(&mut self, lent: &Lent<'_>) -> Result<Deal, Refusal> {
         let Lent { plan, rules, node_table, state_table } = *lent;
         let mut out = [0; 2];
@@ -177,7 +179,7 @@ impl Screens {
     ///
     /// # Errors
     /// 25, then what [`Session::confirm`] has.
-    pub fn confirm(&self, screen: u32, lent: &Lent<'_>, nodes: &[u16], labels: &[u8]) -> Result<Answer, Unconfirmed> {
+    pub fn confirm(&self, screen: u32, lent: &Lent<'_>, nodes: &[u16], labels: &[u8]) -> Result<(), Unconfirmed> {
         self.session(screen).ok_or(Refusal::Screen)?.confirm(lent, nodes, labels)
     }
 
@@ -185,7 +187,7 @@ impl Screens {
     /// a damaged one frees the other screens at once, and a question can be started there.
     ///
     /// # Errors
-    /// 25 for a screen above 7, 1 where the new session is damaged itself; nothing is changed then.
+    /// 25 for a screen above 7, 1 where the new session is damaged or running; nothing is changed then.
     ///
     /// ```
     /// use whatif::{sizes::SCREENS_BYTES, Screens, Session};
@@ -196,7 +198,7 @@ impl Screens {
     /// ```
     pub fn replace(&mut self, screen: u32, session: &Session) -> Result<Session, Refusal> {
         let before = self.session(screen).ok_or(Refusal::Screen)?;
-        if session.is_damaged() {
+        if session.is_damaged() || session.state() == Some(State::Running) {
             return Err(Refusal::SessionState);
         }
         let at = RECORD_BYTES * screen as usize;
@@ -268,10 +270,28 @@ impl Screens {
     }
 
     /// Why this call on a screen would be refused with 25 or 1, as [`Session::why_not`] says it; none where it would not be.
-    /// A Load looks at all eight: see [`running`](Screens::running) and [`damaged`](Screens::damaged).
     #[must_use]
     pub fn why_not(&self, screen: u32, call: Call) -> Option<&'static str> {
-        self.session(screen).map_or(Some("There is no such screen: they are 0 to 7."), |session| session.why_not(call))
+        self.session(screen).map_or(Some(Refusal::Screen.sentence()), |session| session.why_not(call))
+    }
+
+    /// Why a deal would be refused with 25 or 1; none where it would not be.
+    #[must_use]
+    pub fn why_no_deal(&self) -> Option<&'static str> {
+        match self.next() {
+            Some(screen) => self.why_not(screen, Call::Advance),
+            None if !ALL.contains(&self.first) => Some(Refusal::Screen.sentence()),
+            None => Some("No screen is running: there is nothing to deal."),
+        }
+    }
+
+    /// Why a Load of all eight would be refused with 1; none where it would not be.
+    #[must_use]
+    pub fn why_no_load(&self) -> Option<&'static str> {
+        if self.damaged().next().is_some() {
+            return Some("A screen's record is damaged: replace it.");
+        }
+        self.is_running().then_some("A screen is running: Load waits until all are finished or cancelled.")
     }
 }
 

@@ -64,7 +64,6 @@ pub enum State {
 
 /// What an advance answers.
 #[derive(Clone, Copy, Debug, PartialEq, Eq, Hash)]
-#[must_use]
 pub enum Progress {
     /// Parts are left.
     More,
@@ -179,7 +178,8 @@ impl Session {
     ///
     /// # Errors
     /// 1 unless the session is answered. So an earlier question's answer, which [`read`](Session::read) returns in every
-    /// state, is never taken for this one's.
+    /// state, is not taken for this one's. A refused `start` is no question: the session stays answered with the earlier
+    /// one.
     pub fn current(&self) -> Result<Answer, Refusal> {
         match self.state() {
             Some(State::Answered) => self.read(),

@@ -19,40 +19,27 @@ pub enum Call {
     Read,
 }
 
-const DAMAGED: &str = "The record is damaged: put a loaded record in its place, or a fresh one and load again.";
-const NO_PLAN: &str = "No plan is loaded: load one first.";
-const RUNNING: &str = "A question is running: advance it to its end, or cancel it.";
-const NOT_RUNNING: &str = "No question is running: start one first.";
-const DONE: &str = "The question is answered: no part is left to advance or to cancel.";
-const NOT_ANSWERED: &str = "The question is still running: an answer that is kept is an earlier question's.";
-const NOT_ASKED: &str =
-    "No question is asked since the last load or cancel: an answer that is kept is an earlier one's.";
-const NO_ANSWER: &str = "No question was finished since the last load.";
+const DAMAGED: &str = "The record is damaged: put a loaded one in its place, or a fresh one and call Load.";
+const NO_ANSWER: &str = "No question was finished since the last Load: there is no answer.";
+const NO_ANSWER_YET: &str = "No question was finished since the last Load: this one is still running.";
 
 impl Session {
-    /// Why this call would be refused with [`Refusal::SessionState`], and what to do; none
-    /// where it would not be.
+    /// Why this call would be refused with [`Refusal::SessionState`], and what to do; none where it would not be.
     ///
     /// ```
     /// use whatif::{Call, Session};
     /// let session = Session::new();
     /// assert_eq!(session.why_not(Call::Load), None);
-    /// assert_eq!(session.why_not(Call::Start), Some("No plan is loaded: load one first."));
+    /// assert_eq!(session.why_not(Call::Start), Some("No plan is loaded: call Load first."));
     /// ```
     #[must_use]
     pub fn why_not(&self, call: Call) -> Option<&'static str> {
-        if self.is_damaged() {
-            return Some(DAMAGED);
-        }
-        match (call, self.state()?) {
-            (Call::Load | Call::Start, State::Running) => Some(RUNNING),
-            (Call::Start | Call::Advance | Call::Cancel | Call::Current, State::Empty) => Some(NO_PLAN),
-            (Call::Advance | Call::Cancel, State::Loaded) => Some(NOT_RUNNING),
-            (Call::Advance | Call::Cancel, State::Answered) => Some(DONE),
-            (Call::Current, State::Running) => Some(NOT_ANSWERED),
-            (Call::Current, State::Loaded) => Some(NOT_ASKED),
-            (Call::Read, _) if self.read().is_err() => Some(NO_ANSWER),
-            _ => None,
+        match self.state() {
+            Some(state) if !self.is_damaged() => match call {
+                Call::Read if self.read().is_ok() => None,
+                _ => refused_in(state, call),
+            },
+            _ => Some(DAMAGED),
         }
     }
 
@@ -67,5 +54,30 @@ impl Session {
             Some(State::Running) => slices::cancel(&mut copy) != 0,
             _ => slices::load(&mut copy, &[], &[], &mut [], &mut []) != Refusal::PlanShort.number(),
         }
+    }
+}
+
+/// What a call meets in a state that is not for it; of a Read where no answer is kept.
+fn refused_in(state: State, call: Call) -> Option<&'static str> {
+    use State::{Answered, Empty, Loaded, Running};
+    match (call, state) {
+        (Call::Load, Running) => Some("A question is running: Load waits until it is finished or cancelled."),
+        (Call::Start, Empty) => Some("No plan is loaded: call Load first."),
+        (Call::Start, Running) => Some("A question is running already: finish it or cancel it before the next Start."),
+        (Call::Advance, Empty) => Some("No plan is loaded: call Load, then Start."),
+        (Call::Advance, Loaded) => Some("No question is running: call Start first."),
+        (Call::Advance, Answered) => Some("The question is finished: read its answer."),
+        (Call::Cancel, Empty) => Some("Nothing to cancel: no plan is loaded."),
+        (Call::Cancel, Loaded) => Some("Nothing to cancel: no question is running."),
+        (Call::Cancel, Answered) => Some("Nothing to cancel: the question is finished."),
+        (Call::Current | Call::Read, Empty) => Some("No plan is loaded: there is no answer."),
+        (Call::Current, Loaded) => Some("No question is asked now: an earlier answer is not this one's."),
+        (Call::Current, Running) => Some("The question is still running: an earlier answer is not this one's."),
+        (Call::Read, Loaded | Answered) => Some(NO_ANSWER),
+        (Call::Read, Running) => Some(NO_ANSWER_YET),
+        (Call::Load, Empty | Loaded | Answered)
+        | (Call::Start, Loaded | Answered)
+        | (Call::Advance | Call::Cancel, Running)
+        | (Call::Current, Answered) => None,
     }
 }
