@@ -1,10 +1,10 @@
 //! Links the library. It is looked for
 //!
-//! 1. in the folder that WHATIF_LIB_DIR names, and then nowhere else;
+//! 1. in the folder that `WHATIF_LIB_DIR` names, and then nowhere else;
 //! 2. in build/ of the repository, where `tools/archive` writes it;
 //! 3. by pkg-config, where it is installed.
 //!
-//! libwhatif.a is linked where it is there, else libwhatif.so; WHATIF_LINK, `static` or `shared`, asks for one of them.
+//! libwhatif.a is linked where it is there, else libwhatif.so; `WHATIF_LINK`, `static` or `shared`, asks for one of them.
 //! A library of another minor version ends the build. Without a library there is a warning: `cargo check` and `cargo doc`
 //! need none, and a program fails when it is linked.
 

@@ -37,7 +37,7 @@ fn file_name(link: Link) -> &'static str {
     }
 }
 
-/// What WHATIF_LINK asks for; nothing where it is not set or empty.
+/// What `WHATIF_LINK` asks for; nothing where it is not set or empty.
 pub fn wanted(word: Option<&str>) -> Result<Option<Link>, String> {
     match word {
         None | Some("") => Ok(None),
@@ -65,8 +65,8 @@ fn version_in(folder: &Path) -> Option<String> {
 /// The library that pkg-config knows. The folders of the system, which pkg-config leaves out by itself, are asked for.
 pub fn by_pkg_config(wanted: Option<Link>) -> Option<Found> {
     let folders = said_by_pkg_config("--libs-only-L")?;
-    let found = folders.split_whitespace().filter_map(|word| word.strip_prefix("-L"));
-    let found = found.filter_map(|folder| in_folder(Path::new(folder), wanted)).next()?;
+    let mut named = folders.split_whitespace().filter_map(|word| word.strip_prefix("-L"));
+    let found = named.find_map(|folder| in_folder(Path::new(folder), wanted))?;
     Some(Found { version: said_by_pkg_config("--modversion"), ..found })
 }
 

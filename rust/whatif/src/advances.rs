@@ -51,9 +51,10 @@ impl Iterator for Advances<'_> {
 
     /// At least one, and at most one for each part that is left.
     fn size_hint(&self) -> (usize, Option<usize>) {
-        match self.ended {
-            true => (0, Some(0)),
-            false => (1, Some(self.left().max(1))),
+        if self.ended {
+            (0, Some(0))
+        } else {
+            (1, Some(self.left().max(1)))
         }
     }
 }

@@ -34,6 +34,7 @@ pub struct SeparatingPlan {
 
 impl SeparatingPlan {
     /// The lines, numbered from 0.
+    #[must_use]
     pub fn lines(&self) -> impl ExactSizeIterator<Item = Line> + '_ {
         self.numbers[..4 * self.count].chunks_exact(4).map(|line| match line[0] {
             0 => Line::Leaf { label: line[1] as u8 },

@@ -126,6 +126,7 @@ impl Plan {
     }
 
     /// The kind of each node.
+    #[must_use]
     pub fn kinds(&self) -> impl ExactSizeIterator<Item = Kind> + '_ {
         self.bytes[plan_bytes(0) + self.nodes()..].iter().map(|&byte| Kind::of(byte))
     }

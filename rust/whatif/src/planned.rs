@@ -92,6 +92,7 @@ impl Planned {
     }
 
     /// The planner's nodes, top first.
+    #[must_use]
     pub fn nodes(&self) -> impl ExactSizeIterator<Item = PlannerNode> + '_ {
         let (labels, children) = self.file[planner_bytes(0)..].split_at(self.places.len());
         labels.iter().zip(children).map(|(&label, &children)| PlannerNode { label, children })

@@ -239,6 +239,7 @@ impl Session {
     }
 
     /// The changes of a question that is running or answered, as they were listed.
+    #[must_use]
     pub fn changes(&self) -> impl ExactSizeIterator<Item = Change> + '_ {
         let count = self.counted(record::changes(&self.record));
         (0..count).map(move |i| (record::node(&self.record, i), record::label(&self.record, i)))
@@ -255,11 +256,13 @@ impl Session {
     /// assert!(panel.session().roots().eq([0, 2]));
     /// # Ok::<(), whatif::Refusal>(())
     /// ```
+    #[must_use]
     pub fn roots(&self) -> impl ExactSizeIterator<Item = u16> + '_ {
         (0..self.parts() as usize).map(move |i| record::root(&self.record, i))
     }
 
     /// The parts that are handled, in order.
+    #[must_use]
     pub fn handled(&self) -> impl ExactSizeIterator<Item = Part> + '_ {
         (0..self.parts_done() as usize).map(move |i| self.part(i))
     }
