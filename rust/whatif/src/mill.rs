@@ -234,17 +234,18 @@ mod tests {
                 Err(refusal) => {
                     refused.push(refusal);
                     assert_eq!((mill.deal(), mill.screens().next()), (Err(refusal), Some(1)));
-                    assert_eq!(mill.deals().collect::<Vec<_>>(), [Err(refusal)], "bit {}", bit);
+                    assert_eq!(mill.deals().take(9).collect::<Vec<_>>(), [Err(refusal)], "bit {}", bit);
                     mill.repair(1).unwrap();
                     assert_eq!(mill.screens().state(1), Some(State::Loaded));
                 }
                 Ok(_) => whole += 1,
             }
-            while mill.deal() != Ok(None) {
+            for _ in 0..9 {
                 if let (Err(_), Some(screen)) = (mill.deal(), mill.screens().next()) {
                     mill.repair(screen).unwrap();
                 }
             }
+            assert_eq!(mill.deal(), Ok(None), "bit {}", bit);
             assert_eq!(mill.current(4).map(|answer| answer.yes), Ok(false), "bit {}", bit);
         }
         let number = |wanted| refused.iter().filter(|&&refusal| refusal == wanted).count();
