@@ -10,7 +10,7 @@ use compare::random::Random;
 use compare::shapes::{kinds, Shape};
 use reference::formats::read_plan;
 use reference::tree::Tree;
-use whatif::{BranchColours, RuleColours};
+use whatif::sizes::{colour_branch_bytes, colour_branch_numbers, colour_bytes, colour_numbers};
 
 const LABELS: usize = 64;
 /// Of a branch question by colours; for the other works none is set.
@@ -74,8 +74,8 @@ impl Branches {
         let (plan, branch) = (plan(&random.bytes_below(n, LABELS), &kinds), falls.table(s, random));
         let (mut node_table, mut state_table) = (vec![0; 4 * n], vec![0; (s + 1) * n]);
         whatif::branch_build(&plan, &branch, &mut node_table, &mut state_table).expect("accepted");
-        let built = BranchColours::build(&plan, &branch).expect("accepted");
-        let (numbers, bytes) = (built.numbers().to_vec(), built.bytes().to_vec());
+        let (mut numbers, mut bytes) = (vec![0; colour_branch_numbers(n, s)], vec![0; colour_branch_bytes(n, s)]);
+        whatif::colour_branch_build(&plan, &branch, &mut numbers, &mut bytes).expect("accepted");
         let tree = Tree::of(&read_plan(&plan).expect("accepted"));
         let pairs = (0..questions).map(|_| pair(&tree, random)).collect();
         Branches { plan, branch, node_table, state_table, numbers, bytes, pairs }
@@ -170,24 +170,32 @@ fn sums<const N: usize>(told: impl Iterator<Item = [u32; N]>) -> [u32; N] {
 }
 
 /// A plan and a rule table of four states with their colour tables, and lists of changes.
-struct Questions<'a> {
-    case: &'a Case,
-    colours: RuleColours<'a>,
+struct Questions {
+    case: Case,
+    numbers: Vec<u16>,
+    bytes: Vec<u8>,
     lists: Vec<List>,
 }
 
-impl Questions<'_> {
+impl Questions {
+    fn new(case: Case, lists: Vec<List>) -> Questions {
+        let (mut numbers, mut bytes) = (vec![0; colour_numbers(case.n, case.s)], vec![0; colour_bytes(case.n, case.s)]);
+        whatif::colour_build(&case.plan, &case.rules, &mut numbers, &mut bytes).expect("accepted");
+        Questions { case, numbers, bytes, lists }
+    }
+
     fn by_library(&self) -> [u32; 2] {
+        let Questions { case: Case { plan, rules, .. }, numbers, bytes, .. } = self;
         let ask = |(nodes, labels): &List| {
-            let told = self.colours.ask(nodes, labels).expect("accepted");
+            let told =
+                whatif::colour_ask(plan, rules, numbers, bytes, numbers, bytes, nodes, labels).expect("accepted");
             [told.drops, told.links]
         };
         sums(self.lists.iter().map(ask))
     }
 
     fn by_yardstick(&self) -> [u32; 2] {
-        let (numbers, bytes) = (self.colours.numbers(), self.colours.bytes());
-        let Case { plan, rules, .. } = self.case;
+        let Questions { case: Case { plan, rules, .. }, numbers, bytes, .. } = self;
         let ask = |(nodes, labels): &List| {
             let told = yardstick::colour_ask(plan, rules, numbers, bytes, numbers, bytes, nodes, labels);
             let told = told.expect("accepted");
@@ -201,8 +209,7 @@ fn question_times(shape: Shape, m: usize) -> Pair {
     let random = &mut Random::new(15);
     let case = Case::new(shape, 32_768, 4, LABELS, random);
     let lists = (0..LISTS).map(|_| list(&case, m, random)).collect();
-    let colours = RuleColours::build(&case.plan, &case.rules).expect("accepted");
-    let questions = Questions { case: &case, colours, lists };
+    let questions = Questions::new(case, lists);
     let wanted = questions.by_library();
     by_turns(
         LISTS,
@@ -214,8 +221,7 @@ fn question_times(shape: Shape, m: usize) -> Pair {
 fn build_times() -> Pair {
     let random = &mut Random::new(15);
     let case = Case::new(Shape::Uniform, 32_768, 4, LABELS, random);
-    let buffers =
-        || (vec![0; whatif::sizes::colour_numbers(case.n, 4)], vec![0; whatif::sizes::colour_bytes(case.n, 4)]);
+    let buffers = || (vec![0; colour_numbers(case.n, 4)], vec![0; colour_bytes(case.n, 4)]);
     let (mut mine, mut other) = (buffers(), buffers());
     by_turns(
         1,

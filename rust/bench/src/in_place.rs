@@ -15,10 +15,11 @@ use compare::inputs::Case;
 use compare::panel;
 use compare::random::Random;
 use compare::shapes::most_parts;
+use compare::slices;
 use compare::trace;
 use reference::record::Record;
 use whatif::sizes::MAX_PARTS;
-use whatif::{slices, Lent, Refusal, Session};
+use whatif::{Lent, Refusal, Session};
 
 /// Around the tables that a life writes: what is outside must stay.
 const MARGIN: usize = 9;

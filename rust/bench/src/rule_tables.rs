@@ -4,8 +4,8 @@ use crate::measure::{by_turns, Pair};
 use crate::table::Single;
 use compare::inputs::random_rules;
 use compare::random::Random;
+use compare::slices;
 use whatif::sizes::{rules_bytes, MAX_LINES, MAX_STATES};
-use whatif::slices;
 
 /// Pairs of tables in a turn.
 const PAIRS: usize = 65;

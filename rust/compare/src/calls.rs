@@ -4,6 +4,7 @@
 //! Out values start at a random number, which they must keep on a refusal.
 
 use crate::random::Random;
+use crate::slices;
 use reference::agree::{separates, Line, MAX_LINES};
 use reference::branch::{Reading, READINGS};
 use reference::causes;
@@ -11,7 +12,6 @@ use reference::count::{checks, Said, MOST_ASSIGNMENTS};
 use reference::panel::Lends;
 use reference::tables::Tables;
 use std::fmt::Debug;
-use whatif::slices;
 
 /// Which kind of table a call is about.
 #[derive(Clone, Copy, Debug, PartialEq, Eq)]

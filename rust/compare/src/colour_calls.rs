@@ -4,11 +4,11 @@
 
 use crate::calls::same;
 use crate::random::Random;
+use crate::slices;
 use reference::branch::Reading;
 use reference::colour_branch::{self, ColourTables, Lends};
 use reference::colour_rules::{self, Said};
 use reference::panel;
-use whatif::slices;
 
 const MARGIN: usize = 9;
 

@@ -6,12 +6,12 @@ use crate::calls::same;
 use crate::panel::{self, Lent};
 use crate::random::Random;
 use crate::sides::{self, Margins, MARGIN};
+use crate::slices;
 use crate::trace;
 use reference::panel::{Answer, Lends};
 use reference::record::Record;
 use reference::screens::{alone, Books, Done, Next, ScreenAnswer, ScreenCall, Whose, RUN_BYTES, SCREENS};
 use reference::tables::Tables;
-use whatif::slices;
 
 #[derive(Clone)]
 pub struct Lab {

@@ -153,7 +153,7 @@ fn by_yardstick(
 
 mod library {
     use super::{Call, Lends};
-    use whatif::slices;
+    use crate::slices;
 
     pub fn call(
         call: &Call,

@@ -54,7 +54,7 @@ impl Record {
         Record::idle(Phase::Empty, Sizes::NONE)
     }
 
-    /// "Load .. end[s] in loaded with the record exactly as after a first Load of that plan."
+    /// "Load .. end\[s\] in loaded with the record exactly as after a first Load of that plan."
     pub fn loaded(sizes: Sizes) -> Record {
         Record::idle(Phase::Loaded, sizes)
     }

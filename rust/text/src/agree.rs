@@ -1,9 +1,7 @@
 //! What `whatif-text agree` says of two tables: a separating plan as lines, as a plan to paste, and as a picture.
 
 use crate::plan;
-use reference::agree as separating;
-use reference::formats::read_rules;
-use whatif::Line;
+use whatif::{Line, Plan, Rules};
 
 /// The lines that the root needs, numbered anew in their order.
 pub fn needed(lines: &[Line]) -> Vec<Line> {
@@ -25,36 +23,29 @@ pub fn needed(lines: &[Line]) -> Vec<Line> {
     lines.iter().zip(&used).filter(|(_, used)| **used).map(|(line, _)| anew(*line)).collect()
 }
 
-/// Does a rule table clear the plan of these lines? It passes 6 to 9 and has their labels.
-pub fn clears(rules: &[u8], lines: &[Line]) -> bool {
-    let rules = read_rules(rules).expect("a table that was taken");
+/// Do the rules, which have the labels of these lines, clear their plan?
+pub fn clears(rules: &Rules, lines: &[Line]) -> bool {
     let mut states: Vec<u8> = Vec::new();
     for line in lines {
-        states.push(match *line {
+        let state = match *line {
             Line::Leaf { label } => rules.leaf(label),
             Line::Inner { label, left, right } => rules.inner(states[left], label, states[right]),
-        });
+        };
+        states.push(state.expect("a label of the rules"));
     }
     states.last().map_or(false, |&state| rules.accepts(state))
 }
 
-/// Text that can be pasted: the lines as comments, then the plan, where it has no more nodes than a plan can have.
-pub fn text(lines: &[Line]) -> String {
+/// Text that can be pasted: the lines as comments, then their plan; none where it would have too many nodes.
+pub fn text(lines: &[Line], plan: Option<&Plan>) -> String {
     let line = |(i, line): (usize, &Line)| match line {
         Line::Leaf { label } => format!("# line {}: leaf {}\n", i, label),
         Line::Inner { label, left, right } => format!("# line {}: inner {} over {} and {}\n", i, label, left, right),
     };
     let said: String = lines.iter().enumerate().map(line).collect();
-    match separating::plan(&lines.iter().map(numbers).collect::<Vec<_>>()) {
-        Some(plan) => format!("{}plan\n{}", said, plan::to_text(&plan)),
+    match plan {
+        Some(plan) => format!("{}plan\n{}", said, plan::to_text(plan.as_bytes())),
         None => said + "# as a tree it has more than 65,535 nodes, the most that a plan can have\n",
-    }
-}
-
-fn numbers(line: &Line) -> [u16; 4] {
-    match *line {
-        Line::Leaf { label } => [0, label.into(), 0, 0],
-        Line::Inner { label, left, right } => [1, label.into(), left as u16, right as u16],
     }
 }
 

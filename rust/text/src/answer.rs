@@ -6,9 +6,9 @@ use crate::outcome::{Failure, Made};
 use crate::progress::Progress;
 use crate::sentences;
 
-/// Each question is put to the library's session. A refused one is told in its place.
+/// Each question is asked in the library's session. A refused one is reported in its place.
 pub fn all(input: &Input) -> Result<Made, Failure> {
-    let loaded = Loaded::new(&input.plan, &input.rules)?;
+    let mut loaded = Loaded::new(&input.plan, &input.rules)?;
     let mut progress = Progress::of(input.questions.len(), "questions");
     let (mut text, mut refused) = (String::new(), false);
     for (i, question) in input.questions.iter().enumerate() {

@@ -4,9 +4,7 @@
 use crate::input::Input;
 use crate::outcome::Failure;
 use crate::sentences::{climbed, count};
-use reference::formats::number;
-use whatif::sizes::{node_table_len, state_table_len, MAX_NODES, MAX_STATES};
-use whatif::{BranchVerdict, Refusal};
+use whatif::{BranchTable, BranchVerdict, Branches, Plan, Refusal};
 
 /// Of a longer path the first and the last nodes are told.
 pub(crate) const NODES: usize = 12;
@@ -41,37 +39,35 @@ pub struct Asked {
     pub(crate) states: Vec<Option<u8>>,
 }
 
-/// By the library; the states on the way are worked out here and held to its answer.
-pub fn ask(input: &Input, table: &[u8], [upper, lower]: [usize; 2], reading: Reading) -> Result<Asked, Failure> {
-    let refused = |refusal: Refusal| Failure::Refused(refusal.to_string());
-    let most = (input.plan.len().saturating_sub(12) / 2).min(MAX_NODES);
-    let (mut nodes, mut states) = (vec![0; node_table_len(most)], vec![0; state_table_len(most, MAX_STATES)]);
-    whatif::branch_build(&input.plan, table, &mut nodes, &mut states).map_err(refused)?;
-    let call = if reading == Reading::WithUpper { whatif::branch_with_upper } else { whatif::branch };
-    let [u, l] = [upper, lower].map(|v| u32::try_from(v).unwrap_or(u32::MAX));
-    let verdict = call(&input.plan, table, &nodes, &states, u, l).map_err(refused)?;
-    let mut path = vec![lower];
-    while path[path.len() - 1] != upper {
-        path.push(nodes[4 * path[path.len() - 1]] as usize);
-    }
-    path.reverse();
-    let labels: Vec<u8> = path.iter().map(|&v| input.plan[12 + v]).collect();
-    let asked = Asked { reading, verdict, states: along(table, &labels, reading), labels, path };
+/// By the library; the states on the way are worked out here and compared with its answer.
+pub fn ask(input: &Input, table: &[u8], nodes: [usize; 2], reading: Reading) -> Result<Asked, Failure> {
+    let asked = by_library(input, table, nodes, reading).map_err(|refusal| Failure::Refused(refusal.to_string()))?;
     let last = asked.states[asked.states.len() - 1].unwrap_or(0);
-    if last != verdict.state {
+    if last != asked.verdict.state {
         return Err(Failure::wrong("a fault of whatif-text: its steps and the library's answer differ"));
     }
     Ok(asked)
 }
 
-fn along(table: &[u8], labels: &[u8], reading: Reading) -> Vec<Option<u8>> {
-    let k = number(table, 4) as usize;
+fn by_library(input: &Input, table: &[u8], nodes: [usize; 2], reading: Reading) -> Result<Asked, Refusal> {
+    let branches = Branches::build(Plan::from_bytes(&input.plan[..])?, BranchTable::from_bytes(table)?)?;
+    let [upper, lower] = nodes.map(|v| u32::try_from(v).unwrap_or(u32::MAX));
+    let verdict = match reading {
+        Reading::BelowUpper => branches.ask(upper, lower)?,
+        Reading::WithUpper => branches.ask_with_upper(upper, lower)?,
+    };
+    let path: Vec<usize> = branches.path(upper, lower)?.into_iter().map(usize::from).collect();
+    let labels: Vec<u8> = path.iter().map(|&v| branches.plan().labels()[v]).collect();
+    Ok(Asked { reading, verdict, states: along(branches.table(), &labels, reading), labels, path })
+}
+
+fn along(table: &BranchTable, labels: &[u8], reading: Reading) -> Vec<Option<u8>> {
     let mut state = 0;
     let step = |(i, &label): (usize, &u8)| {
         if i == 0 && reading == Reading::BelowUpper {
             return None;
         }
-        state = table[16 + state as usize * k + label as usize];
+        state = table.step(state, label).expect("a label of the table");
         Some(state)
     };
     labels.iter().enumerate().map(step).collect()

@@ -10,7 +10,7 @@
 
 use crate::lines::{self, all_raw, Line, Wrong};
 use crate::rules::{count, some};
-use reference::write;
+use whatif::layout;
 
 /// Of lines, or of bytes as they are: no text has a zero byte, and every branch table's header has.
 pub fn of(bytes: &[u8]) -> Result<Vec<u8>, String> {
@@ -50,5 +50,5 @@ fn to_bytes(lines: &[Line]) -> Result<Vec<u8>, Wrong> {
         state.ok_or_else(|| lines[lines.len() - 1].wrong(format!("no line says 'step {} {} -> ..'", i / k, i % k)))
     };
     let steps = steps.into_iter().enumerate().map(said).collect::<Result<Vec<u8>, Wrong>>()?;
-    Ok(write::branch(s, k, &steps, &marks))
+    Ok(layout::branch_table(s, k, &steps, &marks))
 }

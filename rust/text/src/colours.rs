@@ -5,8 +5,7 @@ use crate::branch::{self, Asked, Reading, FIRST, LAST, NO, NODES, YES};
 use crate::input::Input;
 use crate::outcome::Failure;
 use crate::sentences::{climbed, count};
-use reference::formats::number;
-use whatif::{BranchColours, ColourVerdict};
+use whatif::{BranchColours, BranchTable, ColourVerdict, Plan, Refusal};
 
 const HEAD: &str = "\
 // The path from the upper node down to the lower, with the state after each label that is read and its colour.
@@ -26,18 +25,18 @@ pub struct Coloured {
     colours: Vec<usize>,
 }
 
-/// By the library, twice; the colours on the way are read from its tables and held to its answer.
+/// By the library, twice; the colours on the way are read from its tables and compared with its answer.
 pub fn ask(input: &Input, table: &[u8], nodes: [usize; 2], reading: Reading) -> Result<Coloured, Failure> {
     let asked = branch::ask(input, table, nodes, reading)?;
-    let refused = |refusal: whatif::Refusal| Failure::Refused(refusal.to_string());
-    let built = BranchColours::build(&input.plan, table).map_err(refused)?;
+    let refused = |refusal: Refusal| Failure::Refused(refusal.to_string());
+    let built = build(input, table).map_err(refused)?;
     let [upper, lower] = nodes.map(|v| v as u32);
     let verdict = match reading {
         Reading::BelowUpper => built.ask(upper, lower),
         Reading::WithUpper => built.ask_with_upper(upper, lower),
     }
     .map_err(refused)?;
-    let colours = along(&built, number(table, 0) as usize, &asked);
+    let colours = along(&built, &asked);
     let drops = colours.windows(2).filter(|pair| pair[1] < pair[0]).count();
     let coloured = Coloured { asked, verdict, colours };
     let by_climb = (coloured.asked.verdict.state, coloured.asked.verdict.yes);
@@ -47,10 +46,14 @@ pub fn ask(input: &Input, table: &[u8], nodes: [usize; 2], reading: Reading) -> 
     Ok(coloured)
 }
 
+fn build(input: &Input, table: &[u8]) -> Result<BranchColours, Refusal> {
+    BranchColours::build(Plan::from_bytes(&input.plan[..])?, BranchTable::from_bytes(table)?)
+}
+
 /// From the colour of state 0 where the word begins, node after node.
-fn along(built: &BranchColours, s: usize, asked: &Asked) -> Vec<usize> {
+fn along(built: &BranchColours, asked: &Asked) -> Vec<usize> {
     let (numbers, bytes) = (built.numbers(), built.bytes());
-    let n = bytes.len() / s;
+    let (n, s) = (built.plan().nodes(), built.table().states());
     let of_state_0 =
         |v: usize| bytes[v * s..(v + 1) * s].iter().position(|&q| q == 0).expect("each state has a colour");
     let (upper, below) = (asked.path[0], &asked.path[1..]);

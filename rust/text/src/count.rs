@@ -16,8 +16,7 @@ use whatif::{Counts, Refusal};
 pub fn of_nodes(input: &Input, nodes: &[usize]) -> Result<String, Failure> {
     let loaded = Loaded::new(&input.plan, &input.rules)?;
     let open = as_nodes(&loaded, nodes)?;
-    let told = whatif::count(loaded.plan, loaded.rules, &loaded.node_table, &loaded.state_table, &open)
-        .map_err(|refusal| count_refused(refusal, &loaded, &open))?;
+    let told = loaded.panel.count(&open).map_err(|refusal| count_refused(refusal, &loaded, &open))?;
     Ok(head(&loaded, &open, &told) + &table(&loaded, &told) + &clears(&loaded, &told) + &choice(&loaded, &open, &told)?)
 }
 
@@ -39,7 +38,7 @@ fn count_refused(refusal: Refusal, loaded: &Loaded, open: &[u16]) -> Failure {
             (1..open.len()).find(|&i| open[..i].contains(&open[i])).map(|i| format!("node {}", open[i]))
         }
         Refusal::Assignments => {
-            Some(format!("{} at {}", count(loaded.as_rules().labels, "label"), count(open.len(), "node")))
+            Some(format!("{} at {}", count(loaded.rules().labels(), "label"), count(open.len(), "node")))
         }
         _ => None,
     };
@@ -48,13 +47,13 @@ fn count_refused(refusal: Refusal, loaded: &Loaded, open: &[u16]) -> Failure {
 
 fn head(loaded: &Loaded, open: &[u16], told: &Counts) -> String {
     let (parts, links) = (count(told.parts as usize, "part"), count(told.links as usize, "link"));
-    let (nodes, labels) = (count(open.len(), "open node"), count(loaded.as_rules().labels, "label"));
+    let (nodes, labels) = (count(open.len(), "open node"), count(loaded.rules().labels(), "label"));
     format!("{}, {}: {}, {}, {}\n\n", nodes, labels, choices(told.all()), parts, links)
 }
 
 /// A line for each state.
 fn table(loaded: &Loaded, told: &Counts) -> String {
-    let (rules, all) = (loaded.as_rules(), told.all());
+    let (rules, all) = (loaded.rules(), told.all());
     let numbers: Vec<String> = told.by_state().iter().map(|&number| grouped(number)).collect();
     let wide = numbers.iter().map(String::len).max().unwrap_or(0).max("choices".len());
     let mut text = format!("state  {:>wide$}  {:>12}\n", "choices", "share", wide = wide);
@@ -66,51 +65,57 @@ fn table(loaded: &Loaded, told: &Counts) -> String {
 }
 
 fn clears(loaded: &Loaded, told: &Counts) -> String {
-    let (clearing, all) = (told.clearing(loaded.rules), told.all());
+    let (clearing, all) = (told.clearing(), told.all());
     let said = match clearing {
         0 => "no choice clears the plan".to_string(),
         _ if clearing == all => "every choice clears the plan".to_string(),
         _ => format!("{} of {} clear the plan: {}", grouped(clearing), choices(all), share(clearing, all)),
     };
     let before = loaded.before(loaded.nodes() - 1);
-    format!("{}\nas it is: {}, state {}\n", said, verdict(loaded.as_rules().accepts(before)), before)
+    format!("{}\nas it is: {}, state {}\n", said, verdict(loaded.is_cleared()), before)
 }
 
 /// A choice that clears the plan, as a question to paste; nothing where none does.
 fn choice(loaded: &Loaded, open: &[u16], told: &Counts) -> Result<String, Failure> {
-    if told.clearing(loaded.rules) == 0 {
+    if told.clearing() == 0 {
         return Ok(String::new());
     }
-    let chosen = a_clearing_choice(loaded, open);
-    let (nodes, labels): (Vec<u16>, Vec<u8>) = chosen.iter().copied().unzip();
-    let held = whatif::fresh_run(loaded.plan, loaded.rules, &nodes, &labels);
-    if !held.map_or(false, |told| told.yes) {
+    let chosen = a_clearing_choice(loaded, open)?;
+    if !loaded.panel.fresh_run(&chosen).map_or(false, |fresh| fresh.yes) {
         return Err(Failure::wrong("a fault of whatif-text: its choice does not clear the plan by the library"));
     }
     Ok(format!("a choice that clears it: {}\n", sentences::changes(&chosen)))
 }
 
 /// Of nodes of which some choice clears the plan.
-fn a_clearing_choice(loaded: &Loaded, open: &[u16]) -> Vec<Change> {
-    let mut plan = loaded.plan.to_vec();
-    let (mut node_table, mut state_table) = (loaded.node_table.clone(), loaded.state_table.clone());
+fn a_clearing_choice(loaded: &Loaded, open: &[u16]) -> Result<Vec<Change>, Failure> {
     let mut progress = Progress::of(open.len(), "nodes");
-    let mut chosen = Vec::new();
+    let mut chosen: Vec<Change> = Vec::new();
     for (i, &v) in open.iter().enumerate() {
         progress.done(i);
-        let (at, rest) = (12 + v as usize, &open[i + 1..]);
-        let own = plan[at];
-        let others = (0..loaded.as_rules().labels as u8).filter(|&label| label != own);
-        let clears = |&label: &u8| {
-            plan[at] = label;
-            whatif::build(&plan, loaded.rules, &mut node_table, &mut state_table).expect("loaded");
-            let told = whatif::count(&plan, loaded.rules, &node_table, &state_table, rest).expect("fewer nodes");
-            told.clearing(loaded.rules) > 0
-        };
-        let label = std::iter::once(own).chain(others).find(clears).expect("some choice clears the plan");
+        let label = clearing_label(loaded, &chosen, v, &open[i + 1..])?;
         chosen.push((v, label));
     }
-    chosen
+    Ok(chosen)
+}
+
+/// The node's own label where it will do, else the first that does.
+fn clearing_label(loaded: &Loaded, chosen: &[Change], v: u16, rest: &[u16]) -> Result<u8, Failure> {
+    let own = loaded.labels()[usize::from(v)];
+    let others = (0..loaded.rules().labels() as u8).filter(|&label| label != own);
+    for label in std::iter::once(own).chain(others) {
+        if some_choice_clears(loaded, chosen, (v, label), rest)? {
+            return Ok(label);
+        }
+    }
+    Err(Failure::wrong("a fault of whatif-text: the library counts choices that clear the plan, and none is found"))
+}
+
+/// With what is chosen so far and one more change, and any labels for the rest.
+fn some_choice_clears(loaded: &Loaded, chosen: &[Change], next: Change, rest: &[u16]) -> Result<bool, Failure> {
+    let changed = loaded.changed(&[chosen, &[next]].concat())?;
+    let counted = changed.panel.count(rest).map_err(|refusal| count_refused(refusal, &changed, rest))?;
+    Ok(counted.clearing() > 0)
 }
 
 fn choices(number: u64) -> String {

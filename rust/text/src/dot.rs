@@ -1,11 +1,7 @@
 //! A plan with the parts of a question as Graphviz text.
 
 use crate::questions::Change;
-use reference::formats::read_plan;
-use reference::fresh::check_list;
-use reference::lists::differing;
-use reference::ready::by_marks;
-use reference::tree::Tree;
+use whatif::{Panel, Plan, Refusal, Rules};
 
 const HEAD: &str = "\
 // NODE: LABEL. A box is a listed node, with the label it is to take. Two rings: the root of a part, with its number.
@@ -23,21 +19,18 @@ const COLOURS: usize = 12;
 const LIGHT: &str = "color=\"#bbbbbb\", fontcolor=\"#999999\"";
 
 /// Or the refusal of the plan (2 to 5) or of the changes (12, 13); which labels there are is not asked.
-pub fn picture(plan: &[u8], changes: &[Change]) -> Result<String, u32> {
-    let plan = read_plan(plan)?;
-    let (nodes, labels): (Vec<u16>, Vec<u8>) = changes.iter().copied().unzip();
-    check_list(&nodes, &labels, plan.nodes(), 256)?;
-    let tree = Tree::of(&plan);
-    let roots = by_marks(&tree, &differing(plan.labels, &nodes, &labels));
-    let (parts, passed) = (parts(&tree, &roots), passed_over(&tree, &roots));
+pub fn picture(plan: &[u8], changes: &[Change]) -> Result<String, Refusal> {
+    let plan = Plan::from_bytes(plan)?;
+    let (parents, roots) = parents_and_roots(&plan, changes)?;
+    let (parts, passed) = (parts(&parents, &roots), passed_over(&parents, &roots));
     let mut text = HEAD.to_string();
     for v in 0..plan.nodes() {
         let to = changes.iter().rev().find(|change| change.0 as usize == v).map(|change| change.1);
         let is_root = roots[parts[v]] == v;
-        text += &node(v, plan.labels[v], to, if is_root { Look::Root(parts[v]) } else { look(passed[v], parts[v]) });
+        text += &node(v, plan.labels()[v], to, if is_root { Look::Root(parts[v]) } else { look(passed[v], parts[v]) });
     }
-    for (v, pair) in tree.children.iter().enumerate() {
-        for child in pair.iter().flat_map(|&(left, right)| [left, right]) {
+    for (v, pair) in plan.children().into_iter().enumerate() {
+        for child in pair.iter().flat_map(|&(left, right)| [left, right].map(usize::from)) {
             let looks = match (parts[v] == parts[child], passed[v]) {
                 (true, true) if passed[child] => format!(" [{}]", LIGHT),
                 (true, _) => String::new(),
@@ -50,24 +43,36 @@ pub fn picture(plan: &[u8], changes: &[Change]) -> Result<String, u32> {
     Ok(text + "}\n")
 }
 
+/// The parent of each node, and the roots of the question's parts: by the library, which is asked the same question of a
+/// plan of the same shape. Every label there is 0, and 1 where the question names another than the plan's.
+fn parents_and_roots(plan: &Plan, changes: &[Change]) -> Result<(Vec<usize>, Vec<usize>), Refusal> {
+    let kinds: Vec<_> = plan.kinds().collect();
+    let shape = Plan::new(&vec![0; kinds.len()], &kinds)?;
+    let mut panel = Panel::new(shape, Rules::from_fn(1, 2, |_| 0, |_, _, _| 0, |_| true)?)?;
+    let differs = |&(v, label): &Change| (v, u8::from(plan.labels().get(usize::from(v)) != Some(&label)));
+    panel.start(&changes.iter().map(differs).collect::<Vec<_>>())?;
+    let parents = (0..=u16::MAX).map_while(|v| panel.node(v)).map(|node| node.parent.into()).collect();
+    Ok((parents, panel.session().roots().map(usize::from).collect()))
+}
+
 /// The part of each node, by its place in the list of roots: that of the lowest root at or above it.
-fn parts(tree: &Tree, roots: &[usize]) -> Vec<usize> {
-    let mut parts = vec![roots.len() - 1; tree.parent.len()];
-    for v in (0..tree.root()).rev() {
-        parts[v] = roots.binary_search(&v).unwrap_or(parts[tree.parent[v]]);
+fn parts(parents: &[usize], roots: &[usize]) -> Vec<usize> {
+    let mut parts = vec![roots.len() - 1; parents.len()];
+    for v in (0..parents.len() - 1).rev() {
+        parts[v] = roots.binary_search(&v).unwrap_or(parts[parents[v]]);
     }
     parts
 }
 
-/// Which nodes are passed over: from each root up to a child of the next root above, its own place apart. They are as many
-/// as Read tells.
-pub fn passed_over(tree: &Tree, roots: &[usize]) -> Vec<bool> {
-    let mut passed = vec![false; tree.parent.len()];
+/// Which nodes are passed over: from each root up to a child of the next root above, without the root itself. Their number
+/// is that of the answer.
+fn passed_over(parents: &[usize], roots: &[usize]) -> Vec<bool> {
+    let mut passed = vec![false; parents.len()];
     for &root in &roots[..roots.len() - 1] {
-        let mut v = tree.parent[root];
+        let mut v = parents[root];
         while roots.binary_search(&v).is_err() {
             passed[v] = true;
-            v = tree.parent[v];
+            v = parents[v];
         }
     }
     passed

@@ -3,7 +3,7 @@
 use crate::outcome::Failure;
 use crate::questions::{self, Change};
 use crate::{parts_of, write};
-use reference::formats::number;
+use whatif::layout::number;
 
 /// Plan and rules as bytes, whatever they hold, and the questions.
 pub struct Input {
@@ -35,9 +35,9 @@ impl Input {
         Input { plan: plan.to_vec(), rules: rules.to_vec(), questions: questions::of_bytes(questions) }
     }
 
-    /// N, S and K, once the headers are known to be there.
+    /// N, S and K, as the headers have them; 0 where a header is cut short.
     pub fn counts(&self) -> [usize; 3] {
-        [(&self.plan, 0), (&self.rules, 0), (&self.rules, 4)].map(|(bytes, at)| number(bytes, at) as usize)
+        [(&self.plan, 0), (&self.rules, 0), (&self.rules, 4)].map(|(bytes, at)| number(bytes, at).unwrap_or(0) as usize)
     }
 
     /// One of the questions, counted from 1.

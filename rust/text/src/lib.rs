@@ -27,7 +27,7 @@
 //!
 //! Order: `lines` (words and numbers), `plan`, `rules`, `questions` (each from text to bytes and back), `input` (text
 //! or bytes), `outcome` (what a verb writes, its status), `sentences`, `loaded` (the library's session on an input),
-//! `progress`; then a file a verb: `answer`, `outline`, `why`, `suggest`, `count`, `script` (session), `screens`, `over`, `branch` (by a `branch_table`), `colours` (the same by colours), `stored` (build and
+//! `progress`, `generator` (random trees and tables); then a file a verb: `answer`, `outline`, `why`, `suggest`, `count`, `script` (session), `screens`, `over`, `branch` (by a `branch_table`), `colours` (the same by colours), `stored` (build and
 //! check), `random`, `dot` (a small plan whole), `agree` (a separating plan). Writing, showing, merging and choosing
 //! a picture are in this file.
 
@@ -38,6 +38,7 @@ pub mod branch_table;
 pub mod colours;
 pub mod count;
 pub mod dot;
+pub mod generator;
 pub mod input;
 pub mod lines;
 pub mod loaded;
@@ -60,10 +61,8 @@ pub mod why;
 use input::Input;
 use lines::{Line, Wrong};
 use outcome::Failure;
-use reference::formats::number;
-use reference::write::with_header;
-use whatif::sizes::{self, rules_bytes, MAX_LABELS, MAX_STATES};
-use whatif::Refusal;
+use whatif::layout::{number, with_header};
+use whatif::{sizes, Refusal, Rules};
 
 /// The lines of each section.
 #[derive(Default)]
@@ -104,10 +103,7 @@ pub fn write(text: &str) -> Result<Vec<u8>, Wrong> {
 
 /// Plan, rules and questions of such bytes; none where they are fewer or more than their lengths say.
 pub fn parts_of(input: &[u8]) -> Option<[&[u8]; 3]> {
-    if input.len() < 12 {
-        return None;
-    }
-    let [plan, rules, questions] = [0, 4, 8].map(|at| number(input, at) as usize);
+    let (plan, rules, questions) = (number(input, 0)? as usize, number(input, 4)? as usize, number(input, 8)? as usize);
     let bytes = &input[12..];
     if plan.checked_add(rules)?.checked_add(questions)? != bytes.len() {
         return None;
@@ -131,9 +127,8 @@ pub fn rules_of(text: &str) -> Result<Vec<u8>, Wrong> {
 
 /// The rules that clear exactly the plans that both rules clear, as a section of text; or the merge's refusal.
 pub fn merge(first: &[u8], second: &[u8]) -> Result<String, Refusal> {
-    let mut merged = [0; rules_bytes(MAX_STATES, MAX_LABELS)];
-    let len = whatif::merge(first, second, &mut merged)?;
-    Ok(format!("{}\n{}", NAMES[1], rules::to_text(&merged[..len])))
+    let merged = Rules::from_bytes(first)?.merge(&Rules::from_bytes(second)?)?;
+    Ok(format!("{}\n{}", NAMES[1], rules::to_text(merged.as_bytes())))
 }
 
 /// More nodes than these are drawn as an outline.
@@ -145,6 +140,5 @@ pub fn draw(input: &Input, question: usize) -> Result<String, Failure> {
     if input.plan.len() > sizes::plan_bytes(DRAWN_WHOLE) {
         return outline::of_question(input, question);
     }
-    let refused = |number| Failure::Refused(Refusal::from_number(number).expect("not 0").to_string());
-    dot::picture(&input.plan, changes).map_err(refused)
+    dot::picture(&input.plan, changes).map_err(|refusal| Failure::Refused(refusal.to_string()))
 }

@@ -1,102 +1,82 @@
-//! A plan and its rules in a session of the library: Load once, then questions, each from the loaded record.
+//! A plan and its rules on a panel of the library: loaded once, then asked.
 
 use crate::outcome::Failure;
 use crate::questions::Change;
 use crate::sentences::{list_refused, load_refused};
-use reference::climb;
-use reference::formats::{number, read_plan, read_rules, Plan, Rules};
-use reference::record::Record;
-use whatif::sizes::{node_table_len, state_table_len, MAX_NODES, MAX_STATES};
-use whatif::{Answer, Lent, Progress, Refusal, Session};
+use whatif::{Answer, Node, Panel, Plan, Refusal, Rules};
 
-/// Both tables are exactly as long as they need to be.
-pub struct Loaded<'a> {
-    pub plan: &'a [u8],
-    pub rules: &'a [u8],
-    pub node_table: Vec<u16>,
-    pub state_table: Vec<u8>,
-    session: Session,
+pub struct Loaded {
+    pub panel: Panel,
 }
 
-/// An answered question: what Read tells, and the roots of its parts with their states, as the record has them.
+/// An answered question: its answer, and the roots of its parts with their states, as the record has them.
 pub struct Asked {
     pub answer: Answer,
     pub roots: Vec<usize>,
     pub states: Vec<u8>,
 }
 
-impl<'a> Loaded<'a> {
-    /// Load, by the library.
-    pub fn new(plan: &'a [u8], rules: &'a [u8]) -> Result<Loaded<'a>, Failure> {
-        let mut session = Session::new();
-        let (node_table, state_table) =
-            load(&mut session, plan, rules).map_err(|refusal| load_refused(refusal, plan, rules))?;
-        Ok(Loaded { plan, rules, node_table, state_table, session })
+impl Loaded {
+    /// Of any bytes: what a Load refuses is refused here, in its order.
+    pub fn new(plan: &[u8], rules: &[u8]) -> Result<Loaded, Failure> {
+        let panel = panel(plan, rules).map_err(|refusal| load_refused(refusal, plan, rules))?;
+        Ok(Loaded { panel })
     }
 
     pub fn nodes(&self) -> usize {
-        number(self.plan, 0) as usize
+        self.panel.plan().nodes()
     }
 
-    /// The plan, for the reference implementation.
-    pub fn as_plan(&self) -> Plan<'a> {
-        read_plan(self.plan).expect("loaded")
+    pub fn labels(&self) -> &[u8] {
+        self.panel.plan().labels()
     }
 
-    /// The rules, for the reference implementation.
-    pub fn as_rules(&self) -> Rules<'a> {
-        read_rules(self.rules).expect("loaded")
+    pub fn rules(&self) -> &Rules {
+        self.panel.rules()
     }
 
-    /// Parents, jumps, depths and sizes.
-    pub fn tree(&self) -> climb::Lent<'_> {
-        climb::Lent { nodes: self.nodes(), node_table: &self.node_table }
+    /// A node of the plan, with what the tables say of it.
+    pub fn node(&self, v: usize) -> Node {
+        u16::try_from(v).ok().and_then(|v| self.panel.node(v)).expect("a node of the plan")
+    }
+
+    pub fn parent(&self, v: usize) -> usize {
+        self.node(v).parent.into()
+    }
+
+    pub fn size(&self, v: usize) -> usize {
+        self.node(v).size.into()
     }
 
     /// The state of a node in the run of the plan as it is.
     pub fn before(&self, v: usize) -> u8 {
-        self.state_table[v * (number(self.rules, 0) as usize + 1)]
+        self.node(v).state
     }
 
-    pub fn lent(&self) -> Lent<'_> {
-        Lent { plan: self.plan, rules: self.rules, node_table: &self.node_table, state_table: &self.state_table }
+    /// Is the plan cleared as it is?
+    pub fn is_cleared(&self) -> bool {
+        self.rules().accepts(self.before(self.nodes() - 1))
     }
 
-    /// A question, from Start to Read.
-    pub fn ask(&self, changes: &[Change]) -> Result<Asked, Failure> {
-        let (n, k) = (self.nodes(), number(self.rules, 4) as usize);
-        self.put(changes).map_err(|refusal| list_refused(refusal, changes, n, k))
+    /// A question, from Start to its answer.
+    pub fn ask(&mut self, changes: &[Change]) -> Result<Asked, Failure> {
+        let answer = self.panel.ask(changes).map_err(|refusal| self.list_refused(refusal, changes))?;
+        let (roots, states) = self.panel.session().handled().map(|part| (usize::from(part.root), part.state)).unzip();
+        Ok(Asked { answer, roots, states })
     }
 
-    fn put(&self, changes: &[Change]) -> Result<Asked, Refusal> {
-        let mut session = self.session.clone();
-        let (nodes, labels): (Vec<u16>, Vec<u8>) = changes.iter().copied().unzip();
-        session.start(&self.lent(), &nodes, &labels)?;
-        while session.advance(&self.lent())? == Progress::More {}
-        let answer = session.read()?;
-        let record = Record::of(session.as_bytes()).expect("a record that the library wrote");
-        let roots = record.roots.iter().map(|&v| v as usize).collect();
-        Ok(Asked { answer, roots, states: record.states })
+    /// The same plan with changes made, on a panel of its own: its states are those of the changed run.
+    pub fn changed(&self, changes: &[Change]) -> Result<Loaded, Failure> {
+        let plan = self.panel.changed_plan(changes);
+        let panel = plan.and_then(|plan| Panel::new(plan, self.rules().clone()));
+        panel.map(|panel| Loaded { panel }).map_err(|refusal| self.list_refused(refusal, changes))
+    }
+
+    fn list_refused(&self, refusal: Refusal, changes: &[Change]) -> Failure {
+        list_refused(refusal, changes, self.nodes(), self.rules().labels())
     }
 }
 
-/// Load of a session.
-pub fn load(session: &mut Session, plan: &[u8], rules: &[u8]) -> Result<(Vec<u16>, Vec<u8>), Refusal> {
-    with_tables(plan, rules, |nodes, states| session.load(plan, rules, nodes, states))
-}
-
-/// A Load, with tables as long as the greatest that a plan of so many bytes can need; cut to what they need.
-pub fn with_tables(
-    plan: &[u8],
-    rules: &[u8],
-    load: impl FnOnce(&mut [u16], &mut [u8]) -> Result<(), Refusal>,
-) -> Result<(Vec<u16>, Vec<u8>), Refusal> {
-    let most = (plan.len().saturating_sub(12) / 2).min(MAX_NODES);
-    let mut node_table = vec![0; node_table_len(most)];
-    let mut state_table = vec![0; state_table_len(most, MAX_STATES)];
-    load(&mut node_table, &mut state_table)?;
-    let (n, s) = (number(plan, 0) as usize, number(rules, 0) as usize);
-    node_table.truncate(node_table_len(n));
-    state_table.truncate(state_table_len(n, s));
-    Ok((node_table, state_table))
+fn panel(plan: &[u8], rules: &[u8]) -> Result<Panel, Refusal> {
+    Panel::new(Plan::from_bytes(plan)?, Rules::from_bytes(rules)?)
 }

@@ -5,7 +5,7 @@ use std::io::{self, Read, Write};
 use std::process::exit;
 use text::input::Input;
 use text::outcome::{self, Failure, Made};
-use whatif::Line;
+use whatif::{Line, Plan, Refusal, Rules};
 
 const USAGE: &str = "usage: whatif-text VERB .. < INPUT
 
@@ -110,7 +110,7 @@ fn made(words: &[&str]) -> Result<Made, Failure> {
         ["check", nodes, states] => text::stored::check(&input()?, &file(nodes)?, &file(states)?),
         ["merge", first, second] => merge(&two_rules(first, second)?),
         ["agree", first, second] => agree(&two_rules(first, second)?, separating_text),
-        ["agree", first, second, "dot"] => agree(&two_rules(first, second)?, |_, lines| text::agree::picture(lines)),
+        ["agree", first, second, "dot"] => agree(&two_rules(first, second)?, |_, lines, _| text::agree::picture(lines)),
         ["random", options @ ..] => text::random::text(options).unwrap_or_else(|| usage()).map(Made::answered),
         _ => usage(),
     }
@@ -173,21 +173,26 @@ fn planner(words: &[&str]) -> Result<Made, Failure> {
     Ok(Made::answered(verb(&read_text()?)?))
 }
 
-/// Whether two rules agree; else the lines that are needed of a separating plan, as `shown` has them.
-fn agree(two: &[Vec<u8>; 2], shown: fn([bool; 2], &[Line]) -> String) -> Result<Made, Failure> {
-    let plan = whatif::agree(&two[0], &two[1]).map_err(|refusal| Failure::Refused(refusal.to_string()))?;
-    let plan = match plan {
+/// How a separating plan is shown: which of the two clear it, the lines that are needed, and the plan where it has one.
+type Shown = fn([bool; 2], &[Line], Option<&Plan>) -> String;
+
+/// Whether two rules agree; else a separating plan.
+fn agree([first, second]: &[Vec<u8>; 2], shown: Shown) -> Result<Made, Failure> {
+    let refused = |refusal: Refusal| Failure::Refused(refusal.to_string());
+    let first = Rules::from_bytes(&first[..]).map_err(refused)?;
+    let second = Rules::from_bytes(&second[..]).map_err(refused)?;
+    let plan = match first.differs_from(&second).map_err(refused)? {
         None => return Ok(Made::answered("# the two agree on every plan\n")),
         Some(plan) => plan,
     };
     let lines = text::agree::needed(&plan.lines().collect::<Vec<_>>());
-    let yes = [0, 1].map(|which| text::agree::clears(&two[which], &lines));
-    Ok(Made { bytes: shown(yes, &lines).into_bytes(), status: outcome::NO })
+    let yes = [&first, &second].map(|rules| text::agree::clears(rules, &lines));
+    Ok(Made { bytes: shown(yes, &lines, plan.to_plan().as_ref()).into_bytes(), status: outcome::NO })
 }
 
-fn separating_text(yes: [bool; 2], lines: &[Line]) -> String {
+fn separating_text(yes: [bool; 2], lines: &[Line], plan: Option<&Plan>) -> String {
     let word = |yes: bool| if yes { "yes" } else { "no" };
-    format!("# {} by the first, {} by the second\n{}", word(yes[0]), word(yes[1]), text::agree::text(lines))
+    format!("# {} by the first, {} by the second\n{}", word(yes[0]), word(yes[1]), text::agree::text(lines, plan))
 }
 
 /// All of it, or an error: what a buffer still holds is written here, where a failure is seen.

@@ -5,7 +5,6 @@ use crate::loaded::{Asked, Loaded};
 use crate::outcome::Failure;
 use crate::questions::Change;
 use crate::sentences::{self, count};
-use reference::climb::{climb, Links};
 
 const HEAD: &str = "\
 // The roots of the parts alone. A box is a listed node, with the label it is to take.
@@ -27,7 +26,7 @@ const WORDS: &str = "#777777";
 /// Of one of the questions, counted from 1.
 pub fn of_question(input: &Input, question: usize) -> Result<String, Failure> {
     let changes = input.question(question)?;
-    let loaded = Loaded::new(&input.plan, &input.rules)?;
+    let mut loaded = Loaded::new(&input.plan, &input.rules)?;
     let asked = loaded.ask(changes)?;
     Ok(picture(&loaded, &asked, question, changes))
 }
@@ -42,27 +41,37 @@ pub struct Edge {
 
 /// For each root but the plan's, the first one above it.
 pub fn edges(loaded: &Loaded, roots: &[usize]) -> Vec<Edge> {
-    let tree = loaded.tree();
+    let depth = |v: usize| usize::from(loaded.node(v).depth);
     let mut edges = Vec::new();
     for (i, &root) in roots.iter().enumerate().take(roots.len() - 1) {
         // in post-order the nodes below a node stand right before it, and those above it rise
-        let is_above = |&v: &usize| v < root + tree.size(v);
+        let is_above = |&v: &usize| v < root + loaded.size(v);
         let above = roots[i + 1..].iter().copied().find(is_above).expect("the plan's root is above all");
-        let up = tree.depth(root) - tree.depth(above) - 1;
-        let links = climb(&tree, root, tree.depth(above) + 1).expect("tables as built").len();
+        let up = depth(root) - depth(above) - 1;
+        let links = links(loaded, root, loaded.node(above).depth + 1);
         edges.push(Edge { above, root, climb: (up > 0).then_some((up, links)) });
     }
     edges
 }
 
+/// The moves of a climb to a depth: "while deeper than t, take the jump if its depth is at least t, else the parent."
+fn links(loaded: &Loaded, from: usize, t: u16) -> usize {
+    let (mut node, mut links) = (loaded.node(from), 0);
+    while node.depth > t {
+        let jump = loaded.node(node.jump.into());
+        node = if jump.depth >= t { jump } else { loaded.node(node.parent.into()) };
+        links += 1;
+    }
+    links
+}
+
 fn picture(loaded: &Loaded, asked: &Asked, question: usize, changes: &[Change]) -> String {
-    let plan = loaded.as_plan();
     let mut text = HEAD.to_string() + &title(loaded, asked, question);
     for (&v, &after) in asked.roots.iter().zip(&asked.states) {
         let to = changes.iter().rev().find(|change| change.0 as usize == v).map(|change| change.1);
         let label = to.map_or(String::new(), |to| format!(" to {}", to));
         let states = sentences::state(loaded.before(v), after);
-        let words = format!("node {}\\nlabel {}{}\\n{}", v, plan.labels[v], label, states);
+        let words = format!("node {}\\nlabel {}{}\\n{}", v, loaded.labels()[v], label, states);
         text += &format!("    {} [label=\"{}\"{}];\n", v, words, look(loaded, asked, v, after, to.is_some()));
     }
     for edge in edges(loaded, &asked.roots) {
@@ -78,7 +87,7 @@ fn picture(loaded: &Loaded, asked: &Asked, question: usize, changes: &[Change]) 
 fn title(loaded: &Loaded, asked: &Asked, question: usize) -> String {
     let root = loaded.nodes() - 1;
     let before = loaded.before(root);
-    let was = sentences::verdict(loaded.as_rules().accepts(before));
+    let was = sentences::verdict(loaded.is_cleared());
     let told = sentences::answer(&asked.answer);
     let as_it_is = format!("as it is: {}, state {}, {}", was, before, count(root + 1, "node"));
     format!("    label=\"Question {}: {}\\n({})\\n \";\n", question, told, as_it_is)

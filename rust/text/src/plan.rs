@@ -1,9 +1,7 @@
 //! A plan: a line for each node, in post-order.
 
 use crate::lines::{all_raw, raw_text, Line, Wrong};
-use reference::formats::read_plan;
-use reference::tree::Tree;
-use reference::write;
+use whatif::{layout, Plan};
 
 const KINDS: [&str; 2] = ["leaf", "inner"];
 
@@ -23,7 +21,7 @@ pub fn to_bytes(lines: &[Line]) -> Result<Vec<u8>, Wrong> {
             _ => return Err(line.wrong("a line of the plan is 'leaf LABEL', 'inner LABEL' or 'bytes ..'")),
         }
     }
-    Ok(write::plan(&labels, &kinds))
+    Ok(layout::plan(&labels, &kinds))
 }
 
 pub fn to_text(bytes: &[u8]) -> String {
@@ -42,14 +40,14 @@ pub fn to_text(bytes: &[u8]) -> String {
 fn nodes(bytes: &[u8]) -> Option<(&[u8], &[u8])> {
     let (labels, kinds) = bytes.get(12..)?.split_at((bytes.len() - 12) / 2);
     let as_many = !labels.is_empty() && labels.len() == kinds.len();
-    let said = as_many && kinds.iter().all(|&kind| kind <= 1) && write::plan(labels, kinds) == bytes;
+    let said = as_many && kinds.iter().all(|&kind| kind <= 1) && layout::plan(labels, kinds) == bytes;
     said.then_some((labels, kinds))
 }
 
 /// The number of each node and, in a tree, those of its children.
 fn abouts(bytes: &[u8], n: usize) -> Vec<String> {
-    let tree = read_plan(bytes).ok().map(|plan| Tree::of(&plan));
-    let about = |v: usize| match tree.as_ref().and_then(|tree| tree.children[v]) {
+    let children = Plan::from_bytes(bytes).map_or(vec![None; n], |plan| plan.children());
+    let about = |v: usize| match children[v] {
         Some((left, right)) => format!("node {}, over {} and {}", v, left, right),
         None => format!("node {}", v),
     };

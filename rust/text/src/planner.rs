@@ -16,12 +16,8 @@
 use crate::lines::{self, all_raw, raw_text, Line, Wrong};
 use crate::outcome::Failure;
 use crate::{plan, questions, rules};
-use reference::formats::read_plan;
-use reference::tree::Tree;
-use reference::write;
 use std::fmt;
-use whatif::sizes::{planner_bytes, planner_plan_bytes, MAX_PLANNER_NODES};
-use whatif::Refusal;
+use whatif::{layout, Planned, PlannerNode, Refusal};
 
 /// Why nothing is written: the text is wrong, or the library refuses what it says.
 #[derive(Debug, PartialEq, Eq)]
@@ -159,79 +155,44 @@ impl<'a> Text<'a> {
             }
             above.push((indent, v));
         }
-        Ok(write::plan(&labels, &counts))
+        Ok(layout::planner_file(&labels, &counts))
     }
 }
 
-/// A planner's file, its plan, and the place of each of its nodes.
-struct Planned {
-    file: Vec<u8>,
-    plan: Vec<u8>,
-    places: Vec<u16>,
+/// For each node of the plan its planner's node; none for a leaf.
+fn of_plan(planned: &Planned) -> Vec<Option<usize>> {
+    let mut of_plan = vec![None; planned.plan().nodes()];
+    planned.places().iter().enumerate().for_each(|(v, &place)| of_plan[usize::from(place)] = Some(v));
+    of_plan
 }
 
-impl Planned {
-    fn out(file: Vec<u8>) -> Result<Planned, Refusal> {
-        let most = (file.len().saturating_sub(planner_bytes(0)) / 2).min(MAX_PLANNER_NODES);
-        let (mut plan, mut places) = (vec![0; planner_plan_bytes(most)], vec![0; most]);
-        whatif::plan_of_planner(&file, &mut plan, &mut places)?;
-        Ok(Planned { file, plan, places })
-    }
-
-    fn home(plan: &[u8]) -> Result<Planned, Refusal> {
-        let mut file = vec![0; planner_bytes(MAX_PLANNER_NODES)];
-        let n = whatif::planner_of_plan(plan, &mut file)?;
-        file.truncate(planner_bytes(n));
-        Planned::out(file)
-    }
-
-    fn nodes(&self) -> usize {
-        self.places.len()
-    }
-
-    fn label(&self, v: usize) -> u8 {
-        self.file[12 + v]
-    }
-
-    fn children(&self, v: usize) -> u8 {
-        self.file[12 + self.nodes() + v]
-    }
-
-    /// For each node of the plan its planner's node; none for a leaf.
-    fn of_plan(&self) -> Vec<Option<usize>> {
-        let mut of_plan = vec![None; 2 * self.nodes() + 1];
-        self.places.iter().enumerate().for_each(|(v, &place)| of_plan[place as usize] = Some(v));
-        of_plan
-    }
-
-    /// The node above each planner's node, and its depth.
-    fn above(&self) -> Vec<(Option<usize>, usize)> {
-        let (mut above, mut open) = (Vec::new(), Vec::new());
-        for v in 0..self.nodes() {
-            while open.last().map_or(false, |&(_, left)| left == 0) {
-                open.pop();
-            }
-            above.push((open.last().map(|&(w, _)| w), open.len()));
-            if let Some((_, left)) = open.last_mut() {
-                *left -= 1;
-            }
-            open.push((v, self.children(v)));
+/// The node above each planner's node, and its depth.
+fn above(planned: &Planned) -> Vec<(Option<usize>, usize)> {
+    let (mut above, mut open): (Vec<_>, Vec<(usize, u8)>) = (Vec::new(), Vec::new());
+    for (v, PlannerNode { children, .. }) in planned.nodes().enumerate() {
+        while open.last().map_or(false, |&(_, left)| left == 0) {
+            open.pop();
         }
-        above
+        above.push((open.last().map(|&(w, _)| w), open.len()));
+        if let Some((_, left)) = open.last_mut() {
+            *left -= 1;
+        }
+        open.push((v, children));
     }
+    above
 }
 
 /// Our plan of a planner's text, with its rules, and its questions by our nodes.
 fn import(text: &str) -> Result<String, Failed> {
     let text = Text::of(text, "planner")?;
     let planned = Planned::out(text.file()?)?;
-    let of_plan = planned.of_plan();
+    let of_plan = of_plan(&planned);
     let mut made =
         "plan    # of a planner's file: label 63 is at every leaf, so its rules have 64 labels\n".to_string();
-    for (line, node) in plan::to_text(&planned.plan).lines().zip(of_plan) {
+    for (line, node) in plan::to_text(planned.plan().as_bytes()).lines().zip(of_plan) {
         made += &node.map_or(format!("{}\n", line), |v| format!("{}, planner's node {}\n", line, v));
     }
-    Ok(made + &text.rest(|line| by_places(line, &planned.places))?)
+    Ok(made + &text.rest(|line| by_places(line, planned.places()))?)
 }
 
 /// A question with `pNODE->LABEL` as our node.
@@ -252,15 +213,15 @@ const MAX_DEPTH: usize = 200;
 /// The planner's text of our plan, with its rules, and its questions by planner's nodes.
 fn export(text: &str) -> Result<String, Failed> {
     let text = Text::of(text, "plan")?;
-    let planned = Planned::home(&plan::to_bytes(&text.nodes)?)?;
-    let (of_plan, above) = (planned.of_plan(), planned.above());
+    let planned = Planned::home(plan::to_bytes(&text.nodes)?)?;
+    let (of_plan, above) = (of_plan(&planned), above(&planned));
     let mut made = "planner\n".to_string();
     if above.iter().any(|&(_, depth)| depth > MAX_DEPTH) {
-        made += &raw_text(&planned.file);
+        made += &raw_text(planned.file());
     } else {
-        for (v, &(_, depth)) in above.iter().enumerate() {
-            let node = format!("{}{}", "  ".repeat(depth), planned.label(v));
-            made += &format!("{:<19}# node {}, {} in the plan\n", node, v, planned.places[v]);
+        for (v, (&(_, depth), node)) in above.iter().zip(planned.nodes()).enumerate() {
+            let node = format!("{}{}", "  ".repeat(depth), node.label);
+            made += &format!("{:<19}# node {}, {} in the plan\n", node, v, planned.places()[v]);
         }
     }
     Ok(made + &text.rest(|line| by_planner(line, &of_plan))?)
@@ -291,18 +252,18 @@ digraph planner {
 fn picture(text: &str) -> Result<String, Failed> {
     let planned = Planned::out(Text::of(text, "planner")?.file()?)?;
     let mut made = HEAD.to_string() + "    subgraph cluster_planner {\n        label=\"planner\";\n";
-    for (v, (above, _)) in planned.above().into_iter().enumerate() {
-        made += &format!("        p{} [label=\"p{}: {}\"];\n", v, v, planned.label(v));
+    for (v, ((above, _), node)) in above(&planned).into_iter().zip(planned.nodes()).enumerate() {
+        made += &format!("        p{} [label=\"p{}: {}\"];\n", v, v, node.label);
         made += &above.map_or(String::new(), |w| format!("        p{} -> p{};\n", w, v));
     }
     made += "    }\n    subgraph cluster_plan {\n        label=\"plan\";\n";
-    let tree = Tree::of(&read_plan(&planned.plan).expect("a plan, as is proved"));
-    for (v, node) in planned.of_plan().into_iter().enumerate() {
+    let (labels, children) = (planned.plan().labels(), planned.plan().children());
+    for (v, node) in of_plan(&planned).into_iter().enumerate() {
         made += &match node {
-            Some(u) => format!("        {} [label=\"{}: {}\\np{}\"];\n", v, v, planned.label(u), u),
+            Some(u) => format!("        {} [label=\"{}: {}\\np{}\"];\n", v, v, labels[v], u),
             None => format!("        {} [shape=point];\n", v),
         };
-        if let Some((left, right)) = tree.children[v] {
+        if let Some((left, right)) = children[v] {
             made += &format!("        {} -> {};\n        {} -> {} [style=dashed];\n", v, left, v, right);
         }
     }

@@ -2,9 +2,7 @@
 
 use crate::lines::{raw_text, Line, Wrong};
 use crate::sentences;
-
-/// A node and the label it is to take.
-pub type Change = (u16, u8);
+pub use whatif::Change;
 
 pub fn to_bytes(lines: &[Line]) -> Result<Vec<u8>, Wrong> {
     let mut bytes = Vec::new();

@@ -1,13 +1,11 @@
 //! `whatif-text random`: a plan to try, with rules and questions, as text. The same words give the same text.
 
+use crate::generator::{arch, balanced, lasting_rules, left_comb, random_rules, uniform, Random};
 use crate::outcome::Failure;
 use crate::show;
-use compare::inputs::{lasting_rules, random_rules};
-use compare::random::Random;
-use compare::shapes::{kinds, Shape};
-use reference::formats::number;
-use reference::write;
+use whatif::layout::with_header;
 use whatif::sizes::{MAX_CHANGES, MAX_LABELS, MAX_NODES, MAX_STATES};
+use whatif::{Kind, Plan};
 
 /// What the words ask for.
 struct Wanted {
@@ -81,20 +79,21 @@ impl Wanted {
         }
         let mut random = Random::new(self.seed as u64);
         let kinds = self.kinds(&mut random)?;
-        let plan = write::plan(&random.bytes_below(self.nodes, self.labels), &kinds);
+        let labels = random.bytes_below(self.nodes, self.labels);
+        let plan = Plan::new(&labels, &kinds).expect("one tree").into_bytes();
         let rules = self.rules(&mut random)?;
-        let questions: Vec<u8> = (0..self.questions).flat_map(|_| self.question(&plan[12..], &mut random)).collect();
-        let bytes = write::with_header(&[plan.len(), rules.len(), questions.len()], &[&plan, &rules, &questions]);
+        let questions: Vec<u8> = (0..self.questions).flat_map(|_| self.question(&labels, &mut random)).collect();
+        let bytes = with_header(&[plan.len(), rules.len(), questions.len()], &[&plan, &rules, &questions]);
         Ok(show(&bytes).expect("as long as its lengths say"))
     }
 
-    fn kinds(&self, random: &mut Random) -> Result<Vec<u8>, Failure> {
+    fn kinds(&self, random: &mut Random) -> Result<Vec<Kind>, Failure> {
         let leaves = (self.nodes + 1) / 2;
         Ok(match self.shape.as_str() {
-            "arch" => arch(leaves, random),
-            "comb" => kinds(Shape::LeftComb, leaves, random),
-            "balanced" => kinds(Shape::Balanced, leaves, random),
-            "random" => kinds(Shape::Uniform, leaves, random),
+            "arch" => arch(leaves),
+            "comb" => left_comb(leaves),
+            "balanced" => balanced(leaves),
+            "random" => uniform(leaves, random),
             other => {
                 return Err(Failure::wrong(format!("--shape {}: this is not arch, comb, balanced or random", other)))
             }
@@ -110,7 +109,7 @@ impl Wanted {
         };
         loop {
             let rules = of(self.states, self.labels, random);
-            let marks = &rules[number(&rules, 16) as usize..];
+            let marks = &rules[rules.len() - self.states..];
             if self.states == 1 || (marks.contains(&0) && marks.contains(&1)) {
                 return Ok(rules);
             }
@@ -127,22 +126,11 @@ impl Wanted {
             }
         }
         let change = |v: u16| {
-            let other = random.between(1, self.labels.max(2) - 1);
+            let other = 1 + random.below(self.labels.max(2) - 1);
             let label = (labels[v as usize] as usize + other) % self.labels;
             [v.to_le_bytes()[0], v.to_le_bytes()[1], label as u8]
         };
         let listed = nodes.into_iter().flat_map(change);
         (self.changes.min(self.nodes) as u16).to_le_bytes().into_iter().chain(listed).collect()
     }
-}
-
-/// A full arch: two combs that meet at the root, the left one with its leaves at the right, the right one at the left.
-fn arch(leaves: usize, random: &mut Random) -> Vec<u8> {
-    if leaves == 1 {
-        return vec![0];
-    }
-    let mut all = kinds(Shape::LeftComb, leaves / 2, random);
-    all.extend(kinds(Shape::RightComb, leaves - leaves / 2, random));
-    all.push(1);
-    all
 }

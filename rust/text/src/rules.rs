@@ -1,9 +1,8 @@
 //! A rule table: its counts, a line for each state of a leaf and of an inner node, and the states that are accepted.
 
 use crate::lines::{all_raw, raw_text, Line, Wrong};
-use reference::formats::number;
-use reference::write;
 use std::ops::Range;
+use whatif::layout::{self, number};
 
 /// The entries said so far.
 struct Table {
@@ -82,7 +81,7 @@ impl Table {
             state.ok_or_else(|| format!("no line says 'inner {} {} {} -> ..'", i / s / k, i / s % k, i % s))
         };
         let inner: Result<Vec<u8>, String> = self.inner.iter().enumerate().map(inner_said).collect();
-        Ok(write::rules(s, k, &leaf?, &inner?, &self.marks))
+        Ok(layout::rules(s, k, &leaf?, &inner?, &self.marks))
     }
 }
 
@@ -101,16 +100,13 @@ pub fn to_text(bytes: &[u8]) -> String {
 
 /// None where lines can't say them: other offsets or another length, no or too many states or labels, other marks.
 fn table_text(bytes: &[u8]) -> Option<String> {
-    if bytes.len() < 20 {
-        return None;
-    }
-    let [s, k] = [0, 4].map(|at| number(bytes, at) as usize);
+    let (s, k) = (number(bytes, 0)? as usize, number(bytes, 4)? as usize);
     if !(1..=255).contains(&s) || !(1..=255).contains(&k) || bytes.len() != 20 + k + s * k * s + s {
         return None;
     }
     let (leaf, rest) = bytes[20..].split_at(k);
     let (inner, marks) = rest.split_at(s * k * s);
-    if write::rules(s, k, leaf, inner, marks) != bytes || marks.iter().any(|&mark| mark > 1) {
+    if layout::rules(s, k, leaf, inner, marks) != bytes || marks.iter().any(|&mark| mark > 1) {
         return None;
     }
     let leaf_line = |(a, state): (usize, &u8)| format!("leaf {} -> {}\n", a, state);

@@ -1,4 +1,4 @@
-//! `whatif-text screens`: a script of the calls of eight screens, a line each, with what each tells. The screen to
+//! `whatif-text screens`: a script of the calls of eight screens, a line each, with what each answers. The screen to
 //! try first is handed on by itself.
 //!
 //! ```text
@@ -11,34 +11,34 @@
 
 use crate::input::Input;
 use crate::lines::{self, Line, Wrong};
-use crate::loaded::with_tables;
 use crate::outcome::{Failure, Made};
 use crate::questions;
-use crate::script::{in_state, lent, Tables};
+use crate::script::in_state;
 use crate::sentences::{self, count, list_refused, load_refused};
 use whatif::sizes::{MAX_PARTS, SCREENS};
-use whatif::{Progress, Refusal, Screens, State};
+use whatif::{Deal, Lent, Mill, Plan, Progress, Refusal, Rules, Screens, State};
 
-/// A refused call is told in its place, and the script goes on.
+/// A refused call is reported in its place, and the script goes on.
 pub fn run(input: &Input, script: &str) -> Result<Made, Failure> {
-    let mut lab =
-        Lab { input, screens: Screens::new(), tables: Tables::default(), text: String::new(), refused: false };
+    let mut script_run = Run { input, mill: None, text: String::new(), refused: false };
     for line in lines::of(script) {
-        lab.take(&line).map_err(|wrong| Failure::Wrong(format!("in the script, {}", wrong)))?;
+        script_run.take(&line).map_err(|wrong| Failure::Wrong(format!("in the script, {}", wrong)))?;
     }
-    Ok(Made::with_refusals(lab.text, lab.refused))
+    Ok(Made::with_refusals(script_run.text, script_run.refused))
 }
 
-/// What a lab keeps, and what was told so far.
-struct Lab<'a> {
+const NOTHING: Lent<'static> = Lent { plan: &[], rules: &[], node_table: &[], state_table: &[] };
+
+/// The mill, and what was written so far. There is no mill before the first Load that is accepted: calls are then put to
+/// empty screens, which refuse them.
+struct Run<'a> {
     input: &'a Input,
-    screens: Screens,
-    tables: Tables,
+    mill: Option<Mill>,
     text: String,
     refused: bool,
 }
 
-impl Lab<'_> {
+impl Run<'_> {
     fn take(&mut self, line: &Line) -> Result<(), Wrong> {
         let (times, words) = match &line.words[..] {
             ["deal", "all"] => (usize::MAX, "deal".to_string()),
@@ -46,13 +46,13 @@ impl Lab<'_> {
             words => (1, words.join(" ")),
         };
         for _ in 0..times {
-            let told = self.call(line)?;
-            let goes_on = told.is_ok() && self.screens.is_running();
-            let told = told.unwrap_or_else(|failure| {
+            let said = self.call(line)?;
+            let goes_on = said.is_ok() && self.screens().is_running();
+            let said = said.unwrap_or_else(|failure| {
                 self.refused = true;
                 failure.what().to_string()
             });
-            self.text += &format!("{}: {}\n", words, told);
+            self.text += &format!("{}: {}\n", words, said);
             if !goes_on {
                 break;
             }
@@ -60,7 +60,11 @@ impl Lab<'_> {
         Ok(())
     }
 
-    /// What one call tells, or its refusal; wrong where the line is none.
+    fn screens(&self) -> Screens {
+        self.mill.as_ref().map_or(Screens::new(), |mill| mill.screens().clone())
+    }
+
+    /// What one call answers, or its refusal; wrong where the line is none.
     fn call(&mut self, line: &Line) -> Result<Result<String, Failure>, Wrong> {
         let screen = |word: &&str| line.number(word, u32::MAX as usize).map(|number| number as u32);
         Ok(match &line.words[..] {
@@ -82,10 +86,8 @@ impl Lab<'_> {
 
     fn load(&mut self) -> Result<String, Failure> {
         let (plan, rules) = (&self.input.plan, &self.input.rules);
-        let running = (0..SCREENS as u32).find(|&screen| self.screens.state(screen) == Some(State::Running));
-        let screens = &mut self.screens;
-        let loaded = with_tables(plan, rules, |nodes, states| screens.load(plan, rules, nodes, states));
-        self.tables = loaded.map_err(|refusal| match (refusal, running) {
+        let running = self.screens().running().next();
+        load(&mut self.mill, plan, rules).map_err(|refusal| match (refusal, running) {
             (Refusal::SessionState, Some(screen)) => {
                 Failure::Refused(format!("{} (screen {} is running)", refusal, screen))
             }
@@ -97,10 +99,11 @@ impl Lab<'_> {
     }
 
     fn start(&mut self, screen: u32, changes: &[questions::Change]) -> Result<String, Failure> {
-        let (nodes, labels): (Vec<u16>, Vec<u8>) = changes.iter().copied().unzip();
-        let lent = lent(self.input, &self.tables);
-        let started = self.screens.start(screen, &lent, &nodes, &labels);
-        let parts = started.map_err(|refusal| match self.screens.state(screen) {
+        let started = match &mut self.mill {
+            Some(mill) => mill.start(screen, changes),
+            None => Screens::new().start(screen, &NOTHING, &[], &[]),
+        };
+        let parts = started.map_err(|refusal| match self.screens().state(screen) {
             Some(State::Loaded) | Some(State::Answered) => {
                 list_refused(refusal, changes, self.input.counts()[0], self.input.counts()[2])
             }
@@ -110,33 +113,47 @@ impl Lab<'_> {
     }
 
     fn deal(&mut self) -> Result<String, Failure> {
-        let dealt = self.screens.deal(&lent(self.input, &self.tables));
-        let dealt = dealt.map_err(|refusal| match refusal {
-            Refusal::SessionState => Failure::Refused(format!("{} (no screen is running)", refusal)),
-            _ => Failure::Refused(refusal.to_string()),
-        })?;
-        let told = if dealt.progress == Progress::More { "more" } else { "finished" };
-        let (done, parts) = (self.screens.parts_done(dealt.screen), self.screens.parts(dealt.screen));
-        Ok(format!("screen {}, part {} of {}, {}", dealt.screen, done, parts, told))
+        let dealt = self.mill.as_mut().map_or(Ok(None), |mill| mill.deal());
+        match dealt.map_err(|refusal| Failure::Refused(refusal.to_string()))? {
+            None => Err(Failure::Refused(format!("{} (no screen is running)", Refusal::SessionState))),
+            Some(Deal { screen, progress }) => {
+                let said = if progress == Progress::More { "more" } else { "finished" };
+                let (done, parts) = (self.screens().parts_done(screen), self.screens().parts(screen));
+                Ok(format!("screen {}, part {} of {}, {}", screen, done, parts, said))
+            }
+        }
     }
 
     /// An earlier question's answer stays.
     fn cancel(&mut self, screen: u32) -> Result<String, Failure> {
-        let state = self.screens.state(screen);
-        self.screens.cancel(screen).map_err(|refusal| on_screen(refusal, screen, state))?;
-        let kept = if self.screens.read(screen).is_ok() { ", with the last answer kept" } else { "" };
+        let state = self.screens().state(screen);
+        let cancelled = match &mut self.mill {
+            Some(mill) => mill.cancel(screen),
+            None => Screens::new().cancel(screen),
+        };
+        cancelled.map_err(|refusal| on_screen(refusal, screen, state))?;
+        let kept = if self.screens().read(screen).is_ok() { ", with the last answer kept" } else { "" };
         Ok(format!("the screen is loaded, as after load{}", kept))
     }
 
     /// The last finished answer, in whatever state.
     fn read(&self, screen: u32) -> Result<String, Failure> {
-        let state = self.screens.state(screen);
-        self.screens.read(screen).map(|answer| sentences::answer(&answer)).map_err(|refusal| match state {
+        let state = self.screens().state(screen);
+        self.screens().read(screen).map(|answer| sentences::answer(&answer)).map_err(|refusal| match state {
             Some(State::Loaded) | Some(State::Running) => {
                 Failure::Refused(format!("{} (no question is finished since load)", refusal))
             }
             _ => on_screen(refusal, screen, state),
         })
+    }
+}
+
+/// A first Load, or another one.
+fn load(mill: &mut Option<Mill>, plan: &[u8], rules: &[u8]) -> Result<(), Refusal> {
+    let (plan, rules) = (Plan::from_bytes(plan)?, Rules::from_bytes(rules)?);
+    match mill {
+        Some(mill) => mill.load(plan, rules),
+        None => Mill::new(plan, rules).map(|loaded| *mill = Some(loaded)),
     }
 }
 

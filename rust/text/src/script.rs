@@ -1,4 +1,4 @@
-//! `whatif-text session`: a script of calls, a line each, with what each tells.
+//! `whatif-text session`: a script of calls, a line each, with what each answers.
 //!
 //! ```text
 //! load                # the plan and the rules of the input
@@ -10,35 +10,30 @@
 
 use crate::input::Input;
 use crate::lines::{self, Line, Wrong};
-use crate::loaded::load;
 use crate::outcome::{Failure, Made};
 use crate::questions;
 use crate::sentences::{self, count, list_refused, load_refused};
-use whatif::{Lent, Progress, Refusal, Session, State};
+use whatif::{Panel, Plan, Progress, Refusal, Rules, Session, State};
 
-/// A refused call is told in its place, and the script goes on.
+/// A refused call is reported in its place, and the script goes on.
 pub fn run(input: &Input, script: &str) -> Result<Made, Failure> {
-    let mut panel =
-        Panel { input, session: Session::new(), tables: Tables::default(), text: String::new(), refused: false };
+    let mut script_run = Run { input, panel: None, text: String::new(), refused: false };
     for line in lines::of(script) {
-        panel.take(&line).map_err(|wrong| Failure::Wrong(format!("in the script, {}", wrong)))?;
+        script_run.take(&line).map_err(|wrong| Failure::Wrong(format!("in the script, {}", wrong)))?;
     }
-    Ok(Made::with_refusals(panel.text, panel.refused))
+    Ok(Made::with_refusals(script_run.text, script_run.refused))
 }
 
-/// Node table and state table.
-pub type Tables = (Vec<u16>, Vec<u8>);
-
-/// What a panel keeps, and what was told so far.
-struct Panel<'a> {
+/// The panel, and what was written so far. There is no panel before the first Load that is accepted: every other call is
+/// refused until then as an empty session's is, with 1.
+struct Run<'a> {
     input: &'a Input,
-    session: Session,
-    tables: Tables,
+    panel: Option<Panel>,
     text: String,
     refused: bool,
 }
 
-impl Panel<'_> {
+impl Run<'_> {
     fn take(&mut self, line: &Line) -> Result<(), Wrong> {
         let (times, words) = match &line.words[..] {
             ["advance", "all"] => (usize::MAX, "advance".to_string()),
@@ -46,13 +41,13 @@ impl Panel<'_> {
             words => (1, words.join(" ")),
         };
         for _ in 0..times {
-            let told = self.call(line)?;
-            let goes_on = told.is_ok() && self.session.state() == Some(State::Running);
-            let told = told.unwrap_or_else(|failure| {
+            let said = self.call(line)?;
+            let goes_on = said.is_ok() && self.state() == Some(State::Running);
+            let said = said.unwrap_or_else(|failure| {
                 self.refused = true;
                 failure.what().to_string()
             });
-            self.text += &format!("{}: {}\n", words, told);
+            self.text += &format!("{}: {}\n", words, said);
             if !goes_on {
                 break;
             }
@@ -60,9 +55,13 @@ impl Panel<'_> {
         Ok(())
     }
 
-    /// What one call tells, or its refusal; wrong where the line is none.
+    fn state(&self) -> Option<State> {
+        self.panel.as_ref().map_or(Session::new().state(), |panel| panel.session().state())
+    }
+
+    /// What one call answers, or its refusal; wrong where the line is none.
     fn call(&mut self, line: &Line) -> Result<Result<String, Failure>, Wrong> {
-        let state = self.session.state();
+        let state = self.state();
         let plain = |refusal: Refusal| in_state(refusal, state);
         Ok(match &line.words[..] {
             ["load"] => self.load(),
@@ -71,7 +70,7 @@ impl Panel<'_> {
                 self.start(&changes)
             }
             ["advance"] | ["advance", _] => self.advance().map_err(plain),
-            ["cancel"] => self.session.cancel().map(|()| self.cancelled()).map_err(plain),
+            ["cancel"] => self.cancel().map_err(plain),
             ["read"] => self.read(state),
             _ => {
                 let forms = "'load', 'start NODE->LABEL ..', 'start none', 'advance [TIMES|all]', 'cancel' or 'read'";
@@ -82,8 +81,8 @@ impl Panel<'_> {
 
     fn load(&mut self) -> Result<String, Failure> {
         let (plan, rules) = (&self.input.plan, &self.input.rules);
-        self.tables = load(&mut self.session, plan, rules).map_err(|refusal| match refusal {
-            Refusal::SessionState => in_state(refusal, self.session.state()),
+        load(&mut self.panel, plan, rules).map_err(|refusal| match refusal {
+            Refusal::SessionState => in_state(refusal, self.state()),
             _ => load_refused(refusal, plan, rules),
         })?;
         let [n, s, k] = self.input.counts();
@@ -91,9 +90,8 @@ impl Panel<'_> {
     }
 
     fn start(&mut self, changes: &[questions::Change]) -> Result<String, Failure> {
-        let (nodes, labels): (Vec<u16>, Vec<u8>) = changes.iter().copied().unzip();
-        let lent = lent(self.input, &self.tables);
-        let parts = self.session.start(&lent, &nodes, &labels).map_err(|refusal| match self.session.state() {
+        let panel = self.panel.as_mut().ok_or(Refusal::SessionState);
+        let parts = panel.and_then(|panel| panel.start(changes)).map_err(|refusal| match self.state() {
             Some(State::Loaded) | Some(State::Answered) => {
                 list_refused(refusal, changes, self.input.counts()[0], self.input.counts()[2])
             }
@@ -103,25 +101,37 @@ impl Panel<'_> {
     }
 
     fn advance(&mut self) -> Result<String, Refusal> {
-        let progress = self.session.advance(&lent(self.input, &self.tables))?;
-        let told = if progress == Progress::More { "more" } else { "finished" };
-        Ok(format!("part {} of {}, {}", self.session.parts_done(), self.session.parts(), told))
+        let panel = self.panel.as_mut().ok_or(Refusal::SessionState)?;
+        let said = if panel.advance()? == Progress::More { "more" } else { "finished" };
+        Ok(format!("part {} of {}, {}", panel.session().parts_done(), panel.session().parts(), said))
+    }
+
+    /// An earlier question's answer stays.
+    fn cancel(&mut self) -> Result<String, Refusal> {
+        let panel = self.panel.as_mut().ok_or(Refusal::SessionState)?;
+        panel.cancel()?;
+        let kept = if panel.last().is_ok() { ", with the last answer kept" } else { "" };
+        Ok(format!("the session is loaded, as after load{}", kept))
     }
 
     /// The last finished answer, in whatever state.
     fn read(&self, state: Option<State>) -> Result<String, Failure> {
-        self.session.read().map(|answer| sentences::answer(&answer)).map_err(|refusal| match state {
+        let last = self.panel.as_ref().ok_or(Refusal::SessionState).and_then(|panel| panel.last());
+        last.map(|answer| sentences::answer(&answer)).map_err(|refusal| match state {
             Some(State::Loaded) | Some(State::Running) => {
                 Failure::Refused(format!("{} (no question is finished since load)", refusal))
             }
             other => in_state(refusal, other),
         })
     }
+}
 
-    /// An earlier question's answer stays.
-    fn cancelled(&self) -> String {
-        let kept = if self.session.read().is_ok() { ", with the last answer kept" } else { "" };
-        format!("the session is loaded, as after load{}", kept)
+/// A first Load, or another one.
+fn load(panel: &mut Option<Panel>, plan: &[u8], rules: &[u8]) -> Result<(), Refusal> {
+    let (plan, rules) = (Plan::from_bytes(plan)?, Rules::from_bytes(rules)?);
+    match panel {
+        Some(panel) => panel.load(plan, rules),
+        None => Panel::new(plan, rules).map(|loaded| *panel = Some(loaded)),
     }
 }
 
@@ -138,8 +148,4 @@ pub fn in_state(refusal: Refusal, state: Option<State>) -> Failure {
         Refusal::SessionState => format!("{} (it is {})", refusal, name),
         _ => refusal.to_string(),
     })
-}
-
-pub fn lent<'a>(input: &'a Input, tables: &'a Tables) -> Lent<'a> {
-    Lent { plan: &input.plan, rules: &input.rules, node_table: &tables.0, state_table: &tables.1 }
 }

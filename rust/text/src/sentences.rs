@@ -1,9 +1,10 @@
-//! The words in which answers and refusals are told.
+//! The words of answers and refusals.
 
 use crate::outcome::Failure;
 use crate::questions::Change;
-use reference::formats::{number, read_rules};
-use whatif::{Answer, Refusal};
+use whatif::layout::number;
+use whatif::sizes::plan_bytes;
+use whatif::{Answer, Refusal, Rules};
 
 /// `1 part`, `2 parts`.
 pub fn count(number: usize, what: &str) -> String {
@@ -68,7 +69,7 @@ pub fn load_refused(refusal: Refusal, plan: &[u8], rules: &[u8]) -> Failure {
     let about = match refusal {
         Refusal::PlanShort if plan.is_empty() => Some("there is no plan".to_string()),
         Refusal::TableShort if rules.is_empty() => Some("there are no rules".to_string()),
-        Refusal::PlanTree => Some(where_no_tree(&plan[12 + number(plan, 0) as usize..])),
+        Refusal::PlanTree => Some(where_no_tree(&plan[(plan.len() + plan_bytes(0)) / 2..])),
         Refusal::PlanLabel => label_too_great(plan, rules),
         _ => None,
     };
@@ -90,8 +91,8 @@ fn where_no_tree(kinds: &[u8]) -> String {
 }
 
 fn label_too_great(plan: &[u8], rules: &[u8]) -> Option<String> {
-    let k = read_rules(rules).ok()?.labels;
-    let labels = plan.get(12..12 + number(plan, 0) as usize)?;
+    let k = Rules::from_bytes(rules).ok()?.labels();
+    let labels = plan.get(plan_bytes(0)..plan_bytes(0) + number(plan, 0)? as usize)?;
     let v = labels.iter().position(|&label| label as usize >= k)?;
     Some(format!("node {} has label {}, and the rules have labels 0 to {}", v, labels[v], k - 1))
 }

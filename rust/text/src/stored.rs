@@ -5,12 +5,13 @@ use crate::input::Input;
 use crate::loaded::Loaded;
 use crate::outcome::{Failure, Made, NO};
 use crate::sentences::{count, load_refused};
-use reference::formats::number;
+use whatif::layout::number;
 
 /// Both tables as bytes, as the library builds them.
 pub fn build(input: &Input) -> Result<[Vec<u8>; 2], Failure> {
     let loaded = Loaded::new(&input.plan, &input.rules)?;
-    Ok([loaded.node_table.iter().flat_map(|number| number.to_le_bytes()).collect(), loaded.state_table])
+    let lent = loaded.panel.lent();
+    Ok([lent.node_table.iter().flat_map(|number| number.to_le_bytes()).collect(), lent.state_table.to_vec()])
 }
 
 /// The library's full check; where it says no, the first node whose entries are others than the build's.
@@ -23,7 +24,7 @@ pub fn check(input: &Input, node_table: &[u8], state_table: &[u8]) -> Result<Mad
     let as_built =
         whatif::check(plan, rules, &node_table, state_table).map_err(|refusal| load_refused(refusal, plan, rules))?;
     if as_built {
-        let nodes = count(number(plan, 0) as usize, "node");
+        let nodes = count(number(plan, 0).unwrap_or(0) as usize, "node");
         return Ok(Made::answered(format!("the tables are what the build writes, {}\n", nodes)));
     }
     let built = Loaded::new(plan, rules)?;
@@ -37,20 +38,20 @@ pub fn check(input: &Input, node_table: &[u8], state_table: &[u8]) -> Result<Mad
 const NUMBERS: [&str; 4] = ["parent", "jump", "depth", "size"];
 
 fn first_wrong(built: &Loaded, node_table: &[u16], state_table: &[u8]) -> Option<String> {
-    let row = number(built.rules, 0) as usize + 1;
+    let (row, lent) = (built.rules().states() + 1, built.panel.lent());
     let say = |v: usize, what: String, is: usize, wanted: usize| {
         format!("node is {}: its {} is {}, and should be {}", v, what, is, wanted)
     };
     (0..built.nodes()).find_map(|v| {
-        let numbers = (4 * v..4 * v + 4).find(|&i| node_table[i] != built.node_table[i]);
-        let bytes = (row * v..row * (v + 1)).find(|&i| state_table[i] != built.state_table[i]);
+        let numbers = (4 * v..4 * v + 4).find(|&i| node_table[i] != lent.node_table[i]);
+        let bytes = (row * v..row * (v + 1)).find(|&i| state_table[i] != lent.state_table[i]);
         let of_byte = |i: usize| match i - row * v {
             0 => "state".to_string(),
             entry => format!("map of state {}", entry - 1),
         };
         match (numbers, bytes) {
-            (Some(i), _) => Some(say(v, NUMBERS[i % 4].into(), node_table[i].into(), built.node_table[i].into())),
-            (None, Some(i)) => Some(say(v, of_byte(i), state_table[i].into(), built.state_table[i].into())),
+            (Some(i), _) => Some(say(v, NUMBERS[i % 4].into(), node_table[i].into(), lent.node_table[i].into())),
+            (None, Some(i)) => Some(say(v, of_byte(i), state_table[i].into(), lent.state_table[i].into())),
             (None, None) => None,
         }
     })

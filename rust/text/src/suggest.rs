@@ -10,8 +10,6 @@ use crate::loaded::Loaded;
 use crate::outcome::Failure;
 use crate::progress::Progress;
 use crate::sentences::{count, verdict};
-use reference::climb::Links;
-use reference::formats::Rules;
 
 /// A change, and the root's verdict with it.
 #[derive(Clone, Copy, Debug, PartialEq, Eq)]
@@ -38,16 +36,14 @@ pub fn of_nodes(input: &Input, nodes: &[usize]) -> Result<String, Failure> {
 
 /// The changes to another label that turn the verdict, in the order of the nodes.
 pub fn turns(loaded: &Loaded, nodes: &[usize]) -> Vec<Turn> {
-    let (rules, labels) = (loaded.as_rules(), loaded.as_plan().labels);
-    let clearing = clearing(loaded, &rules);
+    let (labels, clearing, now) = (loaded.labels(), clearing(loaded), loaded.is_cleared());
     let is_cleared = |v: usize, state: u8| clearing[v] >> state & 1 == 1;
-    let now = as_it_is(loaded);
     let mut progress = Progress::of(nodes.len(), "nodes");
     let mut turns = Vec::new();
     for (i, &v) in nodes.iter().enumerate() {
         progress.done(i);
-        for label in (0..rules.labels as u8).filter(|&label| label != labels[v]) {
-            if is_cleared(v, state_with(loaded, &rules, v, label)) != now {
+        for label in (0..loaded.rules().labels() as u8).filter(|&label| label != labels[v]) {
+            if is_cleared(v, state_with(loaded, v, label)) != now {
                 turns.push(Turn { node: v as u16, label });
             }
         }
@@ -55,26 +51,20 @@ pub fn turns(loaded: &Loaded, nodes: &[usize]) -> Vec<Turn> {
     turns
 }
 
-/// Is the plan cleared as it is?
-fn as_it_is(loaded: &Loaded) -> bool {
-    loaded.as_rules().accepts(loaded.before(loaded.nodes() - 1))
-}
-
 /// For each node the states, as bits, with which the plan is cleared, all else as it is.
-fn clearing(loaded: &Loaded, rules: &Rules) -> Vec<u16> {
-    let (tree, labels) = (loaded.tree(), loaded.as_plan().labels);
-    let root = loaded.nodes() - 1;
-    let states = 0..rules.states as u8;
+fn clearing(loaded: &Loaded) -> Vec<u16> {
+    let (root, rules) = (loaded.nodes() - 1, loaded.rules());
+    let states = 0..rules.states() as u8;
     let bits = |clears: &dyn Fn(u8) -> bool| states.clone().filter(|&q| clears(q)).fold(0u16, |set, q| set | 1 << q);
     let mut clearing = vec![0; root + 1];
     clearing[root] = bits(&|q| rules.accepts(q));
     for v in (0..root).rev() {
-        let p = tree.parent(v);
-        let (above, a) = (clearing[p], labels[p]);
+        let p = loaded.parent(v);
+        let (above, a) = (clearing[p], loaded.labels()[p]);
         let follows = |q: u8| match p == v + 1 {
             // the right child stands right before its parent, the left one before the right one's nodes
-            true => rules.inner(loaded.before(v - tree.size(v)), a, q),
-            false => rules.inner(q, a, loaded.before(p - 1)),
+            true => inner(loaded, loaded.before(v - loaded.size(v)), a, q),
+            false => inner(loaded, q, a, loaded.before(p - 1)),
         };
         clearing[v] = bits(&|q| above >> follows(q) & 1 == 1);
     }
@@ -82,23 +72,27 @@ fn clearing(loaded: &Loaded, rules: &Rules) -> Vec<u16> {
 }
 
 /// The state of a node with another label.
-fn state_with(loaded: &Loaded, rules: &Rules, v: usize, label: u8) -> u8 {
-    let tree = loaded.tree();
-    match tree.size(v) {
-        1 => rules.leaf(label),
-        _ => rules.inner(loaded.before(v - 1 - tree.size(v - 1)), label, loaded.before(v - 1)),
+fn state_with(loaded: &Loaded, v: usize, label: u8) -> u8 {
+    match loaded.size(v) {
+        1 => loaded.rules().leaf(label).expect("a label of the rules"),
+        _ => inner(loaded, loaded.before(v - 1 - loaded.size(v - 1)), label, loaded.before(v - 1)),
     }
 }
 
+/// Of states and a label that the rules have.
+fn inner(loaded: &Loaded, left: u8, label: u8, right: u8) -> u8 {
+    loaded.rules().inner(left, label, right).expect("states and a label of the rules")
+}
+
 fn held_to_the_library(loaded: &Loaded, turns: &[Turn]) -> Result<(), Failure> {
-    let now = as_it_is(loaded);
+    let now = loaded.is_cleared();
     let apart = (turns.len() + HELD - 1) / HELD;
     let some: Vec<&Turn> = turns.iter().step_by(apart.max(1)).collect();
     let mut progress = Progress::of(some.len(), "changes put to the library");
     for (i, turn) in some.iter().enumerate() {
         progress.done(i);
-        let told = whatif::fresh_run(loaded.plan, loaded.rules, &[turn.node], &[turn.label]);
-        if told.map_or(true, |told| told.yes == now) {
+        let fresh = loaded.panel.fresh_run(&[(turn.node, turn.label)]);
+        if fresh.map_or(true, |fresh| fresh.yes == now) {
             let change = format!("{}->{}", turn.node, turn.label);
             return Err(Failure::wrong(format!("a fault of whatif-text: {} turns nothing by the library", change)));
         }
@@ -107,7 +101,7 @@ fn held_to_the_library(loaded: &Loaded, turns: &[Turn]) -> Result<(), Failure> {
 }
 
 fn text(loaded: &Loaded, nodes: &[usize], turns: &[Turn]) -> String {
-    let (now, k) = (as_it_is(loaded), loaded.as_rules().labels);
+    let (now, k) = (loaded.is_cleared(), loaded.rules().labels());
     let tried = nodes.len() * (k - 1);
     let root = loaded.before(loaded.nodes() - 1);
     let head = format!("# as it is: {}, state {}\n", verdict(now), root);

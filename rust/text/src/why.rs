@@ -5,9 +5,6 @@ use crate::loaded::Loaded;
 use crate::outcome::Failure;
 use crate::questions::Change;
 use crate::sentences::{self, count};
-use reference::climb::Links;
-use reference::fresh::changed;
-use reference::tables::run;
 use std::collections::BTreeSet;
 
 /// Of more steps than these between two listed nodes the first and the last are told.
@@ -18,30 +15,23 @@ const LAST: usize = 2;
 /// Of one of the questions, counted from 1; every step where `whole`.
 pub fn of_question(input: &Input, question: usize, whole: bool) -> Result<String, Failure> {
     let list = input.question(question)?;
-    let loaded = Loaded::new(&input.plan, &input.rules)?;
+    let mut loaded = Loaded::new(&input.plan, &input.rules)?;
     let answer = loaded.ask(list)?.answer;
-    let after = states_after(&loaded, list);
+    let changed = loaded.changed(list)?;
     let root = loaded.nodes() - 1;
-    if after[root] != answer.state {
-        return Err(Failure::wrong("a fault of whatif-text: its run and the library's answer differ"));
+    if changed.before(root) != answer.state {
+        return Err(Failure::wrong("a fault of whatif-text: the changed plan's run and the library's answer differ"));
     }
-    let before = loaded.before(root);
-    let was = sentences::verdict(loaded.as_rules().accepts(before));
-    let told = sentences::answer(&answer);
-    let head = format!("{}: {}\nas it is: {}, state {}\n", sentences::question(question, list), told, was, before);
-    Ok(head + &Paths { loaded: &loaded, after: &after, list, whole, told: BTreeSet::new() }.all())
-}
-
-/// The state of every node in the run of the changed plan.
-fn states_after(loaded: &Loaded, list: &[Change]) -> Vec<u8> {
-    let plan = loaded.as_plan();
-    let (nodes, labels): (Vec<u16>, Vec<u8>) = list.iter().copied().unzip();
-    run(plan.kinds, &changed(plan.labels, &nodes, &labels), &loaded.as_rules())
+    let was = sentences::verdict(loaded.is_cleared());
+    let (said, before) = (sentences::answer(&answer), loaded.before(root));
+    let head = format!("{}: {}\nas it is: {}, state {}\n", sentences::question(question, list), said, was, before);
+    Ok(head + &Paths { loaded: &loaded, changed: &changed, list, whole, told: BTreeSet::new() }.all())
 }
 
 struct Paths<'a> {
-    loaded: &'a Loaded<'a>,
-    after: &'a [u8],
+    loaded: &'a Loaded,
+    /// The plan with the changes made.
+    changed: &'a Loaded,
     list: &'a [Change],
     whole: bool,
     /// The nodes of the paths before.
@@ -70,7 +60,7 @@ impl Paths<'_> {
         let mut at = v;
         while self.differs(at) && at + 1 < self.loaded.nodes() {
             self.told.insert(at);
-            let (steps, next) = self.steps(self.loaded.tree().parent(at));
+            let (steps, next) = self.steps(self.loaded.parent(at));
             text += &self.shortened(&steps);
             if self.told.contains(&next) {
                 return text + &format!("  node {}: from here as above\n", next);
@@ -95,7 +85,7 @@ impl Paths<'_> {
                 }
                 _ => steps.push(Step { from: at, to: at, nodes: 1 }),
             }
-            at = self.loaded.tree().parent(at);
+            at = self.loaded.parent(at);
         }
         (steps, at)
     }
@@ -123,7 +113,7 @@ impl Paths<'_> {
     fn line(&self, v: usize, end: &str) -> String {
         let (before, after) = self.states(v);
         let label = self.takes(v).map_or(String::new(), |to| {
-            let own = self.loaded.as_plan().labels[v];
+            let own = self.loaded.labels()[v];
             format!(", label {} to {}", own, to)
         });
         let root = if v + 1 == self.loaded.nodes() { ", the root" } else { "" };
@@ -136,7 +126,7 @@ impl Paths<'_> {
     }
 
     fn states(&self, v: usize) -> (u8, u8) {
-        (self.loaded.before(v), self.after[v])
+        (self.loaded.before(v), self.changed.before(v))
     }
 
     fn differs(&self, v: usize) -> bool {

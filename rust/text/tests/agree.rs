@@ -4,7 +4,7 @@ use std::fs;
 use std::process::{Command, Output};
 use text::agree::{clears, needed, picture, text};
 use text::{rules_of, write};
-use whatif::Line;
+use whatif::{Line, Plan, Rules};
 
 const SAMPLE: &str = include_str!("../../../examples/sample.txt");
 
@@ -15,19 +15,21 @@ fn balanced(s: usize, accept: &str) -> String {
     format!("rules\nstates {}\nlabels 1\nleaf 0 -> 0\ninner * * * -> 0\n{}accept {}\n", s, inner, accept)
 }
 
-fn shown(first: &str, second: &str) -> Vec<Line> {
-    let (first, second) = (rules_of(first).unwrap(), rules_of(second).unwrap());
-    let lines: Vec<Line> = whatif::agree(&first, &second).unwrap().expect("they differ").lines().collect();
+/// The lines that are needed, and the plan where it has no more nodes than a plan can have.
+fn shown(first: &str, second: &str) -> (Vec<Line>, Option<Plan>) {
+    let [first, second] = [first, second].map(|text| Rules::from_bytes(rules_of(text).unwrap()).unwrap());
+    let separating = first.differs_from(&second).unwrap().expect("they differ");
+    let lines: Vec<Line> = separating.lines().collect();
     let needed = needed(&lines);
     assert_ne!(clears(&first, &needed), clears(&second, &needed));
     assert_eq!((clears(&first, &needed), clears(&second, &needed)), (clears(&first, &lines), clears(&second, &lines)));
-    needed
+    (needed, separating.to_plan())
 }
 
 #[test]
 fn a_plan_of_three_levels() {
-    let lines = shown(&balanced(4, "3"), &balanced(4, ""));
-    let said = text(&lines);
+    let (lines, plan) = shown(&balanced(4, "3"), &balanced(4, ""));
+    let said = text(&lines, plan.as_ref());
     let head = "# line 0: leaf 0\n# line 1: inner 0 over 0 and 0\n# line 2: inner 0 over 1 and 1\n# line 3: inner 0 over 2 and 2\n";
     assert!(said.starts_with(&format!("{}plan\nleaf 0 ", head)), "{}", said);
     // it may be pasted, before the rules
@@ -50,7 +52,8 @@ fn lines_that_are_not_needed() {
 #[test]
 fn a_plan_beyond_65_535_nodes() {
     let but_14 = |s: usize| (0..s).filter(|&state| state != 14).map(|state| format!("{} ", state)).collect::<String>();
-    let said = text(&shown(&balanced(15, &but_14(15)), &balanced(16, &but_14(16))));
+    let (lines, plan) = shown(&balanced(15, &but_14(15)), &balanced(16, &but_14(16)));
+    let said = text(&lines, plan.as_ref());
     assert!(said.ends_with("# as a tree it has more than 65,535 nodes, the most that a plan can have\n"), "{}", said);
     assert!(!said.contains("plan\n"), "{}", said);
 }

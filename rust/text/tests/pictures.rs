@@ -61,7 +61,7 @@ fn what_cannot_be_drawn_is_said() {
     assert_eq!(drawn(9).map(|_| ()), Ok(()), "the last entry holds");
     assert_eq!(drawn(0), wrong("there is no question 0: the input has 9"));
     assert_eq!(drawn(10), wrong("there is no question 10: the input has 9"));
-    assert_eq!(picture(&[], &[]), Err(2));
+    assert_eq!(picture(&[], &[]), Err(whatif::Refusal::PlanShort));
     let line = Input::of_text("plan\nleaf x\nquestions\nnone").err().expect("no number");
     assert_eq!(line, Failure::wrong("line 2: 'x' is not a number from 0 to 255"));
 }

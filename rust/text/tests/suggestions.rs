@@ -18,11 +18,11 @@ fn exactly_those_that_turn() {
         for (rules, states) in [("lasting", 2), ("lasting", 5), ("random", 3), ("random", 16)] {
             let words = format!("--nodes 61 --shape {} --rules {} --states {} --labels 5", shape, rules, states);
             let input = input(&words);
-            let loaded = Loaded::new(&input.plan, &input.rules).unwrap();
+            let mut loaded = Loaded::new(&input.plan, &input.rules).unwrap();
             let now = loaded.ask(&[]).unwrap().answer.yes;
-            let mut expected = Vec::new();
+            let (labels, mut expected) = (loaded.labels().to_vec(), Vec::new());
             for v in 0..61u16 {
-                for label in (0..5).filter(|&label| label != loaded.as_plan().labels[v as usize]) {
+                for label in (0..5).filter(|&label| label != labels[v as usize]) {
                     if loaded.ask(&[(v, label)]).unwrap().answer.yes != now {
                         expected.push((v, label));
                     }
@@ -54,7 +54,7 @@ fn the_largest_plan() {
 fn climbs_of_outlines() {
     for shape in ["arch", "comb", "balanced", "random"] {
         let input = input(&format!("--nodes 3001 --shape {} --questions 40", shape));
-        let loaded = Loaded::new(&input.plan, &input.rules).unwrap();
+        let mut loaded = Loaded::new(&input.plan, &input.rules).unwrap();
         for question in &input.questions {
             let asked = loaded.ask(question).unwrap();
             let edges = edges(&loaded, &asked.roots);

@@ -1,6 +1,9 @@
-//! The library's functions as include/whatif.h declares them; its comments say what each is lent, writes and answers, and
-//! what a caller must see to. A slice is a pointer, then its count of elements. The gate holds this file to the header and
-//! to the library's source; nothing else checks it. The crate `whatif` has safe functions over these.
+//! The library's functions as include/whatif.h declares them: its comments say what each reads, writes and answers, and
+//! what a caller must see to. A slice is a pointer, then its count of elements. The crate `whatif` has safe functions over
+//! these.
+//!
+//! The build script finds the library and links it; README.md says where it looks and which variables it reads.
+//! The gate compares this file with the header and with the library's source; nothing else checks it.
 #![no_std]
 #![deny(missing_docs, unsafe_op_in_unsafe_fn)]
 
@@ -198,7 +201,7 @@ extern "C" {
         state_table_len: usize,
     ) -> u32;
 
-    /// Start: puts a question.
+    /// Start: asks a question.
     pub fn whatif_start(
         record: *mut u8,
         record_len: usize,
@@ -235,7 +238,7 @@ extern "C" {
     /// Cancel: drops the question.
     pub fn whatif_cancel(record: *mut u8, record_len: usize) -> u32;
 
-    /// Read: tells the answer.
+    /// Read: the last finished answer.
     pub fn whatif_read(
         record: *const u8,
         record_len: usize,
@@ -263,7 +266,7 @@ extern "C" {
         next: *mut u32,
     ) -> u32;
 
-    /// Start on a screen: puts a question there.
+    /// Start on a screen: asks a question there.
     pub fn whatif_screens_start(
         records: *mut u8,
         records_len: usize,
@@ -303,7 +306,7 @@ extern "C" {
     /// Cancel on a screen: drops its question.
     pub fn whatif_screens_cancel(records: *mut u8, records_len: usize, screen: u32) -> u32;
 
-    /// Read on a screen: tells its answer.
+    /// Read on a screen: its last finished answer.
     pub fn whatif_screens_read(
         records: *const u8,
         records_len: usize,

@@ -5,7 +5,7 @@ use crate::{accepted, slices, Refusal};
 use core::fmt;
 
 /// A line of a separating plan.
-#[derive(Clone, Copy, Debug, PartialEq, Eq)]
+#[derive(Clone, Copy, Debug, PartialEq, Eq, Hash)]
 pub enum Line {
     /// A leaf.
     Leaf {
@@ -34,6 +34,7 @@ pub struct SeparatingPlan {
 
 impl SeparatingPlan {
     /// The lines, numbered from 0.
+    #[must_use]
     pub fn lines(&self) -> impl ExactSizeIterator<Item = Line> + '_ {
         self.numbers[..4 * self.count].chunks_exact(4).map(|line| match line[0] {
             0 => Line::Leaf { label: line[1] as u8 },
@@ -57,32 +58,114 @@ impl PartialEq for SeparatingPlan {
 impl Eq for SeparatingPlan {}
 
 /// Do two rule tables agree, that is, does every plan, of any size, get yes from both or no from both? None where they do,
-/// else a plan on which they differ. Refused with 6 to 9 for the first table, 6 to 9 for the second, 23 (in this order).
+/// else a plan on which they differ. [`Rules::differs_from`](crate::Rules::differs_from) takes tables that are checked.
+///
+/// # Errors
+/// The first of 6 to 9 for the first table, 6 to 9 for the second, 23.
 ///
 /// ```
-/// # fn main() -> Result<(), whatif::Refusal> {
-/// use whatif::Line;
-/// // one label; the state is 1 where there is an inner node, or where there is a leaf alone
-/// let table = |leaf: u8, inner: [u8; 4]| -> Vec<u8> {
-///     [2u32, 1, 20, 21, 25].iter().flat_map(|n| n.to_le_bytes()).chain([leaf]).chain(inner).chain([0, 1]).collect()
-/// };
-/// let (some_inner, a_leaf) = (table(0, [1; 4]), table(1, [0; 4]));
-/// assert_eq!(whatif::agree(&some_inner, &some_inner)?, None);
-/// let separating = whatif::agree(&some_inner, &a_leaf)?.expect("they differ");
+/// # use whatif::{Line, Rules};
+/// // one label; state 1 is marked, and is that of every inner node, or of a leaf alone
+/// let (some_inner, a_leaf) = (Rules::new(&[0], &[1; 4], &[false, true])?, Rules::new(&[1], &[0; 4], &[false, true])?);
+/// assert_eq!(whatif::agree(some_inner.as_bytes(), some_inner.as_bytes())?, None);
+/// let separating = whatif::agree(some_inner.as_bytes(), a_leaf.as_bytes())?.expect("they differ");
 /// assert!(separating.lines().eq([Line::Leaf { label: 0 }]));
-///
-/// // they differ from the second inner node on
-/// let left_first = table(0, [1, 1, 0, 0]);
-/// let separating = whatif::agree(&some_inner, &left_first)?.expect("they differ");
-/// let root = Line::Inner { label: 0, left: 1, right: 0 };
-/// assert!(separating.lines().eq([Line::Leaf { label: 0 }, Line::Inner { label: 0, left: 0, right: 0 }, root]));
-/// # Ok(())
-/// # }
+/// # Ok::<(), whatif::Refusal>(())
 /// ```
 pub fn agree(first: &[u8], second: &[u8]) -> Result<Option<SeparatingPlan>, Refusal> {
     let mut numbers = [0; 4 * MAX_LINES];
-    let mut told = [0; 2];
-    accepted(slices::agree(first, second, &mut numbers, &mut told))?;
-    let [agree, count] = told;
+    let mut out = [0; 2];
+    accepted(slices::agree(first, second, &mut numbers, &mut out))?;
+    let [agree, count] = out;
     Ok(if agree == 1 { None } else { Some(SeparatingPlan { numbers, count: count as usize }) })
+}
+
+#[cfg(feature = "alloc")]
+mod written_out {
+    use super::{Line, SeparatingPlan};
+    use crate::sizes::MAX_NODES;
+    use crate::{Kind, Plan};
+    use alloc::vec;
+    use alloc::vec::Vec;
+
+    impl SeparatingPlan {
+        /// The lines written out as a tree; none where it would have more nodes than a plan can have.
+        #[must_use]
+        pub fn to_plan(&self) -> Option<Plan> {
+            let lines: Vec<Line> = self.lines().collect();
+            let root = lines.len().checked_sub(1)?;
+            if *sizes(&lines)?.last()? > MAX_NODES {
+                return None;
+            }
+            let mut nodes = root_first(&lines, root)?;
+            nodes.reverse();
+            Plan::from_fn(nodes.len(), |v| nodes[v]).ok()
+        }
+    }
+
+    /// How many nodes each line's tree has, up to one more than a plan can have.
+    fn sizes(lines: &[Line]) -> Option<Vec<usize>> {
+        let mut sizes: Vec<usize> = Vec::new();
+        for line in lines {
+            let size = match *line {
+                Line::Leaf { .. } => 1,
+                Line::Inner { left, right, .. } => 1 + sizes.get(left)? + sizes.get(right)?,
+            };
+            sizes.push(size.min(MAX_NODES + 1));
+        }
+        Some(sizes)
+    }
+
+    /// The nodes of a line's tree: each before its right subtree, and that before its left one. This is post-order, turned
+    /// round.
+    fn root_first(lines: &[Line], root: usize) -> Option<Vec<(Kind, u8)>> {
+        let (mut nodes, mut left_to_do) = (Vec::new(), vec![root]);
+        while let Some(at) = left_to_do.pop() {
+            nodes.push(match *lines.get(at)? {
+                Line::Leaf { label } => (Kind::Leaf, label),
+                Line::Inner { label, left, right } => {
+                    left_to_do.extend([left, right]);
+                    (Kind::Inner, label)
+                }
+            });
+        }
+        Some(nodes)
+    }
+
+    #[cfg(test)]
+    mod tests {
+        use crate::{fresh_run, Rules};
+
+        /// One label; the state is how often both children have the same, modulo `states`.
+        fn balanced(states: u8, marked: impl FnMut(u8) -> bool) -> Rules {
+            let rises = move |p: u8, _: u8, q: u8| if p == q { (p + 1) % states } else { 0 };
+            Rules::from_fn(states.into(), 1, |_| 0, rises, marked).unwrap()
+        }
+
+        #[test]
+        fn tables_differ_on_the_plan() {
+            let (first, second) = (balanced(4, |state| state == 3), balanced(4, |_| false));
+            let plan = first.differs_from(&second).unwrap().unwrap().to_plan().unwrap();
+            let yes = |rules: &Rules| fresh_run(plan.as_bytes(), rules.as_bytes(), &[], &[]).unwrap().yes;
+            assert_eq!((plan.nodes(), yes(&first), yes(&second)), (15, true, false));
+        }
+
+        /// Left and right are kept apart.
+        #[test]
+        fn sides() {
+            let left_alone = |p: u8, a: u8, q: u8| u8::from(a == 2 && (p, q) == (1, 0));
+            let first = Rules::from_fn(3, 3, |a| a.min(1), left_alone, |_| false).unwrap();
+            let second = Rules::from_fn(3, 3, |a| a.min(1), |p, a, q| 2 * left_alone(p, a, q), |s| s == 2).unwrap();
+            let plan = first.differs_from(&second).unwrap().unwrap().to_plan().unwrap();
+            assert_eq!(plan.labels(), [1, 0, 2]);
+        }
+
+        /// All states but 14 are marked, of 15 states and of 16.
+        #[test]
+        fn a_plan_that_is_too_large() {
+            let separating =
+                balanced(15, |state| state != 14).differs_from(&balanced(16, |state| state != 14)).unwrap();
+            assert_eq!(separating.unwrap().to_plan(), None);
+        }
+    }
 }

@@ -1,283 +1,156 @@
-//! A safe wrapper over the what-if checker's static library.
+//! The what-if checker in Rust: would a milling plan still be cleared if these few passes took another bur?
 //!
-//! A plan is a binary tree with a label at each node, a rule table a bottom-up tree automaton, a branch table an
-//! automaton on the words from an upper node down to a lower. Plans and tables are bytes (docs/LAYOUT.md). The library
-//! never allocates; the caller lends the tables. A refused call has changed nothing.
-//!
-//! Order: `sizes` (limits and lengths), `Refusal`, the calls on tables, how many choices end in each state (`count`),
-//! the calls on two rule tables (`merge`, `agree`), those on the planner's files (`plan_of_planner`, `planner_of_plan`), on two lists (`lay_over`), `Session`, the panel
-//! session, with `Lent`; `Screens`, eight of them on one mill; questions by colours (`colour_branch_build`, `colour_branch`,
-//! `colour_build`, `colour_ask`; `BranchColours` and `RuleColours` own their tables).
-//! The crate `whatif-sys` has the library's own functions. Without the feature `std` this crate needs `core` alone.
-//!
-//! The sample of document 01: plan A of seven nodes, and table A, under which label 0 takes the greater state of two
-//! children and label 1 the lesser.
+//! A plan ([`Plan`]) is a binary tree with a label at each node, a rule table ([`Rules`]) a bottom-up tree automaton that
+//! says whether a plan may be cut, a branch table ([`BranchTable`]) an automaton on the labels from a node down to another.
+//! The library that answers is proved; this crate is a safe wrapper over it, and is not.
 //!
 //! ```
-//! # fn main() -> Result<(), whatif::Refusal> {
-//! let plan: Vec<u8> = [7u32, 12, 19].iter().flat_map(|n| n.to_le_bytes())
-//!     .chain([1, 1, 1, 0, 1, 0, 1]) // labels
-//!     .chain([0, 0, 1, 0, 0, 1, 1]) // kinds: 0 leaf, 1 inner
-//!     .collect();
-//! let rules: Vec<u8> = [2u32, 2, 20, 22, 30].iter().flat_map(|n| n.to_le_bytes())
-//!     .chain([0, 1]) // leaf states by label
-//!     .chain([0, 1, 0, 0, 1, 1, 0, 1]) // inner states by left state, label, right state
-//!     .chain([0, 1]) // marks
-//!     .collect();
+//! use whatif::{Kind::{Inner, Leaf}, Panel, Plan, Rules};
+//! // document 01's sample: label 0 takes the greater state of two children, label 1 the lesser
+//! let plan = Plan::new(&[1, 1, 1, 0, 1, 0, 1], &[Leaf, Leaf, Inner, Leaf, Leaf, Inner, Inner])?;
+//! let by_label = |p: u8, a: u8, q: u8| if a == 0 { p.max(q) } else { p.min(q) };
+//! let rules = Rules::from_fn(2, 2, |a| a, by_label, |state| state == 1)?;
 //!
-//! // with no change the root is in state 1, which is marked; with label 0 at node 0 it is in state 0
-//! let asis = whatif::fresh_run(&plan, &rules, &[], &[])?;
-//! assert_eq!((asis.state, asis.yes), (1, true));
-//! let changed = whatif::fresh_run(&plan, &rules, &[0], &[0])?;
-//! assert_eq!((changed.state, changed.yes), (0, false));
-//!
-//! // the tables, and a full check of them
-//! let mut node_table = [0u16; whatif::sizes::node_table_len(7)];
-//! let mut state_table = [0u8; whatif::sizes::state_table_len(7, 2)];
-//! whatif::build(&plan, &rules, &mut node_table, &mut state_table)?;
-//! assert!(whatif::check(&plan, &rules, &node_table, &state_table)?);
-//! # Ok(())
-//! # }
+//! let mut panel = Panel::new(plan, rules)?;
+//! let changes = [(0, 0), (2, 0)]; // node 0 takes label 0, and so does node 2
+//! if panel.ask(&changes)?.yes {
+//!     panel.confirm(&changes)?; // and cut
+//! }
+//! # Ok::<(), Box<dyn std::error::Error>>(())
 //! ```
+//!
+//! # Which call when
+//!
+//! | Wanted | Use |
+//! |---|---|
+//! | questions on one plan, part by part, cancelled at any time | [`Panel`] |
+//! | the same on up to eight screens | [`Mill`] |
+//! | one verdict, without tables | [`Panel::fresh_run`], [`fresh_run`] |
+//! | a go-ahead before a blank is cut | [`Panel::confirm`] |
+//! | many whole questions, fast, with at most four states | [`RuleColours`] |
+//! | what the labels on the way down to a node come to | [`Branches`], or [`BranchColours`] on deep plans |
+//! | how many choices of labels clear the plan | [`Panel::count`] |
+//! | plans from the bridge planner | [`Planned`] |
+//! | two rule tables made one, or compared on every plan | [`Rules::merge`], [`Rules::differs_from`] |
+//!
+//! # Refusals
+//!
+//! A call that can't be made is refused with a number, as docs/REFUSALS.md has them, and has changed nothing. [`Refusal`]
+//! has a name and a sentence for each. Number 1 means several things: [`Session::why_not`] says which.
+//!
+//! # Without an allocator
+//!
+//! The types above need the feature `alloc`; `std`, which is on unless it is turned off, makes the errors
+//! [`std::error::Error`]s too. Without both the crate needs `core` alone: the functions on bytes ([`build`], [`check`],
+//! [`branch`], [`count`], [`merge`], [`colour_ask`], ..), [`Session`] and [`Screens`], with buffers that the caller passes
+//! in ([`sizes`] has their lengths, docs/LAYOUT.md what is in them). The crate `whatif-sys` has the library's own functions
+//! and says how the library is found.
 
 #![no_std]
 #![deny(missing_docs, unsafe_op_in_unsafe_fn)]
 
-#[cfg(feature = "std")]
+#[cfg(feature = "alloc")]
+extern crate alloc;
+#[cfg(any(feature = "std", test))]
 extern crate std;
 
+mod advances;
 mod agree;
+mod branch;
 mod colours;
+mod confirm;
 mod count;
+mod lists;
+mod merge;
 mod planner;
+mod record;
 mod refusal;
 mod screens;
 mod session;
 pub mod sizes;
-#[doc(hidden)]
-pub mod slices;
+mod slices;
+mod tables;
+mod why;
 
+pub use advances::{Advances, Part};
 pub use agree::{agree, Line, SeparatingPlan};
+pub use branch::{branch, branch_build, branch_check, branch_with_upper, BranchVerdict};
 pub use colours::{colour_ask, colour_build, ColourAnswer};
 pub use colours::{colour_branch, colour_branch_build, colour_branch_with_upper, ColourVerdict};
-#[cfg(feature = "std")]
-pub use colours::{BranchColours, RuleColours};
+pub use confirm::Unconfirmed;
 pub use count::{count, Counts};
+pub use lists::{lay_over, Change};
+pub use merge::merge;
 pub use planner::{plan_of_planner, planner_of_plan};
 pub use refusal::Refusal;
 pub use screens::{Deal, Screens};
 pub use session::{Answer, Lent, Progress, Session, State};
+pub use tables::{build, check, fresh_run, Verdict};
+pub use why::Call;
+
+#[cfg(feature = "alloc")]
+mod branch_table;
+#[cfg(feature = "alloc")]
+mod branches;
+#[cfg(feature = "alloc")]
+mod buffers;
+#[cfg(feature = "alloc")]
+mod colour_tables;
+#[cfg(feature = "alloc")]
+pub mod layout;
+#[cfg(feature = "alloc")]
+mod mill;
+#[cfg(feature = "alloc")]
+mod panel;
+#[cfg(feature = "alloc")]
+mod plan;
+#[cfg(feature = "alloc")]
+mod planned;
+#[cfg(feature = "alloc")]
+mod rules;
+
+#[cfg(feature = "alloc")]
+pub use branch_table::BranchTable;
+#[cfg(feature = "alloc")]
+pub use branches::Branches;
+#[cfg(feature = "alloc")]
+pub use buffers::Node;
+#[cfg(feature = "alloc")]
+pub use colour_tables::{BranchColours, RuleColours};
+#[cfg(feature = "alloc")]
+pub use mill::{Deals, Mill};
+#[cfg(feature = "alloc")]
+pub use panel::Panel;
+#[cfg(feature = "alloc")]
+pub use plan::{Kind, Plan};
+#[cfg(feature = "alloc")]
+pub use planned::{Planned, PlannerNode};
+#[cfg(feature = "alloc")]
+pub use rules::Rules;
+
+/// The example of README.md is a test.
+#[cfg(doctest)]
+#[doc = include_str!("../README.md")]
+struct Readme;
 
 /// This crate's version.
 pub const VERSION: &str = env!("CARGO_PKG_VERSION");
 
-/// This crate's version, as major * 10000 + minor * 100 + patch: that of the archive it is made for.
+/// This crate's version, as major * 10000 + minor * 100 + patch: that of the library it is made for.
 pub const VERSION_NUMBER: u32 = 900;
 
-/// The version of the archive that is linked.
+/// The version of the library that is linked. The build compares it too, where the library comes with a pkg-config file.
 ///
 /// ```
 /// assert_eq!(whatif::version(), whatif::VERSION_NUMBER);
 /// ```
+#[must_use]
 pub fn version() -> u32 {
     // SAFETY: it takes nothing
     unsafe { whatif_sys::whatif_version() }
 }
 
-/// What a fresh run tells.
-#[derive(Clone, Copy, Debug, PartialEq, Eq)]
-pub struct Verdict {
-    /// The root's state.
-    pub state: u8,
-    /// Is that state marked?
-    pub yes: bool,
-}
-
-/// What a branch question tells.
-#[derive(Clone, Copy, Debug, PartialEq, Eq)]
-pub struct BranchVerdict {
-    /// The state after the lower node's label.
-    pub state: u8,
-    /// Is that state marked?
-    pub yes: bool,
-    /// The moves of the climb from the lower node to the upper's depth.
-    pub links: u32,
-    /// The nodes that it passed over: the depth of its start less the depth of its end.
-    pub passed: u32,
-}
-
-/// Writes the tables of a plan and a rule table into the first `4N` numbers and `(S+1)N` bytes of the lent buffers; the
-/// rest is untouched. Refused with 2 to 11.
-///
-/// ```
-/// let mut node_table = [7u16; 4];
-/// let mut state_table = [7u8; 4];
-/// let refused = whatif::build(&[], &[], &mut node_table, &mut state_table);
-/// assert_eq!(refused, Err(whatif::Refusal::PlanShort));
-/// assert_eq!((node_table, state_table), ([7; 4], [7; 4]));
-/// ```
-pub fn build(plan: &[u8], rules: &[u8], node_table: &mut [u16], state_table: &mut [u8]) -> Result<(), Refusal> {
-    accepted(slices::build(plan, rules, node_table, state_table))
-}
-
-/// Are the lent tables what `build` writes for this plan and rule table? The rest of a longer table is not looked at.
-/// Refused with 2 to 11.
-pub fn check(plan: &[u8], rules: &[u8], node_table: &[u16], state_table: &[u8]) -> Result<bool, Refusal> {
-    let mut yes = 0;
-    accepted(slices::check(plan, rules, node_table, state_table, &mut yes))?;
-    Ok(yes == 1)
-}
-
-/// Runs the rule table over the whole plan with the listed labels changed: node `nodes[i]` takes `labels[i]`.
-/// A node may be listed several times: its last entry holds. Refused with 2 to 10, 12 to 14.
-pub fn fresh_run(plan: &[u8], rules: &[u8], nodes: &[u16], labels: &[u8]) -> Result<Verdict, Refusal> {
-    let mut told = [0; 2];
-    accepted(slices::fresh_run(plan, rules, nodes, labels, &mut told))?;
-    let [state, yes] = told;
-    Ok(Verdict { state: state as u8, yes: yes == 1 })
-}
-
-/// Writes the tables of a plan and a branch table, as `build` does for a rule table. Refused with 2 to 11.
-pub fn branch_build(plan: &[u8], branch: &[u8], node_table: &mut [u16], state_table: &mut [u8]) -> Result<(), Refusal> {
-    accepted(slices::branch_build(plan, branch, node_table, state_table))
-}
-
-/// Are the lent tables what `branch_build` writes for this plan and branch table? Refused with 2 to 11.
-pub fn branch_check(plan: &[u8], branch: &[u8], node_table: &[u16], state_table: &[u8]) -> Result<bool, Refusal> {
-    let mut yes = 0;
-    accepted(slices::branch_check(plan, branch, node_table, state_table, &mut yes))?;
-    Ok(yes == 1)
-}
-
-/// What the branch table makes of the labels from below node `upper` down to node `lower`, from state 0 on. The same node
-/// twice is the empty word: state 0. Refused with 17, 13, 16, 18 (in this order); never 18 on tables as `branch_build` wrote
-/// them for what is lent.
-///
-/// ```
-/// # fn main() -> Result<(), whatif::Refusal> {
-/// // a root with label 0 over two leaves with label 1; two states, of which label 1 leads to the marked one
-/// let plan: Vec<u8> = [3u32, 12, 15].iter().flat_map(|n| n.to_le_bytes()).chain([1, 1, 0, 0, 0, 1]).collect();
-/// let branch: Vec<u8> = [2u32, 2, 16, 20].iter().flat_map(|n| n.to_le_bytes())
-///     .chain([0, 1, 1, 1]) // steps by state and label
-///     .chain([0, 1]) // marks
-///     .collect();
-/// let (mut node_table, mut state_table) = ([0u16; 12], [0u8; 9]);
-/// whatif::branch_build(&plan, &branch, &mut node_table, &mut state_table)?;
-/// assert!(whatif::branch_check(&plan, &branch, &node_table, &state_table)?);
-///
-/// // from below the root 2 down to leaf 0 the word is 1; from below leaf 0 down to leaf 0 it is empty
-/// let told = whatif::branch(&plan, &branch, &node_table, &state_table, 2, 0)?;
-/// assert_eq!((told.state, told.yes, told.links, told.passed), (1, true, 1, 1));
-/// let told = whatif::branch(&plan, &branch, &node_table, &state_table, 0, 0)?;
-/// assert_eq!((told.state, told.yes, told.links, told.passed), (0, false, 0, 0));
-/// let refused = whatif::branch(&plan, &branch, &node_table, &state_table, 0, 65_536);
-/// assert_eq!(refused, Err(whatif::Refusal::Node));
-/// # Ok(())
-/// # }
-/// ```
-pub fn branch(
-    plan: &[u8],
-    branch: &[u8],
-    node_table: &[u16],
-    state_table: &[u8],
-    upper: u32,
-    lower: u32,
-) -> Result<BranchVerdict, Refusal> {
-    let mut told = [0; 4];
-    accepted(slices::branch(plan, branch, node_table, state_table, [upper, lower], &mut told))?;
-    Ok(branch_verdict(told))
-}
-
-/// The same with the upper node's label: the labels from node `upper` down to node `lower`, both included. The same node
-/// twice is a word of one letter. Refused as `branch` is; links and nodes passed over are the same.
-///
-/// ```
-/// # fn main() -> Result<(), whatif::Refusal> {
-/// // one node with label 1; two states, of which label 1 leads to the marked one
-/// let plan: Vec<u8> = [1u32, 12, 13].iter().flat_map(|n| n.to_le_bytes()).chain([1, 0]).collect();
-/// let branch: Vec<u8> = [2u32, 2, 16, 20].iter().flat_map(|n| n.to_le_bytes())
-///     .chain([0, 1, 1, 1]) // steps by state and label
-///     .chain([0, 1]) // marks
-///     .collect();
-/// let (mut node_table, mut state_table) = ([0u16; 4], [0u8; 3]);
-/// whatif::branch_build(&plan, &branch, &mut node_table, &mut state_table)?;
-///
-/// let told = whatif::branch_with_upper(&plan, &branch, &node_table, &state_table, 0, 0)?;
-/// assert_eq!((told.state, told.yes, told.links, told.passed), (1, true, 0, 0));
-/// # Ok(())
-/// # }
-/// ```
-pub fn branch_with_upper(
-    plan: &[u8],
-    branch: &[u8],
-    node_table: &[u16],
-    state_table: &[u8],
-    upper: u32,
-    lower: u32,
-) -> Result<BranchVerdict, Refusal> {
-    let mut told = [0; 4];
-    accepted(slices::branch_with_upper(plan, branch, node_table, state_table, [upper, lower], &mut told))?;
-    Ok(branch_verdict(told))
-}
-
-fn branch_verdict([state, yes, links, passed]: [u32; 4]) -> BranchVerdict {
-    BranchVerdict { state: state as u8, yes: yes == 1, links, passed }
-}
-
-/// Writes one rule table that clears exactly the plans that both clear, and tells how many bytes of `merged` it has; the
-/// rest is untouched. State p of the first table and q of the second become p × S2 + q. Refused with 6 to 9 for the first
-/// table, 6 to 9 for the second, 23, 24, 11 (in this order).
-///
-/// ```
-/// # fn main() -> Result<(), whatif::Refusal> {
-/// let table = |leaf: [u8; 2], marks: [u8; 2]| -> Vec<u8> {
-///     [2u32, 2, 20, 22, 30].iter().flat_map(|n| n.to_le_bytes())
-///         .chain(leaf).chain([0, 1, 0, 0, 1, 1, 0, 1]).chain(marks).collect()
-/// };
-/// let (first, second) = (table([0, 1], [0, 1]), table([1, 1], [1, 0]));
-/// let mut merged = [7u8; whatif::sizes::rules_bytes(4, 2) + 1];
-/// let len = whatif::merge(&first, &second, &mut merged)?;
-/// assert_eq!((len, merged[len]), (whatif::sizes::rules_bytes(4, 2), 7));
-///
-/// // a plan of one leaf with label 1: state 1 in both tables, which the second does not mark
-/// let plan: Vec<u8> = [1u32, 12, 13].iter().flat_map(|n| n.to_le_bytes()).chain([1, 0]).collect();
-/// let told = whatif::fresh_run(&plan, &merged[..len], &[], &[])?;
-/// assert_eq!((told.state, told.yes), (1 * 2 + 1, false));
-/// assert_eq!(whatif::merge(&first, &second, &mut merged[..1]), Err(whatif::Refusal::BufferShort));
-/// # Ok(())
-/// # }
-/// ```
-pub fn merge(first: &[u8], second: &[u8], merged: &mut [u8]) -> Result<usize, Refusal> {
-    accepted(slices::merge(first, second, merged))?;
-    // the counts that its header names now
-    Ok(sizes::rules_bytes(usize::from(merged[0]), usize::from(merged[4])))
-}
-
 /// 0 is accepted; any other number is a refusal's.
 fn accepted(number: u32) -> Result<(), Refusal> {
     Refusal::from_number(number).map_or(Ok(()), Err)
-}
-
-/// Lays one list of changes over another, each its nodes and its labels: all nodes of both, with the upper list's label
-/// where both name one; of two entries for a node in a list the last. Writes the nodes that remain, rising, and their
-/// labels, and tells how many there are; the rest is untouched. Refused with 12 for the lower list, 12 for the upper, 22, 11
-/// (in this order).
-///
-/// ```
-/// # fn main() -> Result<(), whatif::Refusal> {
-/// let (mut nodes, mut labels) = ([0; whatif::sizes::MAX_CHANGES], [0; whatif::sizes::MAX_CHANGES]);
-/// let count = whatif::lay_over((&[5, 2, 5], &[1, 2, 3]), (&[9, 2], &[4, 6]), &mut nodes, &mut labels)?;
-/// assert_eq!((&nodes[..count], &labels[..count]), (&[2, 5, 9][..], &[6, 3, 4][..]));
-/// # Ok(())
-/// # }
-/// ```
-pub fn lay_over(
-    lower: (&[u16], &[u8]),
-    upper: (&[u16], &[u8]),
-    nodes: &mut [u16],
-    labels: &mut [u8],
-) -> Result<usize, Refusal> {
-    let mut count = 0;
-    accepted(slices::lay_over(lower, upper, nodes, labels, &mut count))?;
-    Ok(count as usize)
 }

@@ -9,7 +9,7 @@ macro_rules! refusals {
         #[non_exhaustive]
         pub enum Refusal {
             $(#[doc = $sentence] $name,)*
-            /// A number that this version does not know: the archive is of another one.
+            /// A number that this version does not know: the library is of another one.
             Unknown(u32),
         }
 
@@ -17,7 +17,7 @@ macro_rules! refusals {
             /// All that this version knows, by rising number.
             pub const ALL: &'static [Refusal] = &[$(Refusal::$name),*];
 
-            /// The refusal of a number; none of 0, which is no refusal.
+            /// The refusal of a number; none for 0, which is no refusal.
             ///
             /// ```
             /// use whatif::Refusal;
@@ -25,6 +25,7 @@ macro_rules! refusals {
             /// assert_eq!(Refusal::from_number(0), None);
             /// assert_eq!(Refusal::from_number(999), Some(Refusal::Unknown(999)));
             /// ```
+            #[must_use]
             pub const fn from_number(number: u32) -> Option<Refusal> {
                 match number {
                     0 => None,
@@ -34,6 +35,7 @@ macro_rules! refusals {
             }
 
             /// The library's number, as the documents give it.
+            #[must_use]
             pub const fn number(self) -> u32 {
                 match self {
                     $(Refusal::$name => $number,)*
@@ -42,6 +44,7 @@ macro_rules! refusals {
             }
 
             /// One sentence.
+            #[must_use]
             pub const fn sentence(self) -> &'static str {
                 match self {
                     $(Refusal::$name => $sentence,)*

@@ -32,56 +32,67 @@ pub const SCREENS: usize = 8;
 pub const SCREENS_BYTES: usize = SCREENS * RECORD_BYTES;
 
 /// Bytes of a plan of `n` nodes.
+#[must_use]
 pub const fn plan_bytes(n: usize) -> usize {
     12 + 2 * n
 }
 
 /// Bytes of a rule table of `s` states and `k` labels.
+#[must_use]
 pub const fn rules_bytes(s: usize, k: usize) -> usize {
     20 + k + s * k * s + s
 }
 
 /// Bytes of a branch table of `s` states and `k` labels.
+#[must_use]
 pub const fn branch_bytes(s: usize, k: usize) -> usize {
     16 + s * k + s
 }
 
 /// 16-bit numbers of the node table for `n` nodes.
+#[must_use]
 pub const fn node_table_len(n: usize) -> usize {
     4 * n
 }
 
 /// Bytes of the state table for `n` nodes and `s` states.
+#[must_use]
 pub const fn state_table_len(n: usize, s: usize) -> usize {
     (s + 1) * n
 }
 
 /// Bytes of a planner's file of `n` nodes.
+#[must_use]
 pub const fn planner_bytes(n: usize) -> usize {
     12 + 2 * n
 }
 
 /// Bytes of the plan of a planner's file of `n` nodes: it has 2n+1.
+#[must_use]
 pub const fn planner_plan_bytes(n: usize) -> usize {
     14 + 4 * n
 }
 
 /// 16-bit numbers of the colour tables for `n` nodes and a branch table of `s` states.
+#[must_use]
 pub const fn colour_branch_numbers(n: usize, s: usize) -> usize {
     4 * n * s
 }
 
 /// Bytes of the colour tables for `n` nodes and a branch table of `s` states.
+#[must_use]
 pub const fn colour_branch_bytes(n: usize, s: usize) -> usize {
     n * s
 }
 
 /// 16-bit numbers of the colour tables for `n` nodes and a rule table of `s` states, at most 4.
+#[must_use]
 pub const fn colour_numbers(n: usize, s: usize) -> usize {
     (4 * n) << s
 }
 
 /// Bytes of the colour tables for `n` nodes and a rule table of `s` states, at most 4.
+#[must_use]
 pub const fn colour_bytes(n: usize, s: usize) -> usize {
     n * (s + 1) + (n << s)
 }

@@ -15,7 +15,10 @@ pub mod fresh_runs;
 pub mod full_checks;
 pub mod lay_overs;
 pub mod merges;
+pub mod mills;
 pub mod other_bytes;
+pub mod owned;
+pub mod panels;
 pub mod planner_files;
 pub mod questions;
 pub mod refusals;
@@ -35,7 +38,7 @@ pub struct Round {
     compare: fn(&mut Random, &mut Counts),
 }
 
-pub const ROUNDS: [Round; 21] = [
+pub const ROUNDS: [Round; 24] = [
     Round { name: "builds", compare: builds::round },
     Round { name: "full checks", compare: full_checks::round },
     Round { name: "fresh runs", compare: fresh_runs::round },
@@ -57,6 +60,9 @@ pub const ROUNDS: [Round; 21] = [
     Round { name: "screen refusals", compare: screen_refusals::round },
     Round { name: "colours of words", compare: colour_branches::round },
     Round { name: "colours of sets", compare: colour_questions::round },
+    Round { name: "panels", compare: panels::round },
+    Round { name: "mills", compare: mills::round },
+    Round { name: "owned types", compare: owned::round },
 ];
 
 impl Round {

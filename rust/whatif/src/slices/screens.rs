@@ -2,7 +2,7 @@
 
 use whatif_sys as raw;
 
-/// Tells the screen to try first.
+/// `next` takes the screen to try first.
 pub fn screens_load(
     records: &mut [u8],
     plan: &[u8],
@@ -64,7 +64,7 @@ pub fn screens_start(
     }
 }
 
-/// Tells the screen to try first, and whether the question is finished.
+/// Writes the screen to try first, and whether the question is finished, to `out`.
 pub fn screens_deal(
     records: &mut [u8],
     first: u32,
@@ -72,9 +72,9 @@ pub fn screens_deal(
     rules: &[u8],
     node_table: &[u16],
     state_table: &[u8],
-    told: &mut [u32; 2],
+    out: &mut [u32; 2],
 ) -> u32 {
-    let [next, finished] = told;
+    let [next, finished] = out;
     // SAFETY: as in `screens_load`
     unsafe {
         raw::whatif_screens_deal(
@@ -100,9 +100,9 @@ pub fn screens_cancel(records: &mut [u8], screen: u32) -> u32 {
     unsafe { raw::whatif_screens_cancel(records.as_mut_ptr(), records.len(), screen) }
 }
 
-/// Tells state, yes, parts, links and nodes passed over.
-pub fn screens_read(records: &[u8], screen: u32, told: &mut [u32; 5]) -> u32 {
-    let [state, yes, parts, links, passed] = told;
+/// Writes state, yes, parts, links and nodes passed over to `out`.
+pub fn screens_read(records: &[u8], screen: u32, out: &mut [u32; 5]) -> u32 {
+    let [state, yes, parts, links, passed] = out;
     // SAFETY: as in `screens_load`
     unsafe { raw::whatif_screens_read(records.as_ptr(), records.len(), screen, state, yes, parts, links, passed) }
 }
