@@ -134,6 +134,8 @@ mod written_out {
 
     #[cfg(test)]
     mod tests {
+        use super::SeparatingPlan;
+        use crate::sizes::MAX_LINES;
         use crate::{fresh_run, Rules};
 
         /// One label; the state is how often both children have the same, modulo `states`.
@@ -158,6 +160,17 @@ mod written_out {
             let second = Rules::from_fn(3, 3, |a| a.min(1), |p, a, q| 2 * left_alone(p, a, q), |s| s == 2).unwrap();
             let plan = first.differs_from(&second).unwrap().unwrap().to_plan().unwrap();
             assert_eq!(plan.labels(), [1, 0, 2]);
+        }
+
+        /// Each line is over the one before it, twice: as a tree they would have 2^256 - 1 nodes.
+        #[test]
+        fn lines_that_double() {
+            let mut numbers = [0; 4 * MAX_LINES];
+            for line in 1..MAX_LINES {
+                numbers[4 * line..4 * line + 4].copy_from_slice(&[1, 0, line as u16 - 1, line as u16 - 1]);
+            }
+            let nodes = |count| SeparatingPlan { numbers, count }.to_plan().map(|plan| plan.nodes());
+            assert_eq!([1, 2, 16, 17, MAX_LINES].map(nodes), [Some(1), Some(3), Some(65_535), None, None]);
         }
 
         /// All states but 14 are marked, of 15 states and of 16.
