@@ -75,8 +75,8 @@ fn the_largest_plan() {
     println!("{} changes in {:?}", 65_535 * 63, begun.elapsed());
 }
 
-/// The links of the climbs that an outline shows, and the nodes that they pass over, are those that the library counts; a picture of
-/// the whole plan draws as many nodes lightly.
+/// The links of the climbs that an outline shows, and the nodes that they pass over, are those that the library counts;
+/// a picture of the whole plan draws as many nodes lightly.
 #[test]
 fn climbs_of_outlines() {
     for shape in ["arch", "comb", "balanced", "random"] {

@@ -23,9 +23,9 @@ pub enum Line {
     },
 }
 
-/// A plan that one of two rule tables clears and the other does not, as 1 to 256 lines; the last is the root. It has the
-/// least height of all such plans. A line may serve several times, or not at all: written out as a tree, the lines may have
-/// more nodes than a plan can have.
+/// A plan that one of two rule tables clears and the other does not, as 1 to 256 lines; the last is the root. It has
+/// the least height of all such plans. A line may serve several times, or not at all: written out as a tree, the lines
+/// may have more nodes than a plan can have.
 #[derive(Clone)]
 pub struct SeparatingPlan {
     numbers: [u16; 4 * MAX_LINES],
@@ -57,8 +57,9 @@ impl PartialEq for SeparatingPlan {
 
 impl Eq for SeparatingPlan {}
 
-/// Do two rule tables agree, that is, does every plan, of any size, get yes from both or no from both? None where they do,
-/// else a plan on which they differ. [`Rules::differs_from`](crate::Rules::differs_from) takes tables that are checked.
+/// Do two rule tables agree, that is, does every plan, of any size, get yes from both or no from both? None where they
+/// do, else a plan on which they differ. [`Rules::differs_from`](crate::Rules::differs_from) takes tables that are
+/// checked.
 ///
 /// # Errors
 /// The first of 6 to 9 for the first table, 6 to 9 for the second, 23.
@@ -116,8 +117,8 @@ mod written_out {
         Some(sizes)
     }
 
-    /// The nodes of a line's tree: each before its right subtree, and that before its left one. This is post-order, turned
-    /// round.
+    /// The nodes of a line's tree: each before its right subtree, and that before its left one. This is post-order,
+    /// turned round.
     fn root_first(lines: &[Line], root: usize) -> Option<Vec<(Kind, u8)>> {
         let (mut nodes, mut left_to_do) = (Vec::new(), vec![root]);
         while let Some(at) = left_to_do.pop() {

@@ -1,5 +1,5 @@
-//! The session on bytes: why a call is refused with 1, for every call in every state, damaged records, and a yes confirmed
-//! or not on records and plans that were altered.
+//! The session on bytes: why a call is refused with 1, for every call in every state, damaged records, and a yes
+//! confirmed or not on records and plans that were altered.
 
 mod sample;
 
