@@ -1,4 +1,5 @@
-//! Where the library is, how it is linked, and whether it is of this crate's version. For build.rs and for tests/find.rs.
+//! Where the library is, how it is linked, and whether it is of this crate's version. For build.rs and for
+//! tests/find.rs.
 
 use std::env;
 use std::fs;

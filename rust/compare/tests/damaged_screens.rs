@@ -1,5 +1,5 @@
-//! One flipped bit in one screen's record: every bit of every screen's record, in every state. Which screens are stopped by
-//! it, and that a loaded record in its place frees them all, by `Screens::replace`.
+//! One flipped bit in one screen's record: every bit of every screen's record, in every state. Which screens are
+//! stopped by it, and that a loaded record in its place frees them all, by `Screens::replace`.
 
 use compare::inputs::Case;
 use compare::random::Random;
@@ -111,7 +111,8 @@ fn every_bit_of_every_record() {
     assert!(damaged > 50_000 && whole > 300 && stopped > 20_000, "{} {} {}", damaged, whole, stopped);
 }
 
-/// The calls on a screen whose record is damaged, and Load, are refused with 1; so is a deal at its turn, again and again.
+/// The calls on a screen whose record is damaged, and Load, are refused with 1; so is a deal at its turn, again and
+/// again.
 fn is_stopped(scene: &Scene, screens: &mut Screens, screen: u32) -> bool {
     let before = screens.clone();
     let lent = scene.given.lent();
@@ -146,7 +147,8 @@ fn replaced(scene: &Scene, screens: &mut Screens, screen: u32) {
     assert_eq!((screens.damaged().next(), screens.state(screen)), (None, Some(State::Loaded)));
 }
 
-/// On each screen: the others go on and are right, a question can be started there at once, and Load is free afterwards.
+/// On each screen: the others go on and are right, a question can be started there at once, and Load is free
+/// afterwards.
 #[test]
 fn all_go_on_after_a_replacement() {
     let random = &mut Random::new(3202);

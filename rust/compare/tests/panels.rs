@@ -1,5 +1,5 @@
-//! The types of `whatif` that own what their calls need, against the reference and against plain calls: panels, mills and
-//! the types that own bytes; everything that can come came. Then the largest plans.
+//! The types of `whatif` that own what their calls need, against the reference and against plain calls: panels, mills
+//! and the types that own bytes; everything that can come came. Then the largest plans.
 
 use compare::counts::Counts;
 use compare::inputs::Case;

@@ -1,5 +1,5 @@
-//! `whatif-text branch` and `branch-with-upper`: what a branch table makes of the labels down to a node, step by step or
-//! as a picture of the path.
+//! `whatif-text branch` and `branch-with-upper`: what a branch table makes of the labels down to a node, step by step
+//! or as a picture of the path.
 
 use crate::input::Input;
 use crate::outcome::Failure;

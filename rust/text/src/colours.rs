@@ -1,5 +1,5 @@
-//! `whatif-text colours` and `colours-with-upper`: a branch question by colours, with the colour at each node of the path
-//! and the drops marked, as text or as a picture.
+//! `whatif-text colours` and `colours-with-upper`: a branch question by colours, with the colour at each node of the
+//! path and the drops marked, as text or as a picture.
 
 use crate::branch::{self, Asked, Reading, FIRST, LAST, NO, NODES, YES};
 use crate::input::Input;
@@ -21,7 +21,8 @@ const DROP: &str = "#c02020";
 pub struct Coloured {
     asked: Asked,
     verdict: ColourVerdict,
-    /// The colour in the copy where the word begins, then after each node that is read; from 1 on, as document 02 has them.
+    /// The colour in the copy where the word begins, then after each node that is read; from 1 on, as document 02 has
+    /// them.
     colours: Vec<usize>,
 }
 

@@ -1,8 +1,8 @@
 //! `whatif-text count`: how many choices of labels for some open nodes end in each state, what share of them clears the
 //! plan, and one that does.
 //!
-//! The counts are the library's. The choice is made node by node: each keeps its own label where some choice for the nodes
-//! after it still clears the plan, by the library's count, else it takes the first label with which one does.
+//! The counts are the library's. The choice is made node by node: each keeps its own label where some choice for the
+//! nodes after it still clears the plan, by the library's count, else it takes the first label with which one does.
 
 use crate::input::Input;
 use crate::loaded::Loaded;

@@ -43,8 +43,8 @@ pub fn picture(plan: &[u8], changes: &[Change]) -> Result<String, Refusal> {
     Ok(text + "}\n")
 }
 
-/// The parent of each node, and the roots of the question's parts: by the library, which is asked the same question of a
-/// plan of the same shape. Every label there is 0, and 1 where the question names another than the plan's.
+/// The parent of each node, and the roots of the question's parts: by the library, which is asked the same question of
+/// a plan of the same shape. Every label there is 0, and 1 where the question names another than the plan's.
 fn parents_and_roots(plan: &Plan, changes: &[Change]) -> Result<(Vec<usize>, Vec<usize>), Refusal> {
     let kinds: Vec<_> = plan.kinds().collect();
     let shape = Plan::new(&vec![0; kinds.len()], &kinds)?;
@@ -64,8 +64,8 @@ fn parts(parents: &[usize], roots: &[usize]) -> Vec<usize> {
     parts
 }
 
-/// Which nodes are passed over: from each root up to a child of the next root above, without the root itself. Their number
-/// is that of the answer.
+/// Which nodes are passed over: from each root up to a child of the next root above, without the root itself. Their
+/// number is that of the answer.
 fn passed_over(parents: &[usize], roots: &[usize]) -> Vec<bool> {
     let mut passed = vec![false; parents.len()];
     for &root in &roots[..roots.len() - 1] {

@@ -56,8 +56,8 @@ pub fn balanced(leaves: usize) -> Vec<Kind> {
     kinds
 }
 
-/// Each tree of that many leaves is as likely as any other. Of all rotations of a shuffled row of kinds exactly one is a
-/// tree: the one that begins after the last place where the number of trees waiting is least.
+/// Each tree of that many leaves is as likely as any other. Of all rotations of a shuffled row of kinds exactly one is
+/// a tree: the one that begins after the last place where the number of trees waiting is least.
 pub fn uniform(leaves: usize, random: &mut Random) -> Vec<Kind> {
     let mut kinds = vec![Kind::Leaf; leaves];
     kinds.resize(2 * leaves - 1, Kind::Inner);

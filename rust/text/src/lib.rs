@@ -27,9 +27,10 @@
 //!
 //! Order: `lines` (words and numbers), `plan`, `rules`, `questions` (each from text to bytes and back), `input` (text
 //! or bytes), `outcome` (what a verb writes, its status), `sentences`, `loaded` (the library's session on an input),
-//! `progress`, `generator` (random trees and tables); then a file a verb: `answer`, `outline`, `why`, `suggest`, `count`, `script` (session), `screens`, `over`, `branch` (by a `branch_table`), `colours` (the same by colours), `stored` (build and
-//! check), `random`, `dot` (a small plan whole), `agree` (a separating plan). Writing, showing, merging and choosing
-//! a picture are in this file.
+//! `progress`, `generator` (random trees and tables); then a file a verb: `answer`, `outline`, `why`, `suggest`,
+//! `count`, `script` (session), `screens`, `over`, `branch` (by a `branch_table`), `colours` (the same by colours),
+//! `stored` (build and check), `random`, `dot` (a small plan whole), `agree` (a separating plan). Writing, showing,
+//! merging and choosing a picture are in this file.
 
 pub mod agree;
 pub mod answer;

@@ -29,8 +29,8 @@ pub fn run(input: &Input, script: &str) -> Result<Made, Failure> {
 
 const NOTHING: Lent<'static> = Lent { plan: &[], rules: &[], node_table: &[], state_table: &[] };
 
-/// The mill, and what was written so far. There is no mill before the first Load that is accepted: calls are then put to
-/// empty screens, which refuse them.
+/// The mill, and what was written so far. There is no mill before the first Load that is accepted: until then
+/// calls go to empty screens, which refuse them.
 struct Run<'a> {
     input: &'a Input,
     mill: Option<Mill>,

@@ -24,8 +24,8 @@ pub fn run(input: &Input, script: &str) -> Result<Made, Failure> {
     Ok(Made::with_refusals(script_run.text, script_run.refused))
 }
 
-/// The panel, and what was written so far. There is no panel before the first Load that is accepted: every other call is
-/// refused until then as an empty session's is, with 1.
+/// The panel, and what was written so far. There is no panel before the first Load that is accepted: every other call
+/// is refused until then as an empty session's is, with 1.
 struct Run<'a> {
     input: &'a Input,
     panel: Option<Panel>,

@@ -53,6 +53,14 @@ fn two_changes_have_five_parts() {
     assert_eq!(drawn(4).as_deref(), Ok(expected));
 }
 
+/// 0->0 0->1: the last entry is the node's own label, so nothing changes and the whole plan is one part.
+#[test]
+fn own_labels_are_no_change() {
+    let drawn = drawn(9).unwrap();
+    assert!(drawn.contains("6 [label=\"6: 1\\npart 1\""), "{}", drawn);
+    assert!(!drawn.contains("part 2") && !drawn.contains("dashed"), "{}", drawn);
+}
+
 #[test]
 fn what_cannot_be_drawn_is_said() {
     let refused = |what: &str| Err(Failure::Refused(what.into()));

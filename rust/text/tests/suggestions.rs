@@ -38,6 +38,33 @@ fn exactly_those_that_turn() {
     assert!(turned > 100 && tried - turned > 100, "{} of {}", turned, tried);
 }
 
+/// Where some choice clears the plan, the one that is shown does, by the library's session.
+#[test]
+fn choices_that_clear() {
+    let (mut shown, mut none) = (0, 0);
+    for seed in 0..60 {
+        let input = input(&format!("--nodes 41 --shape random --states 5 --labels 3 --seed {}", seed));
+        let open: Vec<usize> = (0..41).step_by(7 + seed % 5).collect();
+        let text = text::count::of_nodes(&input, &open).unwrap();
+        match text.split_once("a choice that clears it: ") {
+            Some((_, choice)) => {
+                let pairs = choice.trim().split(' ').map(|pair| pair.split_once("->").expect("NODE->LABEL"));
+                let list: Vec<(u16, u8)> =
+                    pairs.map(|(v, label)| (v.parse().unwrap(), label.parse().unwrap())).collect();
+                let mut loaded = Loaded::new(&input.plan, &input.rules).unwrap();
+                assert!(list.iter().map(|change| usize::from(change.0)).eq(open), "{}", text);
+                assert!(loaded.ask(&list).unwrap().answer.yes, "{}", text);
+                shown += 1;
+            }
+            None => {
+                assert!(text.contains("no choice clears the plan"), "{}", text);
+                none += 1;
+            }
+        }
+    }
+    assert!(shown > 30, "{} shown, {} times none", shown, none);
+}
+
 /// The largest plan, all labels: some four million changes.
 #[test]
 fn the_largest_plan() {
@@ -48,8 +75,8 @@ fn the_largest_plan() {
     println!("{} changes in {:?}", 65_535 * 63, begun.elapsed());
 }
 
-/// The links of the climbs that an outline shows, and the nodes that they pass over, are those that the library counts; a picture of
-/// the whole plan draws as many nodes lightly.
+/// The links of the climbs that an outline shows, and the nodes that they pass over, are those that the library counts;
+/// a picture of the whole plan draws as many nodes lightly.
 #[test]
 fn climbs_of_outlines() {
     for shape in ["arch", "comb", "balanced", "random"] {

@@ -157,6 +157,24 @@ fn wrong_input_is_told_by_its_line() {
     assert!(told(&neither).contains("neither text nor bytes"));
 }
 
+/// Another Load in a script drops the answer; while a question runs it is refused.
+#[test]
+fn loads_in_scripts() {
+    let path = script("load\nstart none\nload\nadvance\nload\nread\n");
+    let said = told(&run(&["session", path.to_str().unwrap()], SAMPLE.as_bytes()));
+    let lines: Vec<&str> = said.lines().collect();
+    assert!(lines[2].starts_with("load: refused 1: ") && lines[2].ends_with("(it is running)"), "{}", said);
+    assert_eq!((lines[3], lines[4]), ("advance: part 1 of 1, finished", lines[0]), "{}", said);
+    assert!(lines[5].ends_with("(no question is finished since load)"), "{}", said);
+    fs::write(&path, "load\nstart 4 none\nload\ndeal\nread 4\nload\nread 4\n").unwrap();
+    let said = told(&run(&["screens", path.to_str().unwrap()], SAMPLE.as_bytes()));
+    let lines: Vec<&str> = said.lines().collect();
+    assert!(lines[2].ends_with("(screen 4 is running)"), "{}", said);
+    assert_eq!((lines[3], lines[5]), ("deal: screen 4, part 1 of 1, finished", lines[0]), "{}", said);
+    assert!(lines[6].ends_with("(no question is finished since load)"), "{}", said);
+    fs::remove_file(&path).unwrap();
+}
+
 #[test]
 fn refusals_are_sentences() {
     let rules = &SAMPLE[SAMPLE.find("rules").unwrap()..];
@@ -216,7 +234,8 @@ fn random(words: &[&str]) -> String {
 }
 
 fn script(text: &str) -> PathBuf {
-    let path = env::temp_dir().join(format!("whatif-text-script-{}", std::process::id()));
+    let path =
+        env::temp_dir().join(format!("whatif-text-script-{}-{:?}", std::process::id(), std::thread::current().id()));
     fs::write(&path, text).unwrap();
     path
 }

@@ -1,6 +1,6 @@
 //! The library's functions as include/whatif.h declares them: its comments say what each reads, writes and answers, and
-//! what a caller must see to. A slice is a pointer, then its count of elements. The crate `whatif` has safe functions over
-//! these.
+//! what a caller must see to. A slice is a pointer, then its count of elements. The crate `whatif` has safe functions
+//! over these.
 //!
 //! The build script finds the library and links it; README.md says where it looks and which variables it reads.
 //! The gate compares this file with the header and with the library's source; nothing else checks it.

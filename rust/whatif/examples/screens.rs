@@ -1,4 +1,5 @@
-//! Two screens on one mill: their questions are served in turn. Then what is done about a screen whose record was damaged.
+//! Two screens on one mill: their questions are served in turn. Then what is done about a screen whose record was
+//! damaged.
 //!
 //!     cargo run --example screens
 

@@ -16,8 +16,8 @@ pub struct Part {
     pub state: u8,
 }
 
-/// The advances of a question: each asked for handles one part. It ends after the last part, and after a refusal; where no
-/// question is running the first one is refused with 1. What is not asked for stays to be done.
+/// The advances of a question: each asked for handles one part. It ends after the last part, and after a refusal; where
+/// no question is running the first one is refused with 1. What is not asked for stays to be done.
 #[derive(Debug)]
 #[must_use = "no part is handled before the iterator is asked for it"]
 pub struct Advances<'a> {

@@ -23,9 +23,9 @@ pub enum Line {
     },
 }
 
-/// A plan that one of two rule tables clears and the other does not, as 1 to 256 lines; the last is the root. It has the
-/// least height of all such plans. A line may serve several times, or not at all: written out as a tree, the lines may have
-/// more nodes than a plan can have.
+/// A plan that one of two rule tables clears and the other does not, as 1 to 256 lines; the last is the root. It has
+/// the least height of all such plans. A line may serve several times, or not at all: written out as a tree, the lines
+/// may have more nodes than a plan can have.
 #[derive(Clone)]
 pub struct SeparatingPlan {
     numbers: [u16; 4 * MAX_LINES],
@@ -57,8 +57,9 @@ impl PartialEq for SeparatingPlan {
 
 impl Eq for SeparatingPlan {}
 
-/// Do two rule tables agree, that is, does every plan, of any size, get yes from both or no from both? None where they do,
-/// else a plan on which they differ. [`Rules::differs_from`](crate::Rules::differs_from) takes tables that are checked.
+/// Do two rule tables agree, that is, does every plan, of any size, get yes from both or no from both? None where they
+/// do, else a plan on which they differ. [`Rules::differs_from`](crate::Rules::differs_from) takes tables that are
+/// checked.
 ///
 /// # Errors
 /// The first of 6 to 9 for the first table, 6 to 9 for the second, 23.
@@ -116,8 +117,8 @@ mod written_out {
         Some(sizes)
     }
 
-    /// The nodes of a line's tree: each before its right subtree, and that before its left one. This is post-order, turned
-    /// round.
+    /// The nodes of a line's tree: each before its right subtree, and that before its left one. This is post-order,
+    /// turned round.
     fn root_first(lines: &[Line], root: usize) -> Option<Vec<(Kind, u8)>> {
         let (mut nodes, mut left_to_do) = (Vec::new(), vec![root]);
         while let Some(at) = left_to_do.pop() {
@@ -134,6 +135,8 @@ mod written_out {
 
     #[cfg(test)]
     mod tests {
+        use super::SeparatingPlan;
+        use crate::sizes::MAX_LINES;
         use crate::{fresh_run, Rules};
 
         /// One label; the state is how often both children have the same, modulo `states`.
@@ -158,6 +161,17 @@ mod written_out {
             let second = Rules::from_fn(3, 3, |a| a.min(1), |p, a, q| 2 * left_alone(p, a, q), |s| s == 2).unwrap();
             let plan = first.differs_from(&second).unwrap().unwrap().to_plan().unwrap();
             assert_eq!(plan.labels(), [1, 0, 2]);
+        }
+
+        /// Each line is over the one before it, twice: as a tree they would have 2^256 - 1 nodes.
+        #[test]
+        fn lines_that_double() {
+            let mut numbers = [0; 4 * MAX_LINES];
+            for line in 1..MAX_LINES {
+                numbers[4 * line..4 * line + 4].copy_from_slice(&[1, 0, line as u16 - 1, line as u16 - 1]);
+            }
+            let nodes = |count| SeparatingPlan { numbers, count }.to_plan().map(|plan| plan.nodes());
+            assert_eq!([1, 2, 16, 17, MAX_LINES].map(nodes), [Some(1), Some(3), Some(65_535), None, None]);
         }
 
         /// All states but 14 are marked, of 15 states and of 16.

@@ -34,8 +34,8 @@ pub fn branch_check(plan: &[u8], branch: &[u8], node_table: &[u16], state_table:
     Ok(yes == 1)
 }
 
-/// What the branch table makes of the labels from below node `upper` down to node `lower`, from state 0 on. The same node
-/// twice is the empty word: state 0. [`Branches`](crate::Branches) has the tables of its own.
+/// What the branch table makes of the labels from below node `upper` down to node `lower`, from state 0 on. The same
+/// node twice is the empty word: state 0. [`Branches`](crate::Branches) has the tables of its own.
 ///
 /// # Errors
 /// The first of 17, 13, 16, 18; never 18 on tables that [`branch_build`] wrote for this plan and branch table.
@@ -52,8 +52,8 @@ pub fn branch(
     Ok(verdict(out))
 }
 
-/// The same with the upper node's label: the labels from node `upper` down to node `lower`, both included. The same node
-/// twice is a word of one letter. Links and nodes passed over are those of [`branch`].
+/// The same with the upper node's label: the labels from node `upper` down to node `lower`, both included. The same
+/// node twice is a word of one letter. Links and nodes passed over are those of [`branch`].
 ///
 /// # Errors
 /// Those of [`branch`].

@@ -23,8 +23,8 @@ pub struct BranchTable {
 }
 
 impl BranchTable {
-    /// The branch table of `labels` labels and these lists: the state after state s reads label a, at s × K + a; and which
-    /// states are marked. S is the number of marks.
+    /// The branch table of `labels` labels and these lists: the state after state s reads label a, at s × K + a; and
+    /// which states are marked. S is the number of marks.
     ///
     /// # Errors
     /// 7 where S is not 1 to 16 or `labels` not 1 to 64, 8 where there are not S × K steps, 9 for a state not below S.
@@ -105,8 +105,8 @@ impl BranchTable {
     }
 }
 
-/// 6 to 9. The library has no call for a branch table alone: a build for a plan of one leaf with label 0 asks 6 to 9 of it,
-/// and nothing else can be wrong.
+/// 6 to 9. The library has no call for a branch table alone: a build for a plan of one leaf with label 0 asks 6 to 9 of
+/// it, and nothing else can be wrong.
 fn checked(table: &[u8]) -> Result<(), Refusal> {
     branch_build(&ONE_LEAF, table, &mut [0; node_table_len(1)], &mut [0; state_table_len(1, MAX_STATES)])
 }

@@ -6,8 +6,8 @@ use alloc::vec;
 use alloc::vec::Vec;
 use core::fmt;
 
-/// A plan and a branch table with the tables of both, for branch questions: what does the table make of the labels on the
-/// way from an upper node down to a lower?
+/// A plan and a branch table with the tables of both, for branch questions: what does the table make of the labels on
+/// the way from an upper node down to a lower?
 ///
 /// ```
 /// use whatif::{BranchTable, Branches, Kind::{Inner, Leaf}, Plan, Refusal};

@@ -9,8 +9,8 @@ use alloc::vec;
 use alloc::vec::Vec;
 use core::fmt;
 
-/// A plan and a branch table with their colour tables, which this owns: 9 S bytes a node, 144 for 16 states. The answers are
-/// those of [`Branches`](crate::Branches), at a cost that does not grow with the plan's depth.
+/// A plan and a branch table with their colour tables, which this owns: 9 S bytes a node, 144 for 16 states. The
+/// answers are those of [`Branches`](crate::Branches), at a cost that does not grow with the plan's depth.
 ///
 /// ```
 /// use whatif::{BranchColours, BranchTable, Kind::{Inner, Leaf}, Plan, Refusal};
@@ -124,7 +124,8 @@ impl RuleColours {
     /// What would the plan's state be with these changes?
     ///
     /// # Errors
-    /// 12 for more than 64 changes, 13 for a node that the plan does not have, 14 for a label that the rules do not have.
+    /// 12 for more than 64 changes, 13 for a node that the plan does not have, 14 for a label that the rules do not
+    /// have.
     pub fn ask(&self, changes: &[Change]) -> Result<ColourAnswer, Refusal> {
         let list = Split::of(changes);
         let (plan, rules) = (self.plan.as_bytes(), self.rules.as_bytes());
@@ -132,8 +133,8 @@ impl RuleColours {
         colour_ask(plan, rules, numbers, bytes, numbers, bytes, list.nodes(), list.labels())
     }
 
-    /// Confirms a yes before a blank is cut: asks with the list that goes to the mill. It is confirmed only where the answer
-    /// is a yes and a fresh run of the plan with the list says the same.
+    /// Confirms a yes before a blank is cut: asks with the list that goes to the mill. It is confirmed only where the
+    /// answer is a yes and a fresh run of the plan with the list says the same.
     ///
     /// # Errors
     /// [`Unconfirmed`] says what is wrong; a no is not confirmed either.

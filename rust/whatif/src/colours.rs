@@ -1,4 +1,5 @@
-//! Branch questions and questions by colours: at a cost that does not grow with the plan's depth, on tables of their own.
+//! Branch questions and questions by colours: at a cost that does not grow with the plan's depth, on tables of their
+//! own.
 
 use crate::{accepted, slices, Refusal};
 
@@ -33,8 +34,9 @@ pub struct ColourAnswer {
 }
 
 /// Writes the colour tables of a plan and a branch table into the first `4NS` numbers and `NS` bytes of the two buffers
-/// ([`colour_branch_numbers`](crate::sizes::colour_branch_numbers), [`colour_branch_bytes`](crate::sizes::colour_branch_bytes));
-/// the rest stays. [`BranchColours`](crate::BranchColours) has buffers of its own.
+/// ([`colour_branch_numbers`](crate::sizes::colour_branch_numbers),
+/// [`colour_branch_bytes`](crate::sizes::colour_branch_bytes)); the rest stays. [`BranchColours`](crate::BranchColours)
+/// has buffers of its own.
 ///
 /// # Errors
 /// The first of 2 to 11; both buffers are unchanged then.
@@ -42,9 +44,9 @@ pub fn colour_branch_build(plan: &[u8], branch: &[u8], numbers: &mut [u16], byte
     accepted(slices::colour_branch_build(plan, branch, numbers, bytes))
 }
 
-/// The answer of [`branch`](crate::branch) by colours: what the branch table makes of the labels from below node `upper`
-/// down to node `lower`. `node_table` is that of [`branch_build`](crate::branch_build); `numbers` and `bytes` are the tables
-/// of [`colour_branch_build`], and `numbers` may be passed as `node_table` too: it begins with it.
+/// The answer of [`branch`](crate::branch) by colours: what the branch table makes of the labels from below node
+/// `upper` down to node `lower`. `node_table` is that of [`branch_build`](crate::branch_build); `numbers` and `bytes`
+/// are the tables of [`colour_branch_build`], and `numbers` may be passed as `node_table` too: it begins with it.
 ///
 /// # Errors
 /// The first of 17, 13, 16, 18; never 18 on tables as built for this plan and branch table.
@@ -87,9 +89,9 @@ fn verdict([state, yes, drops, links]: [u32; 4]) -> ColourVerdict {
     ColourVerdict { state: state as u8, yes: yes == 1, drops, links }
 }
 
-/// Writes the colour tables of a plan and a rule table of at most four states into the first numbers and bytes of the two
-/// buffers ([`colour_numbers`](crate::sizes::colour_numbers), [`colour_bytes`](crate::sizes::colour_bytes)); the rest stays.
-/// [`RuleColours`](crate::RuleColours) has buffers of its own.
+/// Writes the colour tables of a plan and a rule table of at most four states into the first numbers and bytes of the
+/// two buffers ([`colour_numbers`](crate::sizes::colour_numbers), [`colour_bytes`](crate::sizes::colour_bytes)); the
+/// rest stays. [`RuleColours`](crate::RuleColours) has buffers of its own.
 ///
 /// # Errors
 /// The first of 2 to 9, 27, 10, 11; both buffers are unchanged then.
@@ -97,10 +99,10 @@ pub fn colour_build(plan: &[u8], rules: &[u8], numbers: &mut [u16], bytes: &mut 
     accepted(slices::colour_build(plan, rules, numbers, bytes))
 }
 
-/// A question by colours, whole and outside the session: what would the plan's state be if node `nodes[i]` took `labels[i]`,
-/// for every i? A node may be listed several times: its last entry holds. `node_table` and `state_table` are those of
-/// [`build`](crate::build); `numbers` and `bytes` are the tables of [`colour_build`], which begin with them and may be passed
-/// for them too.
+/// A question by colours, whole and outside the session: what would the plan's state be if node `nodes[i]` took
+/// `labels[i]`, for every i? A node may be listed several times: its last entry holds. `node_table` and `state_table`
+/// are those of [`build`](crate::build); `numbers` and `bytes` are the tables of [`colour_build`], which begin with
+/// them and may be passed for them too.
 ///
 /// # Errors
 /// The first of 17, 27, 12, 13, 14, 18; never 18 on tables as built for this plan and rule table.

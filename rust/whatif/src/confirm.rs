@@ -14,7 +14,8 @@ pub enum Unconfirmed {
     OtherCounts,
     /// The list is not the one that was asked: the answer is another question's.
     OtherList,
-    /// The fresh run ends otherwise: the plan, the rules, a table or the record was altered since the question was asked.
+    /// The fresh run ends otherwise: the plan, the rules, a table or the record was altered since the question was
+    /// asked.
     Differs {
         /// The answer that was to be confirmed.
         answer: Verdict,
@@ -77,11 +78,12 @@ fn counts(lent: &Lent<'_>) -> [usize; 3] {
 }
 
 impl Session {
-    /// Confirms a yes before a blank is cut: pass in the plan, the rules and the list that will be cut. It is confirmed only
-    /// where the question is answered, this was its list, and a fresh run of the plan with the list says the same yes.
-    /// After that the blank depends on no table and no record.
+    /// Confirms a yes before a blank is cut: pass in the plan, the rules and the list that will be cut. It is confirmed
+    /// only where the question is answered, this was its list, and a fresh run of the plan with the list says the same
+    /// yes. After that the blank depends on no table and no record.
     ///
-    /// The lists are compared entry by entry, in order. The tables of `lent` are not read. [`Panel::confirm`](crate::Panel::confirm) takes the list as pairs.
+    /// The lists are compared entry by entry, in order. The tables of `lent` are not read.
+    /// [`Panel::confirm`](crate::Panel::confirm) takes the list as pairs.
     ///
     /// # Errors
     /// [`Unconfirmed`] says what is wrong; a no is not confirmed either.

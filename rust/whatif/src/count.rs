@@ -49,12 +49,13 @@ impl fmt::Debug for Counts {
     }
 }
 
-/// How many choices of labels for the nodes listed end in each state of the root? Every assignment of the K labels to these
-/// nodes, each listed once, is one choice; the other nodes keep their labels. With no node listed the run's own state has 1.
-/// [`Panel::count`](crate::Panel::count) has the tables of its own.
+/// How many choices of labels for the nodes listed end in each state of the root? Every assignment of the K labels to
+/// these nodes, each listed once, is one choice; the other nodes keep their labels. With no node listed the run's own
+/// state has 1. [`Panel::count`](crate::Panel::count) has the tables of its own.
 ///
 /// # Errors
-/// The first of 17, 12, 13, 15, 26, 18; never 18 on tables that [`build`](crate::build) wrote for this plan and rule table.
+/// The first of 17, 12, 13, 15, 26, 18; never 18 on tables that [`build`](crate::build) wrote for this plan and rule
+/// table.
 pub fn count(
     plan: &[u8],
     rules: &[u8],

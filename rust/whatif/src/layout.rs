@@ -1,11 +1,11 @@
-//! Plans, tables and planner's files as bytes, as docs/LAYOUT.md has them: for whoever writes files, or bytes that are to
-//! be refused. Nothing is checked here; [`Plan`](crate::Plan), [`Rules`](crate::Rules),
+//! Plans, tables and planner's files as bytes, as docs/LAYOUT.md has them: for whoever writes files, or bytes that are
+//! to be refused. Nothing is checked here; [`Plan`](crate::Plan), [`Rules`](crate::Rules),
 //! [`BranchTable`](crate::BranchTable) and [`Planned`](crate::Planned) have the library check them.
 
 use alloc::vec::Vec;
 
-/// Little-endian 32-bit numbers, then the parts one after the other. A number that 32 bits can't hold becomes the greatest
-/// that they can: it is above every limit.
+/// Little-endian 32-bit numbers, then the parts one after the other. A number that 32 bits can't hold becomes the
+/// greatest that they can: it is above every limit.
 #[must_use]
 pub fn with_header(numbers: &[usize], parts: &[&[u8]]) -> Vec<u8> {
     let number = |&n: &usize| u32::try_from(n).unwrap_or(u32::MAX).to_le_bytes();

@@ -1,8 +1,8 @@
 //! The what-if checker in Rust: would a milling plan still be cleared if these few passes took another bur?
 //!
-//! A plan ([`Plan`]) is a binary tree with a label at each node, a rule table ([`Rules`]) a bottom-up tree automaton that
-//! says whether a plan may be cut, a branch table ([`BranchTable`]) an automaton on the labels from a node down to another.
-//! The library that answers is proved; this crate is a safe wrapper over it, and is not.
+//! A plan ([`Plan`]) is a binary tree with a label at each node, a rule table ([`Rules`]) a bottom-up tree automaton
+//! that says whether a plan may be cut, a branch table ([`BranchTable`]) an automaton on the labels from a node down to
+//! another. The library that answers is proved; this crate is a safe wrapper over it, and is not.
 //!
 //! ```
 //! use whatif::{Kind::{Inner, Leaf}, Panel, Plan, Rules};
@@ -35,16 +35,16 @@
 //!
 //! # Refusals
 //!
-//! A call that can't be made is refused with a number, as docs/REFUSALS.md has them, and has changed nothing. [`Refusal`]
-//! has a name and a sentence for each. Number 1 means several things: [`Session::why_not`] says which.
+//! A call that can't be made is refused with a number, as docs/REFUSALS.md has them, and has changed nothing.
+//! [`Refusal`] has a name and a sentence for each. Number 1 means several things: [`Session::why_not`] says which.
 //!
 //! # Without an allocator
 //!
 //! The types above need the feature `alloc`; `std`, which is on unless it is turned off, makes the errors
 //! [`std::error::Error`]s too. Without both the crate needs `core` alone: the functions on bytes ([`build`], [`check`],
-//! [`branch`], [`count`], [`merge`], [`colour_ask`], ..), [`Session`] and [`Screens`], with buffers that the caller passes
-//! in ([`sizes`] has their lengths, docs/LAYOUT.md what is in them). The crate `whatif-sys` has the library's own functions
-//! and says how the library is found.
+//! [`branch`], [`count`], [`merge`], [`colour_ask`], ..), [`Session`] and [`Screens`], with buffers that the caller
+//! passes in ([`sizes`] has their lengths, docs/LAYOUT.md what is in them). The crate `whatif-sys` has the library's
+//! own functions and says how the library is found.
 
 #![no_std]
 #![deny(missing_docs, unsafe_op_in_unsafe_fn)]
@@ -139,7 +139,8 @@ pub const VERSION: &str = env!("CARGO_PKG_VERSION");
 /// This crate's version, as major * 10000 + minor * 100 + patch: that of the library it is made for.
 pub const VERSION_NUMBER: u32 = 900;
 
-/// The version of the library that is linked. The build compares it too, where the library comes with a pkg-config file.
+/// The version of the library that is linked. The build compares it too, where the library comes with a pkg-config
+/// file.
 ///
 /// ```
 /// assert_eq!(whatif::version(), whatif::VERSION_NUMBER);

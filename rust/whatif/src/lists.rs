@@ -40,8 +40,8 @@ mod split {
     /// One more than the longest list that a call takes.
     const ROOM: usize = MAX_CHANGES + 1;
 
-    /// The nodes and the labels of a list of changes, apart, as the calls take them. Of a list that is too long one entry
-    /// too many is kept, so that the call refuses it as too long.
+    /// The nodes and the labels of a list of changes, apart, as the calls take them. Of a list that is too long one
+    /// entry too many is kept, so that the call refuses it as too long.
     pub(crate) struct Split {
         nodes: [u16; ROOM],
         labels: [u8; ROOM],

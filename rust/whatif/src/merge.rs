@@ -2,9 +2,9 @@
 
 use crate::{accepted, sizes, slices, Refusal};
 
-/// Writes one rule table that clears exactly the plans that both clear, and returns how many bytes of `merged` it has; the
-/// rest stays. State p of the first table and q of the second become p × S2 + q. [`Rules::merge`](crate::Rules::merge) has
-/// a table of its own.
+/// Writes one rule table that clears exactly the plans that both clear, and returns how many bytes of `merged` it has;
+/// the rest stays. State p of the first table and q of the second become p × S2 + q.
+/// [`Rules::merge`](crate::Rules::merge) has a table of its own.
 ///
 /// # Errors
 /// The first of 6 to 9 for the first table, 6 to 9 for the second, 23, 24, 11; `merged` is unchanged then.

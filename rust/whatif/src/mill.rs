@@ -9,8 +9,8 @@ use core::iter::FusedIterator;
 /// A mill with a plan loaded and up to eight questions running, one on each screen: it owns the plan, the rules, their
 /// tables and the screens. So nothing can be exchanged or altered between the calls.
 ///
-/// A [`deal`](Mill::deal) handles one part for the next running screen, in turn. One that finds no screen running returns
-/// none. So a refusal means that the record of that screen is damaged: [`repair`](Mill::repair) it.
+/// A [`deal`](Mill::deal) handles one part for the next running screen, in turn. One that finds no screen running
+/// returns none. So a refusal means that the record of that screen is damaged: [`repair`](Mill::repair) it.
 ///
 /// ```
 /// use whatif::{Kind::{Inner, Leaf}, Mill, Plan, Refusal, Rules};
@@ -62,8 +62,8 @@ impl Mill {
     /// Asks a question on a screen, and returns the number of its parts: as many turns of the screen answer it.
     ///
     /// # Errors
-    /// 25 for a screen above 7, 1 while a question is running there, 12 for more than 64 changes, 13 for a node that the
-    /// plan does not have, 14 for a label that the rules do not have.
+    /// 25 for a screen above 7, 1 while a question is running there, 12 for more than 64 changes, 13 for a node that
+    /// the plan does not have, 14 for a label that the rules do not have.
     pub fn start(&mut self, screen: u32, changes: &[Change]) -> Result<u32, Refusal> {
         let list = Split::of(changes);
         self.screens.start(screen, &self.buffers.lent(), list.nodes(), list.labels())
@@ -72,8 +72,8 @@ impl Mill {
     /// Handles one part for the next running screen; none where no screen is running.
     ///
     /// # Errors
-    /// 1, or 17 or 18 where it still keeps its layout, where the record of the next screen is damaged. [`Screens::next`]
-    /// has its number.
+    /// 1, or 17 or 18 where it still keeps its layout, where the record of the next screen is damaged.
+    /// [`Screens::next`] has its number.
     pub fn deal(&mut self) -> Result<Option<Deal>, Refusal> {
         match self.screens.next() {
             None => Ok(None),
@@ -119,8 +119,8 @@ impl Mill {
         self.screens.confirm(screen, &self.buffers.lent(), list.nodes(), list.labels())
     }
 
-    /// Puts the loaded record in the place of a screen's, whatever was there, and returns what was: its question and its
-    /// answer are gone, the other screens go on, and a question can be started there at once.
+    /// Puts the loaded record in the place of a screen's, whatever was there, and returns what was: its question and
+    /// its answer are gone, the other screens go on, and a question can be started there at once.
     ///
     /// # Errors
     /// 25 for a screen above 7.

@@ -5,12 +5,13 @@ use crate::lists::Split;
 use crate::{Advances, Answer, Change, Counts, Lent, Plan, Progress, Refusal, Rules, Session, Unconfirmed, Verdict};
 use core::fmt;
 
-/// A panel with a plan loaded: it owns the plan, the rules, their tables and the session. So nothing can be exchanged or
-/// altered between the calls, and the refusals 2 to 9, 11, 17 and 18 do not come unless the memory itself is damaged.
+/// A panel with a plan loaded: it owns the plan, the rules, their tables and the session. So nothing can be exchanged
+/// or altered between the calls, and the refusals 2 to 9, 11, 17 and 18 do not come unless the memory itself is
+/// damaged.
 ///
 /// A question is a list of changes, each a node and the label it takes. [`ask`](Panel::ask) answers it at once;
-/// [`start`](Panel::start) and [`advances`](Panel::advances) answer it part by part, and [`cancel`](Panel::cancel) drops
-/// it in between. [`confirm`](Panel::confirm) a yes before a blank is cut.
+/// [`start`](Panel::start) and [`advances`](Panel::advances) answer it part by part, and [`cancel`](Panel::cancel)
+/// drops it in between. [`confirm`](Panel::confirm) a yes before a blank is cut.
 ///
 /// ```
 /// use whatif::{Kind::{Inner, Leaf}, Panel, Plan, Refusal, Rules};
@@ -93,12 +94,12 @@ impl Panel {
         self.current()
     }
 
-    /// Asks a question, and returns the number of its parts: as many advances answer it. An earlier question's answer is
-    /// kept as the [`last`](Panel::last) one.
+    /// Asks a question, and returns the number of its parts: as many advances answer it. An earlier question's answer
+    /// is kept as the [`last`](Panel::last) one.
     ///
     /// # Errors
-    /// 1 while a question is running, 12 for more than 64 changes, 13 for a node that the plan does not have, 14 for a label
-    /// that the rules do not have.
+    /// 1 while a question is running, 12 for more than 64 changes, 13 for a node that the plan does not have, 14 for a
+    /// label that the rules do not have.
     pub fn start(&mut self, changes: &[Change]) -> Result<u32, Refusal> {
         let list = Split::of(changes);
         self.session.start(&self.buffers.lent(), list.nodes(), list.labels())
@@ -134,8 +135,8 @@ impl Panel {
         self.session.current()
     }
 
-    /// The last finished answer. It may be an earlier question's: after a `start`, after a `cancel`. So it is no answer to
-    /// what is asked now.
+    /// The last finished answer. It may be an earlier question's: after a `start`, after a `cancel`. So it is no answer
+    /// to what is asked now.
     ///
     /// # Errors
     /// 1 where no question was finished since the last load.
@@ -143,8 +144,8 @@ impl Panel {
         self.session.read()
     }
 
-    /// Confirms a yes before a blank is cut: pass in the list that goes to the mill. It is confirmed only where the question
-    /// is answered, this was its list, and a fresh run of the plan with the list says the same yes.
+    /// Confirms a yes before a blank is cut: pass in the list that goes to the mill. It is confirmed only where the
+    /// question is answered, this was its list, and a fresh run of the plan with the list says the same yes.
     ///
     /// # Errors
     /// [`Unconfirmed`] says what is wrong; a no is not confirmed either.
@@ -178,8 +179,8 @@ impl Panel {
     /// How many choices of labels for these nodes, each listed once, end in each state?
     ///
     /// # Errors
-    /// 12 for more than 64 nodes, 13 for a node that the plan does not have, 15 for a node listed twice, 26 for more than
-    /// 10^18 choices.
+    /// 12 for more than 64 nodes, 13 for a node that the plan does not have, 15 for a node listed twice, 26 for more
+    /// than 10^18 choices.
     ///
     /// ```
     /// # use whatif::{Kind::Leaf, Panel, Plan, Rules};

@@ -32,8 +32,8 @@ impl Kind {
     }
 }
 
-/// A plan: the nodes of a binary tree in post-order, each with a label. Its bytes pass the library's checks 2 to 5; whether
-/// a table has its labels, check 10, is asked where the two meet.
+/// A plan: the nodes of a binary tree in post-order, each with a label. Its bytes pass the library's checks 2 to 5;
+/// whether a table has its labels, check 10, is asked where the two meet.
 ///
 /// ```
 /// use whatif::{Kind::{Inner, Leaf}, Plan, Refusal};
@@ -162,8 +162,8 @@ impl Plan {
     }
 }
 
-/// 2 to 5. The library has no call for a plan alone: a fresh run asks 2 to 5 of the plan, then 6 of the rule table, so with
-/// no rule table it answers 6 exactly where the plan passes.
+/// 2 to 5. The library has no call for a plan alone: a fresh run asks 2 to 5 of the plan, then 6 of the rule table, so
+/// with no rule table it answers 6 exactly where the plan passes.
 fn checked(plan: &[u8]) -> Result<(), Refusal> {
     match fresh_run(plan, &[], &[], &[]) {
         Err(Refusal::TableShort) => Ok(()),

@@ -18,8 +18,8 @@ pub struct PlannerNode {
 /// A planner's file with our plan of it, and the place of each of its nodes there.
 ///
 /// In our plan a planner's node is an inner node with its label, whose left child is the list of its children and whose
-/// right child is the list of its later siblings. An empty list is a leaf with label 63, so that rules for such plans have
-/// 64 labels. A question names a planner's node by its place.
+/// right child is the list of its later siblings. An empty list is a leaf with label 63, so that rules for such plans
+/// have 64 labels. A question names a planner's node by its place.
 ///
 /// ```
 /// use whatif::{Planned, PlannerNode};

@@ -2,8 +2,8 @@
 
 use crate::{accepted, sizes, slices, Refusal};
 
-/// Writes our plan of a planner's file, and for each of the file's nodes its node in that plan. Returns n, the number of
-/// the file's nodes: `places` has as many numbers then, and the plan is the first
+/// Writes our plan of a planner's file, and for each of the file's nodes its node in that plan. Returns n, the number
+/// of the file's nodes: `places` has as many numbers then, and the plan is the first
 /// [`planner_plan_bytes(n)`](sizes::planner_plan_bytes) bytes of `plan`; the rest of both stays.
 /// [`Planned`](crate::Planned) has buffers of its own.
 ///

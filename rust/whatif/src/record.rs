@@ -1,5 +1,5 @@
-//! The fields of a session's record that this crate reads by itself, at the offsets of docs/LAYOUT.md. The gate compares
-//! offsets and words with that page.
+//! The fields of a session's record that this crate reads by itself, at the offsets of docs/LAYOUT.md. The gate
+//! compares offsets and words with that page.
 
 use crate::sizes::{MAX_CHANGES, MAX_PARTS, RECORD_BYTES};
 

@@ -4,11 +4,12 @@ use core::fmt;
 
 macro_rules! refusals {
     ($($name:ident = $number:literal, $sentence:literal;)*) => {
-        /// Why a call was refused. A refused call has changed nothing.
+        /// Why a call was refused. A refused call has changed nothing. The numbers are those of docs/REFUSALS.md, which
+        /// the sections *Errors* of this documentation name.
         #[derive(Clone, Copy, Debug, PartialEq, Eq, Hash)]
         #[non_exhaustive]
         pub enum Refusal {
-            $(#[doc = $sentence] $name,)*
+            $(#[doc = concat!("Number ", stringify!($number), ". ", $sentence)] $name,)*
             /// A number that this version does not know: the library is of another one.
             Unknown(u32),
         }

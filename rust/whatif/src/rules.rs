@@ -6,8 +6,8 @@ use alloc::vec;
 use alloc::vec::Vec;
 use core::fmt;
 
-/// A rule table: a bottom-up tree automaton of S states on K labels, with a mark on each state. A plan is cleared where the
-/// state at its root is marked. Its bytes pass the library's checks 6 to 9.
+/// A rule table: a bottom-up tree automaton of S states on K labels, with a mark on each state. A plan is cleared where
+/// the state at its root is marked. Its bytes pass the library's checks 6 to 9.
 ///
 /// ```
 /// use whatif::{Refusal, Rules};
@@ -24,12 +24,13 @@ pub struct Rules {
 }
 
 impl Rules {
-    /// The rule table of these lists: the state of a leaf by its label; the state of an inner node for left state p, label
-    /// a and right state q, at (p × K + a) × S + q; and which states are marked. S is the number of marks, K that of the
-    /// leaf states.
+    /// The rule table of these lists: the state of a leaf by its label; the state of an inner node for left state p,
+    /// label a and right state q, at (p × K + a) × S + q; and which states are marked. S is the number of marks, K that
+    /// of the leaf states.
     ///
     /// # Errors
-    /// 7 where S is not 1 to 16 or K not 1 to 64, 8 where there are not S × K × S inner states, 9 for a state not below S.
+    /// 7 where S is not 1 to 16 or K not 1 to 64, 8 where there are not S × K × S inner states, 9 for a state not below
+    /// S.
     ///
     /// ```
     /// use whatif::Rules;
@@ -43,8 +44,8 @@ impl Rules {
         Rules::checked(layout::rules(marks.len(), leaf.len(), leaf, inner, &marks))
     }
 
-    /// The rule table of these functions: the state of a leaf by its label; the state of an inner node by its left state,
-    /// its label and its right state; and whether a state is marked.
+    /// The rule table of these functions: the state of a leaf by its label; the state of an inner node by its left
+    /// state, its label and its right state; and whether a state is marked.
     ///
     /// # Errors
     /// 7 where `states` is not 1 to 16 or `labels` not 1 to 64, before a function is called; 9 for a state not below
@@ -110,8 +111,8 @@ impl Rules {
         self.bytes[20..20 + self.labels()].get(usize::from(label)).copied()
     }
 
-    /// The state of an inner node by its left state, its label and its right state; none where the table has no such label
-    /// or state.
+    /// The state of an inner node by its left state, its label and its right state; none where the table has no such
+    /// label or state.
     #[must_use]
     pub fn inner(&self, left: u8, label: u8, right: u8) -> Option<u8> {
         let (s, k) = (self.states(), self.labels());
@@ -168,8 +169,8 @@ impl Rules {
 /// A plan of one leaf with label 0, which every table has.
 pub(crate) const ONE_LEAF: [u8; 14] = [1, 0, 0, 0, 12, 0, 0, 0, 13, 0, 0, 0, 0, 0];
 
-/// 6 to 9. The library has no call for a rule table alone: a fresh run over a plan of one leaf with label 0 asks 6 to 9 of
-/// it, and nothing else can be wrong.
+/// 6 to 9. The library has no call for a rule table alone: a fresh run over a plan of one leaf with label 0 asks 6 to 9
+/// of it, and nothing else can be wrong.
 fn checked(rules: &[u8]) -> Result<(), Refusal> {
     fresh_run(&ONE_LEAF, rules, &[], &[]).map(|_| ())
 }

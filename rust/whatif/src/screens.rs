@@ -5,22 +5,22 @@ use crate::{accepted, slices, Answer, Call, Lent, Progress, Refusal, Session, St
 use core::fmt;
 
 /// Eight screens, numbered 0 to 7: the run of their records, and the screen that the next deal tries first, which is
-/// handed on by itself. Plan, rule table and tables are passed in with each call; [`Mill`](crate::Mill) owns all of them
-/// and is the shorter way.
+/// handed on by itself. Plan, rule table and tables are passed in with each call; [`Mill`](crate::Mill) owns all of
+/// them and is the shorter way.
 ///
-/// `load` is for all eight, and refused while one of them runs. `start`, `cancel`, `current` and `read` name a screen and
-/// do with it what [`Session`]'s calls do. `deal` makes one advance for the next running screen after the one served
-/// last, going from 7 back to 0: a screen that stays running is served within eight accepted deals, and no other
+/// `load` is for all eight, and refused while one of them runs. `start`, `cancel`, `current` and `read` name a screen
+/// and do with it what [`Session`]'s calls do. `deal` makes one advance for the next running screen after the one
+/// served last, going from 7 back to 0: a screen that stays running is served within eight accepted deals, and no other
 /// twice between two of its turns in one question. What a screen answers does not depend on the other seven. A screen
 /// above 7 is refused with [`Refusal::Screen`], before anything else.
 ///
 /// # If a record is damaged
-/// One flipped bit in one record can stop all eight: at that screen's turn every deal is refused with 1, and so is a Load.
-/// Where the record still keeps its layout the turn may be refused with 17 or 18. So a deal's 1 means that nothing runs only
-/// where [`next`](Screens::next) is none; else the damaged record is that screen's. [`damaged`](Screens::damaged) finds
-/// records that break their layout. [`replace`](Screens::replace) puts a loaded one in the place of a damaged one: the
-/// others go on, and a new question can be started there. Keep a loaded record aside for that: `screens.session(0)` after a
-/// Load.
+/// One flipped bit in one record can stop all eight: at that screen's turn every deal is refused with 1, and so is a
+/// Load. Where the record still keeps its layout the turn may be refused with 17 or 18. So a deal's 1 means that
+/// nothing runs only where [`next`](Screens::next) is none; else the damaged record is that screen's.
+/// [`damaged`](Screens::damaged) finds records that break their layout. [`replace`](Screens::replace) puts a loaded one
+/// in the place of a damaged one: the others go on, and a new question can be started there. Keep a loaded record aside
+/// for that: `screens.session(0)` after a Load.
 ///
 /// ```
 /// # use whatif::{sizes, Kind::{Inner, Leaf}, Lent, Plan, Refusal, Rules, Screens};
@@ -84,7 +84,8 @@ impl Screens {
         &self.records
     }
 
-    /// The screen that the next deal tries first: 0 after a `load`, else the one after the screen served last, 0 after 7.
+    /// The screen that the next deal tries first: 0 after a `load`, else the one after the screen served last, 0 after
+    /// 7.
     #[must_use]
     pub const fn first(&self) -> u32 {
         self.first
@@ -130,8 +131,8 @@ impl Screens {
     /// One advance for the next running screen, as [`Session::advance`] makes it.
     ///
     /// # Errors
-    /// 1 where no screen is running, or the record of the [`next`](Screens::next) one is damaged; then 17, 18: that was the
-    /// screen's turn, nobody else is served, and the next deal tries the same one.
+    /// 1 where no screen is running, or the record of the [`next`](Screens::next) one is damaged; then 17, 18: that was
+    /// the screen's turn, nobody else is served, and the next deal tries the same one.
     /// [`why_no_deal`](Screens::why_no_deal) says what a 1 was.
     pub fn deal(&mut self, lent: &Lent<'_>) -> Result<Deal, Refusal> {
         let Lent { plan, rules, node_table, state_table } = *lent;
@@ -183,8 +184,8 @@ impl Screens {
         self.session(screen).ok_or(Refusal::Screen)?.confirm(lent, nodes, labels)
     }
 
-    /// Puts a session in the place of a screen's, whatever was there, and returns what was. A loaded record in the place of
-    /// a damaged one frees the other screens at once, and a question can be started there.
+    /// Puts a session in the place of a screen's, whatever was there, and returns what was. A loaded record in the
+    /// place of a damaged one frees the other screens at once, and a question can be started there.
     ///
     /// # Errors
     /// 25 for a screen above 7, 1 where the new session is damaged or running; nothing is changed then.
@@ -251,8 +252,8 @@ impl Screens {
         self.running().next().is_some()
     }
 
-    /// The screen that the next deal serves: the first running one from [`first`](Screens::first) on, going from 7 back to
-    /// 0. None where no screen is running, or the screen to try first is above 7. A deal that is refused with 1 although
+    /// The screen that the next deal serves: the first running one from [`first`](Screens::first) on, with 0 after 7.
+    /// None where no screen is running, or the screen to try first is above 7. A deal that is refused with 1 although
     /// there is a next screen met its damaged record.
     ///
     /// ```
@@ -269,7 +270,8 @@ impl Screens {
         ALL.filter(move |&screen| self.session(screen).map_or(false, |session| session.is_damaged()))
     }
 
-    /// Why this call on a screen would be refused with 25 or 1, as [`Session::why_not`] says it; none where it would not be.
+    /// Why this call on a screen would be refused with 25 or 1, as [`Session::why_not`] says it; none where it would
+    /// not be.
     #[must_use]
     pub fn why_not(&self, screen: u32, call: Call) -> Option<&'static str> {
         self.session(screen).map_or(Some(Refusal::Screen.sentence()), |session| session.why_not(call))

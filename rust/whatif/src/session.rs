@@ -4,12 +4,13 @@ use crate::sizes::RECORD_BYTES;
 use crate::{accepted, record, slices, Advances, Change, Part, Refusal};
 use core::fmt;
 
-/// A panel session: its record of 983 bytes, and nothing else. Plan, rule table and tables are passed in with each call,
-/// as [`Lent`]; [`Panel`](crate::Panel) owns all of them and is the shorter way.
+/// A panel session: its record of 983 bytes, and nothing else. Plan, rule table and tables are passed in with each
+/// call, as [`Lent`]; [`Panel`](crate::Panel) owns all of them and is the shorter way.
 ///
-/// The states are empty, loaded, running and answered. `load` may be called unless running, `start` in loaded or answered,
-/// `advance` and `cancel` in running, `current` in answered, `read` once a question was finished since the last accepted
-/// `load`; else the call is refused with [`Refusal::SessionState`], and [`why_not`](Session::why_not) says why.
+/// The states are empty, loaded, running and answered. `load` may be called unless running, `start` in loaded or
+/// answered, `advance` and `cancel` in running, `current` in answered, `read` once a question was finished since the
+/// last accepted `load`; else the call is refused with [`Refusal::SessionState`], and [`why_not`](Session::why_not)
+/// says why.
 ///
 /// ```
 /// use whatif::{sizes, Kind::{Inner, Leaf}, Lent, Plan, Refusal, Rules, Session};
@@ -35,8 +36,8 @@ pub struct Session {
     record: record::Record,
 }
 
-/// What is passed in with each [`start`](Session::start) and [`advance`](Session::advance), by name: a plan and rules are
-/// both bytes, and easily exchanged.
+/// What is passed in with each [`start`](Session::start) and [`advance`](Session::advance), by name: a plan and rules
+/// are both bytes, and easily exchanged.
 #[derive(Clone, Copy, PartialEq, Eq)]
 pub struct Lent<'a> {
     /// The plan.
@@ -134,14 +135,14 @@ impl Session {
         accepted(slices::load(&mut self.record, plan, rules, node_table, state_table))
     }
 
-    /// Asks a question: node `nodes[i]` takes `labels[i]`. Returns the number of its parts; the session is running then,
-    /// and keeps an earlier question's answer.
+    /// Asks a question: node `nodes[i]` takes `labels[i]`. Returns the number of its parts; the session is running
+    /// then, and keeps an earlier question's answer.
     ///
     /// Of two entries for a node the last holds; a node that ends with the label it has in the plan is no change.
     ///
     /// # Errors
-    /// The first of 1, 17, 12, 13, 14, 18; 18 exactly where plan and rules do not pass 2 to 10 or name other counts than
-    /// those loaded, or the tables are not what `load` writes from them.
+    /// The first of 1, 17, 12, 13, 14, 18; 18 exactly where plan and rules do not pass 2 to 10 or name other counts
+    /// than those loaded, or the tables are not what `load` writes from them.
     pub fn start(&mut self, lent: &Lent<'_>, nodes: &[u16], labels: &[u8]) -> Result<u32, Refusal> {
         let Lent { plan, rules, node_table, state_table } = *lent;
         let mut parts = 0;
@@ -149,7 +150,8 @@ impl Session {
         Ok(parts)
     }
 
-    /// Handles the next part. The session is answered after the last one, with this answer in the place of an earlier one.
+    /// Handles the next part. The session is answered after the last one, with this answer in the place of an earlier
+    /// one.
     ///
     /// # Errors
     /// The first of 1, 17, 18; the question goes on where it was with the right tables.
@@ -165,8 +167,8 @@ impl Session {
         Advances::new(self, *lent)
     }
 
-    /// Drops the question. The session is loaded then, as after a first Load, but for an earlier question's answer, which
-    /// stays.
+    /// Drops the question. The session is loaded then, as after a first Load, but for an earlier question's answer,
+    /// which stays.
     ///
     /// # Errors
     /// 1 unless a question is running.
@@ -177,9 +179,9 @@ impl Session {
     /// The answer of the question that was asked last: what a panel shows.
     ///
     /// # Errors
-    /// 1 unless the session is answered. So an earlier question's answer, which [`read`](Session::read) returns in every
-    /// state, is not taken for this one's. A refused `start` is no question: the session stays answered with the earlier
-    /// one.
+    /// 1 unless the session is answered. So an earlier question's answer, which [`read`](Session::read) returns in
+    /// every state, is not taken for this one's. A refused `start` is no question: the session stays answered with the
+    /// earlier one.
     pub fn current(&self) -> Result<Answer, Refusal> {
         match self.state() {
             Some(State::Answered) => self.read(),

@@ -43,8 +43,8 @@ impl Session {
         }
     }
 
-    /// Does the record break its layout, so that every call is refused with 1? The library decides, on a copy: a running
-    /// session can be cancelled, and any other takes a Load as far as its plan, here none.
+    /// Does the record break its layout, so that every call is refused with 1? The library decides, on a copy: a
+    /// running session can be cancelled, and any other takes a Load as far as its plan, here none.
     ///
     /// A bit that was flipped may also leave a record that keeps its layout: [`confirm`](Session::confirm) a yes.
     #[must_use]

@@ -1,5 +1,5 @@
-//! What the examples print is what is stored beside them. Cargo builds them with the tests; where this test alone is built,
-//! `cargo build --examples` comes first.
+//! What the examples print is what is stored beside them. Cargo builds them with the tests; where this test alone is
+//! built, `cargo build --examples` comes first.
 
 use std::env;
 use std::fs;

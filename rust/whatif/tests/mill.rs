@@ -39,7 +39,7 @@ fn turns() {
     assert_eq!((mill.screens().first(), mill.screens().next()), (7, Some(1)));
     assert_eq!(mill.deal(), deal(1, Progress::Finished));
     assert_eq!(mill.screens().why_no_deal(), None);
-    let rest: Vec<_> = mill.deals().collect();
+    let rest: Vec<_> = mill.deals().take(9).collect();
     assert_eq!(rest, [Ok(Deal { screen: 6, progress: Progress::Finished })]);
     assert_eq!((mill.screens().is_running(), mill.screens().next()), (false, None));
     assert_eq!(mill.screens().why_no_deal(), Some("No screen is running: there is nothing to deal."));

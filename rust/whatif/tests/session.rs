@@ -1,5 +1,5 @@
-//! The session on bytes: why a call is refused with 1, for every call in every state, damaged records, and a yes confirmed
-//! or not on records and plans that were altered.
+//! The session on bytes: why a call is refused with 1, for every call in every state, damaged records, and a yes
+//! confirmed or not on records and plans that were altered.
 
 mod sample;
 
@@ -180,8 +180,8 @@ fn advances_on_tables_of_the_caller() {
         |state_table| Lent { plan: plan.as_bytes(), rules: rules.as_bytes(), node_table: &node_table, state_table };
     session.start(&lent(&state_table), &[0], &[0]).unwrap();
     // a refusal ends the iterator, and the question goes on with the right tables
-    let short: Vec<_> = session.advances(&lent(&state_table[1..])).collect();
+    let short: Vec<_> = session.advances(&lent(&state_table[1..])).take(9).collect();
     assert_eq!((short, session.parts_done()), (vec![Err(Refusal::LentLength)], 0));
-    assert_eq!(session.advances(&lent(&state_table)).filter(Result::is_ok).count(), 2);
+    assert_eq!(session.advances(&lent(&state_table)).take(9).filter(Result::is_ok).count(), 2);
     assert!(!session.current().unwrap().yes);
 }

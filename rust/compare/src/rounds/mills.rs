@@ -131,7 +131,7 @@ impl Beside {
     /// Some deals by the iterator, or all.
     fn deals(&mut self, random: &mut Random) -> String {
         trace::say("deals".into());
-        let most = *random.pick(&[1, 2, 5, usize::MAX]);
+        let most = *random.pick(&[1, 2, 5, 3_000]);
         let served: Vec<u32> =
             self.mill.deals().take(most).map(|deal| deal.expect("no record is damaged").screen).collect();
         for &screen in &served {

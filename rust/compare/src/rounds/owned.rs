@@ -1,6 +1,6 @@
-//! The types of `whatif` that own bytes: `Plan`, `Rules` and `BranchTable` of any bytes against the reference's checks and
-//! its reading of them; `Branches`, `BranchColours`, `RuleColours`, `Planned`, merged tables and separating plans against
-//! the reference's answers.
+//! The types of `whatif` that own bytes: `Plan`, `Rules` and `BranchTable` of any bytes against the reference's checks
+//! and its reading of them; `Branches`, `BranchColours`, `RuleColours`, `Planned`, merged tables and separating plans
+//! against the reference's answers.
 
 use super::any_case;
 use super::planner_files::{self, FORMS};

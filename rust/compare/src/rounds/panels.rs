@@ -175,7 +175,7 @@ impl Beside {
     /// All that are left, by the iterator, each as the reference's advance has it.
     fn advances(&mut self) -> String {
         trace::say("advances".into());
-        let parts: Vec<_> = self.panel.advances().map(|part| part.map_err(Refusal::number)).collect();
+        let parts: Vec<_> = self.panel.advances().take(300).map(|part| part.map_err(Refusal::number)).collect();
         for part in &parts {
             let advanced = self.plain_advance();
             let record = Record::of(&self.record).expect("a record");
