@@ -1,7 +1,7 @@
 -- The answer of a branch question from what its functions hand on.
 --     first-args, replay-args, state-in    what is handed on is long enough
 --     answer-first                         no first state: 18
---     answer-told                          what is told of the climb's end
+--     answer-told                          the answer from the end of the climb
 use Prim.Native.Nat.{ℕ, _+_, _*_, _≤_, _<_}
 use mathlib.Core.Path.{_≡_, refl, sym, ap, _∙_}
 use mathlib.Core.Bool.{Bool, true, false, cond}

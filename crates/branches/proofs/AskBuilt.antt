@@ -1,8 +1,8 @@
 -- What tables as built say to a branch question.
 --     size-is, fits-built                    17 passes
---     built-links                            the lent numbers are the tree's
+--     built-links                            the given numbers are the tree's
 --     built-climb, built-passed              so a climb on them is the tree's, and passes over the difference of the depths
---     built-label, built-step, built-map     the lent labels, steps and maps are the tree's and the automaton's
+--     built-label, built-step, built-map     the given labels, steps and maps are the tree's and the automaton's
 use Prim.Native.Nat.{ℕ, _+_, _-_, _*_, _≤_, _<_}
 use mathlib.Core.Path.{_≡_, sym, ap, _∙_, subst}
 use mathlib.Core.Bool.{true}

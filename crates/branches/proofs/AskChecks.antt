@@ -1,7 +1,7 @@
 -- The checks of a branch question, one by one.
 --     ask-17, ask-13-upper, ask-13-lower, ask-16    the answer where a check fails and those before it pass
 --     ask-on                                        the answer where 17, 13 and 16 pass
---     ask-not-below                                 where 17 and 13 pass, 16 exactly where the lent size says so
+--     ask-not-below                                 where 17 and 13 pass, 16 exactly where the given size says so
 --     ask-number                                    an answer's number is the first failing check's
 use Prim.Native.Nat.{ℕ, _≤_, _<_}
 use mathlib.Core.Path.{_≡_, refl, sym, ap, _∙_}

@@ -1,4 +1,5 @@
--- What holds of a branch answer on whatever is lent: a state below S, its mark, the links of the climb and the nodes it passed over.
+-- What holds of a branch answer for any inputs: a state below S, its mark, the links of the climb and the nodes that it
+-- passed over.
 --     first-below    the first state is a state
 --     branch-kept    of the named result
 --     ask-kept       of the answer

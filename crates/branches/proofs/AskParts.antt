@@ -1,7 +1,7 @@
 -- The answer of a branch question by its climb.
 --     replay-state                what a climb ends in is a state
 --     first-runs                  the first state is read from the runs of labels and steps
---     Handed, handed, replay-is   what is handed on is what is lent
+--     Handed, handed, replay-is   what is handed on is the caller's input
 use Prim.Native.Nat.{ℕ, _+_, _-_, _*_, _<_}
 use mathlib.Core.Path.{_≡_, refl, sym, ap, _∙_, subst}
 use mathlib.Core.List.{List}
@@ -69,7 +69,7 @@ first-runs BelowUpper p r u = refl
 
 -- ---- from what is handed on
 
--- the header numbers, the depth and the runs are those of what is lent
+-- the header numbers, the depth and the runs are those of the inputs
 pub record Handed (p r nodeTable : List ℕ) (u n s k to : ℕ) (ls st mk : List ℕ) : Type 0 where
   pub nodes : n ≡ nodeCount p
   pub states : s ≡ stateCount r

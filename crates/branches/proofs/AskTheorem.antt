@@ -3,7 +3,7 @@
 --     ask-apart    16 where it is not, so 18 never
 --     ask-few      few links
 --     ask-passed   no more nodes passed over than the plan is high
---     ask-done     the whole promise, for whatever answers as askAnswer does
+--     ask-done     the whole promise, for any function that answers as askAnswer does
 --     empty-word   the same node twice, from below it: state 0, its mark, no links and no node passed over
 use Prim.Native.Nat.{ℕ, _+_, _-_, _*_, _≤_, _<_}
 use mathlib.Core.Path.{_≡_, refl, sym, ap, ap₂, _∙_, subst}
@@ -164,7 +164,7 @@ module _ (reading : Reading) (p r nodeTable stateTable : List ℕ) (D : BranchBu
 
   -- ---- 16
 
-  -- what the lent size says is so
+  -- what the given size says is so
   subtree-above : isInSubtreeOn nodeTable u l ≡ true → AtOrBelow (planTree p) u l
   subtree-above e =
       let w = in-subtree-is nodeTable u l e in
@@ -199,7 +199,7 @@ module _ (reading : Reading) (p r nodeTable stateTable : List ℕ) (D : BranchBu
   below-passed false e = rw (← ask-16 reading p r nodeTable stateTable u l (fits-built p r nodeTable stateTable D) hu hl e) (omega arith)
 
 module _ (reading : Reading) (p r nodeTable stateTable : List ℕ) (u l : ℕ) where
-  -- the links told: none where it is refused
+  -- the links returned: none where it is refused
   pub ask-few : BranchBuilt p r nodeTable stateTable
       → linksTold (askAnswer reading p r nodeTable stateTable u l) ≤ 3 * digits (height (planTree p))
   ask-few D =
@@ -242,7 +242,7 @@ module _ (reading : Reading) (p r nodeTable stateTable : List ℕ) (u l : ℕ) w
 
 -- ---- the empty word
 
--- "the same node twice is the empty word, and the mark of state 0 decides", on whatever tables: where 17, 13 and 16 pass
+-- "the same node twice is the empty word, and the mark of state 0 decides", for any tables: where 17, 13 and 16 pass
 pub empty-word-lent : (p r nodeTable stateTable : List ℕ) (u : ℕ)
     → headedBuffersFit branchTables p r (length nodeTable) (length stateTable) ≡ true → u < nodeCount p
     → isInSubtreeOn nodeTable u u ≡ true

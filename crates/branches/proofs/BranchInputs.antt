@@ -3,7 +3,7 @@
 --     length-builtSteps          the length of the table of a branch table
 --     parts-filled               labels, kinds and steps, as parts, are what the writers need
 --     parts-written              what the writers leave is what the build has to write
---     parts-in                 what the comparisons tell is what the full check has to tell
+--     parts-in                 what the comparisons return is what the full check has to return
 use Prim.Native.Nat.{ℕ, _+_, _-_, _*_, _≤_}
 use mathlib.Core.Path.{_≡_, sym, ap, _∙_}
 use mathlib.Core.Bool.{Bool, true}

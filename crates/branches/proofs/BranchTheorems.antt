@@ -1,6 +1,5 @@
 -- What the answers of the build and of the full check for a branch table mean.
---     written-branch-built, built-branch-built   an accepted build leaves both buffers as built, whatever their
---         excess is
+--     written-branch-built, built-branch-built   an accepted build leaves both buffers as built, for any excess
 --     check-yes, yes-check   the check's answer is yes exactly where plan and branch table pass and the tables are as
 --         built
 --     check-no, no-check     it is no exactly where 2 to 11 pass and the tables are not as built
@@ -42,7 +41,7 @@ module _ (p r : List ℕ) (pass : firstNo (branchTableChecks p r) ≡ 0) where
     states = take-at (builtBranchTable p r) y (stateTableLength (nodeCount p) (stateCount r)) steps-length;
   }
 
--- whatever the buffers were, an accepted build leaves them as built
+-- for any buffers, an accepted build leaves them as built
 pub built-branch-built : (p r nodeTable stateTable nodeTable′ stateTable′ : List ℕ) (answer : Building)
     → BuildDone (branchBuildNumber p r nodeTable stateTable) (builtNodeTable p) (builtBranchTable p r) nodeTable stateTable answer nodeTable′ stateTable′
     → buildingNumber answer ≡ 0 → BranchBuilt p r nodeTable′ stateTable′

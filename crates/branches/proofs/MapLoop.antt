@@ -1,9 +1,9 @@
--- The turns of the loop that writes the maps of a branch table, from the root down.
+-- The iterations of the loop that writes the maps of a branch table, from the root down.
 --     map-below            the automaton's maps lead to states
 --     nodeMap-near, -far   a node's map by its test
 --     nodeMap-is           where the maps above a node are the automaton's, what follows from them is its map
---     node-args            what the node's turn reads is inside
---     map-iteration, map-root   the turns
+--     node-args            what the node's iteration reads is inside
+--     map-iteration, map-root   the iterations
 use Prim.Native.Nat.{ℕ, _+_, _*_, _≤_, _<_}
 use mathlib.Core.Path.{_≡_, sym, ap, ap₂, _∙_}
 use mathlib.Core.List.{List}
@@ -112,14 +112,14 @@ module _ (B : WordAutomaton) (t : Tree) (ls nodeTable st : List ℕ) (s k n : �
             ∙ sym (branchMap-far B t v q given-inside (λ z. e (here-is ∙ z ∙ sym parent-is))))
       ]
 
--- ---- the turns
+-- ---- the iterations
 
 -- a node's row is inside a buffer that has room for the table
 pub row-in : (s n v m : ℕ) → v < n → stateTableLength n s ≤ m → RowIn m s v
 row-in s n v m h room = omega (arith, stride (s + 1) v n h)
 
 module _ (ls nodeTable st : List ℕ) (s k n m : ℕ) (A : BranchArgs ls nodeTable st s k n m) where
-  -- what a node's turn reads is inside, by any maps above it that are the automaton's
+  -- what a node's iteration reads is inside, by any maps above it that are the automaton's
   pub node-args : (v : ℕ) (b : List ℕ) → MapsAre (A .automaton) (A .tree) s n (v + 1) b → v + 1 < n
       → stateTableLength n s ≤ length b
       → NodeArgs ls nodeTable st s k b v

@@ -1,5 +1,5 @@
--- The comparisons of lent tables with a branch table's build, one after the other: the links, the state bytes, the
--- maps.
+-- The comparisons of the caller's tables with a branch table's build, one after the other: the links, the state bytes,
+-- the maps.
 --     answer-cells      where the links say yes, they are the tree's
 --     links-fail, steps-fail, maps-tell   the test of both tables, where the links or the state bytes say no, and
 --         where the maps decide
@@ -26,7 +26,7 @@ use Rattle.branches.specs.inner.BranchTests.{StepsTested, MapsTested, Ta
 use Rattle.branches.proofs.BranchInputs.{length-branchTable}
 use Rattle.branches.proofs.FillLaws.{AllCells, kinds-size, lent}
 
--- what the check of the links tells
+-- what the check of the links returns
 abbrev pub NodeTableTested : List ℕ → List ℕ → Bool → Type 0
 NodeTableTested ks nodeTable r = (t : Tree) → kindsOf t ≡ ks → r ≡ sameList (take (nodeTableLength (length ks)) nodeTable) (nodeTableOf t)
 

@@ -1,10 +1,10 @@
--- The turns of the loop that writes the state bytes of a branch table, from the root down.
---     given-parent, lent-root, given-label   the cells and labels that the loops read, of a tree so lent
+-- The iterations of the loop that writes the state bytes of a branch table, from the root down.
+--     given-parent, lent-root, given-label   the cells and labels that the loops read, of a tree so given
 --     states-start, states-iteration            no state byte written, and one more, for any states f; states-kept: it was
 --         there already
---     step-fits, step-is, step-iteration        a node's turn: its reads are inside their lists, and its state is the
---         automaton's
---     root-inside, root-is, root-iteration      the root's turn
+--     step-fits, step-is, step-iteration        a node's iteration: its reads are inside their lists, and its state is
+--         the automaton's
+--     root-inside, root-is, root-iteration      the root's iteration
 use Prim.Native.Nat.{ℕ, _+_, _*_, _≤_, _<_}
 use mathlib.Core.Path.{_≡_, refl, sym, ap, _∙_}
 use mathlib.Core.List.{List}
@@ -24,7 +24,7 @@ use Rattle.tables.specs.node_tables.Cells.{parentCell}
 use Rattle.tables.specs.StateCells.{stateCell}
 use Rattle.branches.specs.inner.BranchGiven.{BranchGiven, BranchArgs, StatesFrom, Stepped}
 
--- ---- what is lent
+-- ---- the inputs
 
 module _ (B : WordAutomaton) (t : Tree) (ls nodeTable st : List ℕ) (s k n : ℕ) (L : BranchGiven B t ls nodeTable st s k n) where
   pub given-pos : 0 < n
@@ -97,7 +97,7 @@ module _ (ls nodeTable st : List ℕ) (s k n m : ℕ) (A : BranchArgs ls nodeTab
       rw (given-parent (A .automaton) t ls nodeTable st s k n L v (omega arith))
       (up t v g .above, omega (arith, L .count, up t v g .below))
 
-  -- what a node's turn reads and writes is inside
+  -- what a node's iteration reads and writes is inside
   pub step-fits : (v : ℕ) (b₀ b : List ℕ) → Stepped ls nodeTable st s k n (v + 1) b₀ b → v + 1 < n
       → stateTableLength n s ≤ length b
       → StepFits ls nodeTable st s k v b
@@ -121,7 +121,7 @@ module _ (ls nodeTable st : List ℕ) (s k n m : ℕ) (A : BranchArgs ls nodeTab
   root-inside v = step-at s k (length st) 0 (getD ls v 0) (omega (arith, A .steps-below 0)) (A .labels-below v)
       (A .steps-room)
 
-  -- the state that a node's turn reads, and the root's
+  -- the state that a node's iteration reads, and the root's
   pub step-is : (v : ℕ) (b₀ b : List ℕ) → Stepped ls nodeTable st s k n (v + 1) b₀ b → v + 1 < n
       → (B : WordAutomaton) (t : Tree) → BranchGiven B t ls nodeTable st s k n
       → getD st (stateCell s b (parentCell nodeTable v) * k + getD ls v 0) 0 ≡ branchState B t v

@@ -1,5 +1,5 @@
--- The turns of the loop that writes a map of a branch table from the maps of two nodes and a label.
---     step-far-below, step-inside   what a turn reads is inside
+-- The iterations of the loop that writes a map of a branch table from the maps of two nodes and a label.
+--     step-far-below, step-inside   what an iteration reads is inside
 --     step-is                       and it is the state wanted
 use Prim.Native.Nat.{ℕ, _+_, _*_, _<_}
 use mathlib.Core.Path.{_≡_, ap, _∙_}

@@ -1,9 +1,9 @@
--- The turns of the loops that compare a lent table with a branch table's build, from the root down.
+-- The iterations of the loops that compare the caller's table with a branch table's build, from the root down.
 --     root-state-same, state-same         a state byte that is what the build would write is the automaton's
 --     root-state-differs, state-differs   where it is not, the table is not the built one
 --     all-states                          at the end all are
 --     root-map-same, map-same, root-map-differs, map-differs, all-maps   the same of the maps
--- What the build would write at a node is told by the build's own turns (StepLoop, MapLoop).
+-- What the build would write at a node is known from the build's own iterations (StepLoop, MapLoop).
 use Prim.Native.Nat.{ℕ, _+_, _*_, _<_}
 use mathlib.Core.Path.{_≡_, sym, _∙_}
 use mathlib.Core.Bool.{true, false}

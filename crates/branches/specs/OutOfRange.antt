@@ -1,7 +1,7 @@
 -- Values that lead outside the plan, the states or the labels.
 --
--- BranchOutOfRange p r nodeTable bytes == such a value of what is lent with a branch question: what 18 means. Tables as built have none
---   (proofs/AskRange).
+-- BranchOutOfRange p r nodeTable bytes == such a value in the inputs of a branch question: what 18 means. Tables as
+--   built have none (proofs/AskRange).
 --
 -- "18 means that a value read leads outside the plan, the states or the labels, or a climb doesn't rise."
 use Prim.Native.Nat.{ℕ, _≤_, _<_}

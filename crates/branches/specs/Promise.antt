@@ -1,7 +1,8 @@
 -- What a branch question promises, on every input and on tables as built.
 --
 -- wordOf reading t u l == the word of a reading; wordAnswer reading p r u l == the word automaton's answer on it
--- AnswerKept p r nodeTable u l answer == what holds of an answer whatever is lent (BranchKept; nothing is said of a refusal)
+-- AnswerKept p r nodeTable u l answer == what holds of an answer for any inputs (BranchKept; nothing is said of a
+--   refusal)
 -- BranchUsable p r nodeTable stateTable == plan, branch table and node table as built, and every map byte below S
 -- linksTold answer, passedTold answer == the links of an answer, and the nodes passed over; 0 of a refusal
 -- AskDone reading .. == the promise of a branch question
@@ -49,12 +50,12 @@ wordAnswer reading p r u l =
 pub record BranchKept (p r nodeTable : List ℕ) (u l : ℕ) (b : Branched) : Type 0 where
   pub state-below : b .state < stateCount r
   pub mark : b .marked ≡ branchAutomaton r .accepting (b .state)
-  -- "the links of the climb from the lower node to the upper's depth", as the lent node table has them
+  -- "the links of the climb from the lower node to the upper's depth", as the given node table has them
   pub moves : List Move
   pub climbed : climb (cellForest (nodeCount p) nodeTable) l (depthCell nodeTable u) ≡ some moves
   pub links-are : b .links ≡ length moves
   pub links-most : b .links ≤ depthCell nodeTable l - depthCell nodeTable u
-  -- "the depth of its start less the depth of its end", by the lent depths
+  -- "the depth of its start less the depth of its end", by the given depths
   pub passed-is : b .passed ≡ passedBy (cellForest (nodeCount p) nodeTable) l moves
   pub links-passed : b .links ≤ b .passed
 
@@ -81,10 +82,10 @@ pub record AskDone (reading : Reading) (p r nodeTable stateTable : List ℕ) (u 
   -- on every input: the first failing check of 17, 13, 16 and 18, or the named result
   pub result : answer ≡ askAnswer reading p r nodeTable stateTable u l
   pub number : branchNumber answer ≡ askNumber reading p r nodeTable stateTable u l
-  -- an answer's state is below S, yes is its mark, its links are the climb's and no more than the lent depths are apart, and the nodes
-  -- passed over are the climb's, no fewer than the links
+  -- an answer's state is below S, yes is its mark, its links are the climb's and no more than the difference of the
+  -- given depths, and the nodes passed over are the climb's, no fewer than the links
   pub properties : AnswerKept p r nodeTable u l answer
-  -- where 17 and 13 pass, 16 exactly when the lent size says so
+  -- where 17 and 13 pass, 16 exactly when the given size says so
   pub not-below : headedBuffersFit branchTables p r (length nodeTable) (length stateTable) ≡ true → u < nodeCount p → l < nodeCount p
       → (branchNumber answer ≡ 16) ↔ (isInSubtreeOn nodeTable u l ≡ false)
   -- 18 only where a value leads outside the plan, the states or the labels, or a link does not rise
@@ -96,7 +97,7 @@ pub record AskDone (reading : Reading) (p r nodeTable stateTable : List ℕ) (u 
       → answer ≡ wordAnswer reading p r u l
   -- .. and 16 where it is not: 18 never
   pub apart : BranchBuilt p r nodeTable stateTable → u < nodeCount p → l < nodeCount p → (AtOrBelow (planTree p) u l → ⊥) → answer ≡ Refused 16
-  -- the links told on tables as built are few
+  -- the links returned on tables as built are few
   pub few : BranchBuilt p r nodeTable stateTable → linksTold answer ≤ 3 * digits (height (planTree p))
   -- and the nodes passed over are no more than the plan is high
   pub passed-most : BranchBuilt p r nodeTable stateTable → passedTold answer ≤ height (planTree p)

@@ -1,8 +1,8 @@
--- The branch question, on whatever is lent.
+-- The branch question, for any inputs.
 --
 -- Reading (src/answers) == which word is read: WithUpper, with the upper node's label; BelowUpper, from below the upper node
--- check 17 goes by the headers: headedBuffersFit branchTables (crate formats, Buffers)
--- check 16 goes by the lent size of the upper node u: isInSubtreeOn nodeTable u l (tables/node_tables, Cells)
+-- check 17 depends on the headers: headedBuffersFit branchTables (crate formats, Buffers)
+-- check 16 depends on the given size of the upper node u: isInSubtreeOn nodeTable u l (tables/node_tables, Cells)
 -- firstState reading .. == the state that the word below the upper node starts in: after its label, or 0, for which nothing is read
 -- branchOn .. == the answer on these tables: none where a value read leads outside the plan, the states or the labels, or a climb
 --   does not rise (check 18)
@@ -39,7 +39,7 @@ firstState WithUpper p r u =
     none
 firstState BelowUpper p r u = some 0
 
--- what is told of a word that ends in state q, by a climb of n links that passed over p nodes
+-- the result for a word that ends in state q, by a climb of n links that passed over p nodes
 abbrev pub branched : WordAutomaton → ℕ → ℕ → ℕ → Branched
 branched B q n p = record { state = q; marked = B .accepting q; links = n; passed = p }
 

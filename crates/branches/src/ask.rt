@@ -41,7 +41,7 @@ fn first_state(reading: Reading, labels: &[u8], steps: &[u8], s: usize, k: usize
     }
 }
 
-// What is told of the end of a climb, with the mark of its state.
+// The answer for the end of a climb, with the mark of its state.
 fn finish_answer(end: Climbed, marks: &[u8]) -> Branching
     requires { ⌜ StateIn (length (now marks)) end ⌝ }
     ensures { λ r. ⌜ r ≡ toldOf (now (marks .entry)) end ⌝ }
@@ -88,7 +88,8 @@ fn answer_branch(
     finish_answer(end, &branch[16 + s * k..])
 }
 
-// A branch question in either reading. It takes N, S and K from the lent headers and asks 17, 13, 16 and 18 in this order.
+// A branch question in either reading. It takes N, S and K from the given headers and asks 17, 13, 16 and 18 in this
+// order.
 fn ask(
     reading: Reading,
     plan: &[u8],

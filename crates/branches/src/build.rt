@@ -58,7 +58,7 @@ fn write_branch(
     );
 }
 
-// Writes the tables of a plan and a branch table, or tells the first check of 2 to 11 that fails and alters nothing.
+// Writes the tables of a plan and a branch table, or returns the first check of 2 to 11 that fails and alters nothing.
 pub fn build_branch_tables(
     plan: &[u8],
     branch: &[u8],

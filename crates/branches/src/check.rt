@@ -1,4 +1,4 @@
-// The full check of lent tables for a plan and a branch table.
+// The full check of the caller's tables for a plan and a branch table.
 use crate::check_maps::check_maps;
 use crate::check_steps::check_steps;
 use formats::bytes::read32;
@@ -65,7 +65,7 @@ fn branch_matches(
     )
 }
 
-// Whether the lent tables are what the build writes, or the first check of 2 to 11 that fails.
+// Whether the caller's tables are what the build writes, or the first check of 2 to 11 that fails.
 pub fn check_branch_tables(
     plan: &[u8],
     branch: &[u8],

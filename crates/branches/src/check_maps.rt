@@ -1,4 +1,4 @@
-// The maps of a lent table compared with those of a branch table's build, from the root down.
+// The maps of the caller's table compared with those of a branch table's build, from the root down.
 use tables::compare::near_row_is;
 use tables::compare::root_row_is;
 ghost use mathlib.Core.Path.{_≡_};

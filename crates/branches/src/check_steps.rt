@@ -1,4 +1,4 @@
-// The state bytes of a lent table compared with those of a branch table's build, from the root down.
+// The state bytes of the caller's table compared with those of a branch table's build, from the root down.
 use crate::steps::START;
 ghost use lib.ListN.{length};
 ghost use Rattle.branches.specs.inner.BranchGiven.{BranchArgs};

@@ -51,8 +51,8 @@ pub extern "C" fn whatif_branch_check(
     check_number(answer, yes)
 }
 
-// The number of a branch question's answer; its state, whether it is marked, its links and the nodes passed over go to `state`,
-// `yes`, `links` and `passed`.
+// The number of a branch question's answer; its state, whether it is marked, its links and the nodes passed over go to
+// `state`, `yes`, `links` and `passed`.
 pub fn ask_number(
     answer: Branching,
     state: &mut u32,

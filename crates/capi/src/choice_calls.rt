@@ -1,6 +1,6 @@
-// What C and Rust call of the count of choices (document 02, S-10). It is thin over the call of crate choices: its
-// result is the reply's number, 0 where it is accepted, and the counts of the S states go to the buffer given, which
-// keeps what it held where it is refused.
+// The exported count of choices (document 02, S-10), thin over the call of crate choices: its result is the reply's
+// number, 0 where it is accepted. The counts of the S states go to the caller's buffer. Outputs are written only on
+// success.
 //     whatif_count   how many choices end in each state
 use choices::count::count;
 use formats::bytes::read32;
@@ -21,7 +21,7 @@ fn copy_counts(a: [u64; 16], n: usize, out: &mut [u64])
 }
 
 // How many choices of labels for the nodes end in each state: the counts go to the front of `counts`, parts and links
-// to their places.
+// to their output parameters.
 #[no_mangle]
 pub extern "C" fn whatif_count(
     plan: &[u8],

@@ -1,5 +1,5 @@
-// What C and Rust call of lists of changes (document 02, S-4). It is thin over the call of crate changes: its result is the reply's
-// number, 0 where it is accepted, and the entries go to the buffers given, which keep what they held where it is refused.
+// The exported call on lists of changes (document 02, S-4), thin over the call of crate changes: its result is the
+// reply's number, 0 where it is accepted. The entries go to the caller's buffers. Outputs are written only on success.
 //     whatif_lay_over   one list laid over another
 use changes::Laying;
 use changes::lay_over;
@@ -42,7 +42,8 @@ fn copy_labels(a: [u8; 64], n: usize, out: &mut [u8])
     }
 }
 
-// The upper list laid over the lower: its nodes and labels go to the front of `nodes` and `labels`, and their number to `count`.
+// The upper list laid over the lower: its nodes and labels go to the front of `nodes` and `labels`, and their number to
+// `count`.
 #[no_mangle]
 pub extern "C" fn whatif_lay_over(
     lower_nodes: &[u16],

@@ -1,5 +1,5 @@
-// The functions that C and Rust call, the planner's files. Each is thin over a call of the layers below: its result is
-// the answer's number, 0 where it is accepted.
+// The exported calls on the planner's files, each thin over a call of the layers below: its result is the answer's
+// number, 0 where it is accepted.
 use planner::home::convert::planner_of_plan;
 use planner::out::convert::plan_of_planner;
 ghost use Rattle.planner.specs.home.Home.{HomeDone};

@@ -1,5 +1,5 @@
-// What C and Rust call of two rule tables (document 02, S-6 and S-13). Each is thin over a call of the crates below: its result is the
-// answer's number, 0 where it is accepted, and what is replied goes to the places given, which keep what they held where it is refused.
+// The exported calls on two rule tables (document 02, S-6 and S-13), each thin over a call of the crates below: its
+// result is the answer's number, 0 where it is accepted. Outputs are written only on success.
 //     whatif_merge   one table that clears exactly the plans that both clear
 //     whatif_agree   whether the tables agree, or else a separating plan as lines
 use products::agreement::Agreement;
@@ -70,7 +70,8 @@ fn none_shown(n: usize) -> u32
     if n == 0 { 1 } else { 0 }
 }
 
-// Whether two tables agree goes to `agreed`; where they do not, the lines of a separating plan go to `lines` and their number to `count`.
+// Whether two tables agree goes to `agreed`; where they do not, the lines of a separating plan go to `lines` and their
+// number to `count`.
 #[no_mangle]
 pub extern "C" fn whatif_agree(
     first: &[u8],

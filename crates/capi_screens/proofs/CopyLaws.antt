@@ -1,4 +1,4 @@
--- The first record in place of the other seven, byte by byte.
+-- The first record copied over the other seven, byte by byte.
 --     Copied o b n     the bytes of b below n are those of the first record of o, one time after the other
 --     copied-first, copied-on, copied-all   before the first, one more, and all of them
 use Prim.Native.Nat.{ℕ, _+_, _-_, _*_, _%_, _≤_, _<_}

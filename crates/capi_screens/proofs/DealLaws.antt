@@ -1,4 +1,4 @@
--- A deal: whom it serves, and what the places hold, besides the promise of the call.
+-- A deal: whom it serves, and what the output parameters hold, besides the promise of the call.
 --     deal-refused    a refusal before any screen
 --     deal-beyond, deal-none    25 and 1
 --     turn-refused, turn-taken    the one-record advance on the bytes of the screen found, by its number

@@ -1,4 +1,4 @@
--- What is decoded of a call of the screens is its answer: number and values tell it whole.
+-- What is decoded of a call of the screens is its answer: number and values determine it.
 --     decoded-load-all, decoded-start-on, decoded-cancel-on, decoded-read-on, decoded-deal   of the model's calls
 use Prim.Native.Nat.{ℕ, zero, suc}
 use mathlib.Core.Path.{_≡_, refl, sym, _∙_, ap, subst}

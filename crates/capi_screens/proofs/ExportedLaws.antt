@@ -1,8 +1,8 @@
 -- What the exports end in: the promise of a call on a run of eight records.
 --     not-run, nobody-exported        a refusal before any screen: 25, or the target's number
---     screen-exported, turn-exported  the one-record call on the bytes of one screen, written where they stood
+--     screen-exported, turn-exported  the one-record call on the bytes of one screen, written where they were
 --     beyond, on-screen               the same by the numbers that the code has, of a call that names a screen
--- Starts, Reads and deals, which tell values besides: StartReadLaws, DealLaws.
+-- Starts, Reads and deals, which report values besides: StartReadLaws, DealLaws.
 use Prim.Native.Nat.{ℕ, _+_, _-_, _*_, _<_, _≤_}
 use mathlib.Core.Path.{_≡_, refl, sym, _∙_, ap, subst}
 use mathlib.Core.Bool.{true, false}
@@ -39,7 +39,7 @@ refused-number more new old h = absurd (h refl)
 refused-number finished new old h = absurd (h refl)
 refused-number (outcome o) new old h = absurd (h refl)
 
--- a record that is written where it stood
+-- a record that is written where it was
 same-record : (b : List ℕ) (i : ℕ) → withRecord b i (recordAt b i) ≡ b
 same-record b i =
     ap (λ (t : List ℕ). take (983 * i) b ++ t) (take-append-drop 983 (drop (983 * i) b)) ∙ take-append-drop (983 * i) b
@@ -124,7 +124,7 @@ module _ (b : List ℕ) (c : ScreenCall) (l : length b ≡ runLength) where
       others = λ _ j m z. other-record j m (subst (λ (t : Target). Another t j) e z);
     }
 
--- ---- the bytes of a screen, as the code lends them
+-- ---- the bytes of a screen, as the code passes them
 
 abbrev width : ℕ → ℕ
 width i = 983 * i + 983 - 983 * i

@@ -1,7 +1,7 @@
 -- A run of eight records as bytes, and a call on it as one on the records that it holds.
 --     HeldAll b rs          the bytes of each of the eight hold its record, one after the other
 --     held-valid, held-length, held-runs    of the bytes of one record
---     told-is               what a call on the run tells is what the model tells
+--     told-is               the answer of a call on the run is the model's
 --     left-held             the run that a call leaves holds the model's records
 --     read-held             a Read leaves the run as it is
 use Prim.Native.Nat.{ℕ, zero, suc, _<_}

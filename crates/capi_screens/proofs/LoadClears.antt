@@ -1,6 +1,6 @@
 -- "Load is refused while any screen runs and clears them all", of every run of records as bytes.
 --     load-waits     a screen runs, or its bytes are no record: 1, and nothing is altered
---     load-clears    an accepted Load tells 0, and each of the eight is as after a first Load of that plan
+--     load-clears    an accepted Load reports 0, and each of the eight is as after a first Load of that plan
 use Prim.Native.Nat.{ℕ, zero, suc, _<_}
 use mathlib.Core.Path.{_≡_, refl, sym, _∙_}
 use mathlib.Core.Bool.{Bool, true, false, cond}

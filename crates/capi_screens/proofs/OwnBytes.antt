@@ -1,6 +1,7 @@
--- What is told of a screen goes by its own bytes, on every run of 8 x 983 bytes, records that are none included.
---     start-alone, cancel-alone, read-alone    Start, Cancel and Read go by the bytes of the named record
---     deal-alone                               a deal goes by the eight states and by the record that it serves
+-- What is answered of a screen is decided by its own bytes, on every run of 8 x 983 bytes, even where they are no
+-- records.
+--     start-alone, cancel-alone, read-alone    Start, Cancel and Read depend only on the bytes of the named record
+--     deal-alone                               a deal depends only on the eight states and the record that it serves
 use Prim.Native.Nat.{ℕ}
 use mathlib.Core.Path.{_≡_, refl, sym, _∙_, ap}
 use mathlib.Core.Bool.{Bool, true, false, cond}

@@ -1,6 +1,6 @@
--- Parts of a list, w elements each, one after the other; and what a list holds after one of them was lent and written.
+-- Parts of a list, w elements each, one after the other; and what a list holds after one of them was written.
 --     part w i b           part i of b
---     stored a k b p       b after the k elements from place a on were lent and p was written there
+--     stored a k b p       b after p was written to the k elements from index a on
 --     stored-length, run-stored, run-before, run-behind, stored-own
 --                          of a run of k elements; part-stored, part-other: of parts
 --     parts-ext            two lists with the same parts are the same
@@ -39,7 +39,7 @@ module _ (a k : ℕ) (b p : List ℕ) (room : a + k ≤ length b) where
     run-stored =
         ap (take k) (drop-at (take a b) (p ++ drop k (drop a b)) a first-length) ∙ take-at p (drop k (drop a b)) k e
 
-    -- what stands before it and behind it
+    -- what is before it and behind it
     at-before : (j : ℕ) → j < a → getD (stored a k b p) j 0 ≡ getD b j 0
     at-before j h =
         List·getD-append (take a b) (p ++ drop k (drop a b)) 0 j (omega (arith, first-length)) ∙ getD-take a b j 0 h
@@ -104,7 +104,7 @@ module _ (w : ℕ) where
     pub part-at : (i k : ℕ) → k < w → getD (part w i b) k 0 ≡ getD b (w * i + k) 0
     part-at i k h = getD-take w (drop (w * i) b) k 0 h ∙ getD-drop (w * i) b k 0
 
-  -- a list is told by its parts
+  -- a list is determined by its parts
   pub parts-ext : (n : ℕ) (b c : List ℕ) → length b ≡ w * n → length c ≡ w * n
       → ((i : ℕ) → i < n → part w i b ≡ part w i c) → b ≡ c
   parts-ext n b c e f same = ext-getD 0 b c (e ∙ sym f) (λ j h. each j (omega arith))

@@ -1,6 +1,6 @@
 -- Whether one screen is busy, as the code asks it, and the Load of a record at rest.
 --     not-valid, valid-runs, valid-some    whether a screen is busy; busy-part: of a part of the run
---     number-told, load-number     a Load of a record at rest goes by what is lent alone
+--     number-told, load-number     a Load of a record at rest depends on its inputs alone
 --     struct-after, bytes-after, one-loaded    where nothing fails
 use Prim.Native.Nat.{ℕ, zero, suc, _+_, _-_, _<_}
 use mathlib.Core.Path.{_≡_, refl, sym, _∙_, ap, subst}
@@ -97,7 +97,7 @@ module _ (p : List ℕ) (x : Inputs) (rest : isBusy p ≡ false) where
   unfolding answerFor answerOn act
   answer-is = rw (laid-is, passes) (ap (λ (n : ℕ). unless n (recordOf (decoded p)) (load x) .answer) number-is)
 
-  -- the number told is that of the first failing check
+  -- the number returned is that of the first failing check
   pub number-told : answerNumber (answerFor p (load x)) ≡ firstNo (checksOf x)
   unfolding unless proceeds answerNumber
   number-told = ap answerNumber answer-is ∙ go (firstNo (checksOf x))

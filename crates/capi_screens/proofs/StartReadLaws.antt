@@ -1,4 +1,4 @@
--- Start and Read of one screen: what the places hold, besides the promise of the call.
+-- Start and Read of one screen: what the output parameters hold, besides the promise of the call.
 --     start-refused, start-on    a refusal before any screen, and the one-record Start on the bytes of the screen
 --     read-refused, read-on      the same of Read
 use Prim.Native.Nat.{ℕ, _≤_}

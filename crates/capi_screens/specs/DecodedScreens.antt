@@ -1,6 +1,6 @@
 -- The exported calls of the screens as one relation: what a caller decodes of a call, from its number and values alone.
 --
--- decodedLoad r k, decodedDeal r k f == the answer of a Load and of a deal: 0 with what it tells, or the refusal's
+-- decodedLoad r k, decodedDeal r k f == the answer of a Load and of a deal: 0 with its values, or the refusal's
 --   number. Those of Start, Cancel and Read are a single session's (crate capi_session, DecodedAnswers)
 -- ScreensExports b c a b′ == call c was made on the run of records b, was decoded as a and left b′: the promise of its
 --   exported function, as the function has it, holds

@@ -2,7 +2,7 @@
 --
 -- runLength == how many bytes it has
 -- recordAt b i == the bytes of screen i's record; withRecord b i r == the run with the record r in its place
--- runs b == which screens run, by their records' states alone (the byte 0 of a record; 2 is running), whatever the rest
+-- runs b == which screens run, by their records' states alone (the byte 0 of a record; 2 is running), not the rest
 -- busy b == which screens may not be loaded: one that runs, or whose bytes are no record
 --
 -- "The sessions are handed in as a run of eight records." The record's layout: crate records, Layout.

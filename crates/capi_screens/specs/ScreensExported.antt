@@ -1,13 +1,13 @@
 -- What the exported calls of the screens promise: the run of records as bytes in and out, the answer's number and
 -- values.
 --
--- targetIn b c == whose call c is on the run b: a Load asks for eight records that are at rest, any other call goes by
---   the states
--- answerOf b t, bytesOf b t == what a call that is t's tells, and the run after it; answerAllFor b c, bytesFor b c ==
---   of call c: the one-record call (crate capi_session) on the bytes of the screen whose call it is
+-- targetIn b c == whose call c is on the run b: a Load asks for eight records that are at rest, any other call depends
+--   on the states
+-- answerOf b t, bytesOf b t == the answer of a call that is t's, and the run after it; answerAllFor b c, bytesFor b c
+--   == of call c: the one-record call (crate capi_session) on the bytes of the screen whose call it is
 -- numberFor b c == the answer's number, 0 where it is accepted
 -- ScreensCallExported, ScreensStartExported, ScreensDealExported, ScreensReadExported, ScreensLoadExported == the
---   promises. What is told goes through places, which keep what they held where the call is refused
+--   promises. Output parameters are written only on success
 use Prim.Native.Nat.{ℕ, _<_}
 use mathlib.Core.Path.{_≡_}
 use mathlib.Core.Bool.{cond}
@@ -99,7 +99,7 @@ pub record ScreensReadExported (b : List ℕ) (i r : ℕ) (before after : Places
 unfoldable pub loadNumber : List ℕ → Inputs → ℕ
 loadNumber b x = cond (eqb (length b) runLength) (firstNo (loadAllChecks (busy b) x)) 25
 
--- an accepted Load tells 0, the screen to try first
+-- an accepted Load reports 0, the screen to try first
 pub record ScreensLoadExported (b : List ℕ) (x : Inputs) (r : ℕ) (b′ nodeTable′ stateTable′ : List ℕ)
     (next₀ next₁ : ℕ) : Type 0 where
   pub call : ScreensCallExported b (loadAll x) r b′

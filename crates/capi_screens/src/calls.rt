@@ -122,7 +122,7 @@ fn next_running(records: &[u8], first: usize) -> usize
     8
 }
 
-// A deal: one advance for the next running screen; tells the screen to try first next time, and whether it finished.
+// A deal: one advance for the next running screen; reports the screen to try first next time, and whether it finished.
 #[no_mangle]
 pub extern "C" fn whatif_screens_deal(
     records: &mut [u8],

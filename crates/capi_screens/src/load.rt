@@ -39,7 +39,7 @@ fn any_busy(records: &[u8]) -> bool
     false
 }
 
-// The first record in place of the other seven.
+// Copies the first record over the other seven.
 fn copy_first(records: &mut [u8])
     requires { ⌜ length (now records) ≡ runLength ⌝ }
     ensures { λ _. ⌜ now (records .exit) ≡ rows 8 (λ i. take recordLength (now (records .entry))) ⌝ }

@@ -1,4 +1,4 @@
--- What is decoded of a call is its answer: number and values tell it whole.
+-- What is decoded of a call is its answer: number and values determine it.
 --     decoded-load .. decoded-read   of the model's calls (crate model)
 use Prim.Native.Nat.{ℕ, zero, suc}
 use mathlib.Core.Path.{_≡_, refl}

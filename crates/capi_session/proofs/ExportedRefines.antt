@@ -70,7 +70,7 @@ module _ (r : Record) where
       (acted finished (stepped r Phase.answered y (eqb (getD (marksBy (r .sizes) x) (y .state) 0) 1)))
       (acted more (stepped r Phase.running y false)) refl refl
 
-  -- Read leaves the record, whatever it answers
+  -- Read leaves the record as it is, for every answer
   on-read : (o : Option Outcome) → Settled r (acted (lastAnswer o) r)
   unfolding unlessRefused
   on-read none = refl
@@ -133,7 +133,7 @@ module _ (s : Session) (r : Record) (i : Seen s r) (c : Call) where
 -- ---- a call as its number and values are decoded
 
 module _ (s : Session) (r : Record) (i : Seen s r) where
-  -- what is decoded is the answer, if that tells itself
+  -- what is decoded is the answer, if that is decoded as itself
   decoded-answer : (c : Call) (f : Answer → Answer) → f (act (recordOf s) c .answer) ≡ act (recordOf s) c .answer
       → f (answerFor (encoded s) c) ≡ answerFor (encoded s) c
   decoded-answer c f e =

@@ -1,7 +1,8 @@
--- Demand 3 for the session calls on record bytes: every list of calls, from 983 zeros, whatever is lent, is answered as the
--- panel book says.
+-- Demand 3 for the session calls on record bytes: every list of calls, from 983 zeros, for any inputs, is answered as
+-- the panel book says.
 --     exported-demand-3    the theorem, over the very promises of the five exported functions, decoded from numbers and values
---     exported-questions   a question: an accepted Start had sound inputs; undisturbed: parts, advances, what Reads tell, ceilings
+--     exported-questions   a question: an accepted Start had sound inputs; undisturbed: parts, advances, the answers
+--                          of Reads, ceilings
 use lib.ListN.{replicate}
 use Rattle.reference.specs.Demand3.{Demand3}
 use Rattle.model.specs.Model.{freshRecord, Does}

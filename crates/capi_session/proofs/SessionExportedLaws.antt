@@ -1,5 +1,6 @@
--- An answer of a known case, told as its number, values and record bytes; and the exported calls from the promises of the session's.
---     done-stored .. read-refused    what is stored and told of each answer
+-- An answer of a known case, as its number, values and record bytes; and the exported calls from the promises of the
+-- session's.
+--     done-stored .. read-refused    what is stored and reported of each answer
 --     not-laid, laid ..              the exported calls: bytes that are no record, and bytes that are laid out as one
 use Prim.Native.Nat.{ℕ}
 use mathlib.Core.Path.{_≡_, refl, sym, ap, ap₂, _∙_, subst}
@@ -164,7 +165,7 @@ module _ (b : List ℕ) (c : Call) where
   pub not-answered : laidOut b ≡ false → answerFor b c ≡ refused 1
   not-answered h = answer-not h
 
--- bytes laid out as a record are as many as a record has
+-- bytes laid out as a record have the length of a record
 pub laid-length : (b : List ℕ) → laidOut b ≡ true → length b ≡ recordLength
 unfolding laidOut
 laid-length b h = eqb-true (length b) recordLength (and-left (eqb (length b) recordLength) _ h)

@@ -3,7 +3,8 @@
 -- answerFor b c == the answer of call c on record bytes b: 1 for bytes that are not laid out as a record, else the struct's (crate session)
 -- answerNumber a == document 01's number of an answer: 0 accepted, else the refusal's
 -- recordFor b c == the bytes after it: as they were where it is refused, else those of the struct after the call
--- partsOf a old, finishedOf a old, answeredPlaces a old == what a place holds afterwards: the answer's value, or what it held
+-- partsOf a old, finishedOf a old, answeredPlaces a old == what an output parameter holds afterwards: the answer's
+--   value, or the old one
 -- CallExported, StartExported, AdvanceExported, ReadExported, LoadExported == the promises
 use Prim.Native.Nat.{ℕ}
 use mathlib.Core.Path.{_≡_}
@@ -42,7 +43,7 @@ pub record CallExported (b : List ℕ) (c : Call) (r : ℕ) (b′ : List ℕ) : 
   -- what is left to the program has these properties
   pub properties : validBytes b ≡ true → LeftOpen (recordOf (decoded b)) c (answerFor b c) (act (recordOf (decoded b)) c .record′)
 
--- the refusal's number, 18 apart, of a Load on record bytes
+-- the refusal number, ignoring 18, of a Load on record bytes
 unfoldable pub loadNumber : List ℕ → Inputs → ℕ
 loadNumber b x = cond (laidOut b) (refusalOn (decoded b) (load x)) 1
 
@@ -65,7 +66,7 @@ pub record AdvanceExported (b : List ℕ) (c : Call) (r : ℕ) (b′ : List ℕ)
   pub call : CallExported b c r b′
   pub finished-after : finished₁ ≡ finishedOf (answerFor b c) finished₀
 
--- the five values of Read, as one place each
+-- the five values of Read, one output parameter each
 pub record Places : Type 0 where
   pub state : ℕ
   pub yes : ℕ

@@ -1,6 +1,6 @@
--- What is stored and told of a call's answer.
+-- What is stored and reported of a call's answer.
 --
--- places a b c d e == the five places of Read
+-- places a b c d e == the five output parameters of Read
 -- Stored a new b r b′ == the answer's number, and the bytes new unless it is refused
 -- DoneStored, StartStored, AdvanceStored, ReadStored == an answer as a number, values and record bytes
 -- AdvanceArgs t i b == what is asked where the step t of part i is stored in the record bytes b

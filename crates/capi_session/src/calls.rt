@@ -19,7 +19,7 @@ ghost use Rattle.formats.specs.Inputs.{inputsOf};
 ghost use Rattle.capi_session.specs.SessionExported.{CallExported, LoadExported, StartExported, AdvanceExported, ReadExported};
 ghost use Rattle.capi_session.specs.Stored.{DoneStored, StartStored, AdvanceArgs, AdvanceStored, ReadStored, places};
 
-// Stores the record of an accepted Load or Cancel; the answer's number.
+// Stores the record of an accepted Load or Cancel; returns the answer's number.
 fn store_done(out: Called, rec: &mut [u8]) -> u32
     requires { ⌜ length (now rec) ≡ recordLength ⌝ }
     ensures { λ r. ⌜ DoneStored out (now (rec .entry)) r (now (rec .exit)) ⌝ }
@@ -72,7 +72,7 @@ pub extern "C" fn whatif_cancel(rec: &mut [u8]) -> u32
     store_done(out, rec)
 }
 
-// Stores the record of an accepted Start and tells its parts; the answer's number.
+// Stores the record of an accepted Start and reports its parts; returns the answer's number.
 fn store_started(out: Started, rec: &mut [u8], parts: &mut u32) -> u32
     requires { ⌜ length (now rec) ≡ recordLength ⌝ }
     ensures { λ r. ⌜ StartStored out (now (rec .entry)) (now (parts .entry)) r (now (rec .exit)) (now (parts .exit)) ⌝ }
@@ -117,8 +117,8 @@ pub extern "C" fn whatif_start(
     store_started(out, rec, parts)
 }
 
-// Stores what an accepted advance of part `at` alters and tells whether it finished; the answer's number. List, roots and the other
-// states stay as they are, so their bytes are not written again.
+// Stores what an accepted advance of part `at` alters and reports whether it finished; returns the answer's number.
+// List, roots and the other states stay as they are, so their bytes are not written again.
 fn store_advanced(step: AdvanceStep, at: usize, rec: &mut [u8], finished: &mut u32) -> u32
     requires { ⌜ AdvanceArgs step at (now rec) ⌝ }
     ensures { λ r. ⌜ AdvanceStored step at (now (rec .entry)) (now (finished .entry)) r (now (rec .exit)) (now (finished .exit)) ⌝ }
@@ -164,7 +164,7 @@ pub extern "C" fn whatif_advance(
     store_advanced(step, s.head.handled as usize, rec, finished)
 }
 
-// Tells what Read tells; the answer's number.
+// Reports the values of Read; returns the answer's number.
 fn tell_read(
     answer: ReadAnswer,
     state: &mut u32,

@@ -4,7 +4,7 @@
 --     changed-superseded   changing by a list is changing by its superseded form
 --     changed-over         changing by one list and then by another is changing by the second laid over the first
 --     holds-superseded     the nodes listed are those of the superseded form; holds-laid: those of both lists
---     same-count           lists that name the same nodes have as many after superseding
+--     same-count           lists that name the same nodes have the same length after superseding
 --     superseded-passes, laid-passes   what passes 13 and 14 does so superseded, and laid one over the other
 use Prim.Native.Nat.{ℕ, zero, suc, _+_, _≤_, _<_}
 use mathlib.Core.Path.{_≡_, refl, sym, ap, ap₂, _∙_}
@@ -116,7 +116,7 @@ holds-laid v a b =
     listed-holds v (laidOver a b) ∙ ap isSome (laid-labels a b v) ∙ either-some (lastLabel v b) (lastLabel v a)
     ∙ sym (ap₂ (λ (x y : Bool). x || y) (listed-holds v a) (listed-holds v b))
 
--- lists that name the same nodes have as many after superseding
+-- lists that name the same nodes have the same length after superseding
 pub same-count : (a b : List Entry) → ((v : ℕ) → holds v (nodesListed a) ≡ holds v (nodesListed b))
     → length (superseded a) ≡ length (superseded b)
 same-count a b f = omega (arith, fewer a b (λ v. f v), fewer b a (λ v. sym (f v)))

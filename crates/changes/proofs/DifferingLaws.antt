@@ -1,7 +1,7 @@
 -- Which nodes a list leaves in W (document 02, S-5).
 --     leftBy              whether a node is left, by its last label
 --     differing-last      it is left exactly where its last label is another than its own
---     differing-is        so `differing` lists exactly what the test `differs` tells
+--     differing-is        so `differing` lists exactly the nodes that the test `differs` holds of
 --     unlisted-same       a node that is not left has the label that it had
 --     differing-listed    what is left was listed
 --     differing-same, differing-superseded   only last labels count

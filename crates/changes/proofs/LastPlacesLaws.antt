@@ -1,6 +1,6 @@
 -- A list's last places (specs/inner/LastPlaces).
 --     PlacesLoop, places-start, places-next, places-done   the loop of `put_places`
---     last-of-all   the first way out of `is_superseded`
+--     last-of-all   the first exit of `is_superseded`
 use Prim.Native.Nat.{ℕ, _+_, _%_, _≤_, _<_}
 use mathlib.Core.Path.{_≡_, sym, ap, _∙_, subst}
 use mathlib.Core.Bool.{false}
@@ -62,7 +62,7 @@ module _ (vs last : List ℕ) (i : ℕ) (L : PlacesLoop vs last i) where
 
 -- ---- one entry
 
--- the last of its remainder has no later entry: that one would stand behind it
+-- the last of its remainder has no later entry: that one would be behind it
 pub last-of-all : (vs last : List ℕ) (i : ℕ) → LastPlaces (length vs) vs last → getD last (getD vs i 0 % 256) 0 ≡ i
     → false ≡ holds (getD vs i 0) (drop (i + 1) vs)
 last-of-all vs last i P e =

@@ -6,8 +6,8 @@
 --   plan's, rising
 -- differs ls vs bs v == the same as a test on nodes: v is listed, and its label as changed is another than before
 --
--- Nodes are left out, not entries: a node whose last entry gives it its own label is no change, whatever comes before.
--- That `differing` lists exactly what `differs` tells is differing-is (proofs/DifferingLaws).
+-- Nodes are left out, not entries: a node whose last entry gives it its own label is no change, regardless of earlier
+-- entries. That `differing` lists exactly the nodes that `differs` holds of is differing-is (proofs/DifferingLaws).
 use Prim.Native.Nat.{ℕ}
 use mathlib.Core.Bool.{Bool, cond, not, _&&_}
 use mathlib.Core.List.{List, [], _∷_}

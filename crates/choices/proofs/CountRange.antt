@@ -1,4 +1,4 @@
--- Where 18 is told: a value leads outside the plan, the states or the labels, or a climb does not rise.
+-- Where 18 is returned: a value leads outside the plan, the states or the labels, or a climb does not rise.
 --     part-none, parts-none    a part, and all of them
 --     states-none              a leaf or inner state of the rules
 --     count-none               the whole count

@@ -1,7 +1,7 @@
 -- What count_runs hands on: the runs of plan and rules, and the tables without their excess.
 --     Fit, fit-by     all that both tests say
 --     on-args         so every read is inside its run
---     on-answer       the count on the runs is that on what is lent
+--     on-answer       the count on the runs is that on the inputs
 use Prim.Native.Nat.{ℕ, _+_, _-_, _*_, _≤_}
 use mathlib.Core.Path.{_≡_, sym, ap, _∙_}
 use mathlib.Core.Bool.{true}

@@ -1,4 +1,4 @@
--- The counts of a root read only a part of what is lent: on that part they are those on the whole.
+-- The counts of a root read only some of the inputs: on these alone they are those on all.
 --     root-ok-same, root-links-same, root-count-same
 use Prim.Native.Nat.{ℕ, zero, suc, _+_, _-_, _*_}
 use mathlib.Core.Path.{_≡_, refl, sym, ap, ap₂, _∙_}

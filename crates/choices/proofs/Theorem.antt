@@ -150,7 +150,7 @@ module _ (p r nodeTable stateTable vs : List ℕ) (a : Counted) (e : a ≡ count
         (sym (number-listed p r nodeTable stateTable vs n) ∙ sym number-is ∙ h))
   ]
 
-  -- ---- the counts, whatever is lent
+  -- ---- the counts, for any inputs
 
   counts-zero : (number ≡ 0 → ⊥) → (c : ℕ) → getD (a .counts) c 0 ≡ 0
   counts-zero h c = ap (λ (x : Counted). getD (x .counts) c 0) (rejected h) ∙ zeros-at 16 c

@@ -2,7 +2,7 @@
 --
 -- refusedWith n == the answer of refusal n: no counts, no parts, no links
 -- countedWith f parts links == an accepted answer with the counts f 0, f 1, .. f 15
--- countResult p r nodeTable stateTable vs == the answer, by name, on whatever is lent
+-- countResult p r nodeTable stateTable vs == the answer, by name, for any inputs
 -- CountDone .. == the promise
 --
 -- "Given a list of different nodes, count the assignments of any of the K labels to them, for each of the S root
@@ -67,7 +67,7 @@ pub record CountDone (p r nodeTable stateTable vs : List ℕ) (a : Counted) : Ty
   pub refused : (a .answer ≡ 0 → ⊥) → a ≡ refusedWith (a .answer)
   -- 18 only where a value leads outside the plan, the states or the labels, or a link does not rise
   pub out-of-range : a .answer ≡ 18 → PartOutOfRange (countView p r nodeTable stateTable) [] [] []
-  -- whatever is lent: counts of states below S alone, none above the limit, of as many parts as there are rising roots
+  -- for any inputs: counts of states below S alone, none above the limit, and one part for each of the rising roots
   pub states-below : (c : ℕ) → stateCount r ≤ c → getD (a .counts) c 0 ≡ 0
   pub most : (c : ℕ) → getD (a .counts) c 0 ≤ countLimit
   pub parts-are : (ms : List ℕ) → a .answer ≡ 0 → rootsIn (countView p r nodeTable stateTable) vs ≡ some ms

@@ -32,7 +32,7 @@ fn refused(answer: u8) -> Counted
     }
 }
 
-// Room for the counts of as many parts as there can be, 16 for each.
+// Room for the counts of the largest number of parts, 16 for each.
 fn room_for_parts() -> [u64; 4064]
     ensures { λ r. ⌜ length r ≡ 4064 ⌝ }
 {

@@ -1,4 +1,4 @@
-// The counts of one part, after those of the earlier roots, on whatever is lent.
+// The counts of one part, after those of the earlier roots, for any inputs.
 use crate::part_steps::carry::Carried;
 use crate::part_steps::root::root_counts;
 use questions::part::last_below;

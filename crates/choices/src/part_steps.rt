@@ -1,4 +1,4 @@
-// How many choices end in each state, part by part, on whatever is lent (document 02, S-10).
+// How many choices end in each state, part by part, for any inputs (document 02, S-10).
 pub mod carry;
 mod fork;
 pub mod limit;

@@ -1,4 +1,4 @@
-// The counts of all parts, in rising node number, on whatever is lent.
+// The counts of all parts, in rising node number, for any inputs.
 use crate::part::part_counts;
 use crate::part_steps::carry::Carried;
 use formats::lists::is_listed;

@@ -120,7 +120,7 @@ module _ (p r nodeTable stateTable : List ℕ) (n yes₀ yes₁ : ℕ)
 
 -- ---- the question: BelowUpper is whatif_branch, WithUpper whatif_branch_with_upper
 
--- an accepted answer is one: the named result is never a refusal with number 0
+-- where the number is 0 there is an answer: the named result is never a refusal with number 0
 answer-there : (k : ℕ) (o : Option Branched) → branchNumber (branchAnswer k o) ≡ 0
     → (b : Branched) × (branchAnswer k o ≡ Answered b)
 unfolding branchNumber branchAnswer

@@ -115,7 +115,7 @@ module _ (p r nodeTable stateTable vs counts : List ℕ) (parts links n : ℕ) (
       × (links′ ≡ countResult p r nodeTable stateTable vs .links)
   count-named z = (E .counts-are z, E .parts-are z, E .links-are z)
 
-  -- 18 of the call is the count's own: 11 is asked after it
+  -- the call's 18 is the count's own: 11 is checked after it
   own-18 : n ≡ 18 → countResult p r nodeTable stateTable vs .answer ≡ 18
   unfolding exportedChecks countNumber
   own-18 e = elim (ℕ-discrete (firstNo (countChecks p r nodeTable stateTable vs)) 0) [

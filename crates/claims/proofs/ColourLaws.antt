@@ -1,6 +1,6 @@
 -- What Colours and ColourSets cite of the searches.
 --     word-few                a branch question's searches take at most 45 links each
---     part-drops, part-sixty  the searches of a part are as many as its drops on the tree: at most 60 where it is
+--     part-drops, part-sixty  a part has one search for each of its drops on the tree: at most 60 where it is
 --                             one-sided, none elsewhere
 --     all-drops               so of all parts together
 use Prim.Native.Nat.{ℕ, _+_, _-_, _*_, _≤_, _<_}

@@ -122,7 +122,7 @@ module _ (p r numbers bytes : List ℕ) (n : ℕ) (numbers′ bytes′ : List �
 
 -- ---- the question: whatif_colour_ask
 
--- an accepted answer is one: the named result is never a refusal with number 0
+-- where the number is 0 there is an answer: the named result is never a refusal with number 0
 answer-there : (r : List ℕ) (k : ℕ) (o : Option Handled) → ruleDescendingNumber (ruleAnswer r k o) ≡ 0
     → stateKept r (ruleAnswer r k o) → linksKept (ruleAnswer r k o) → (s₀ y₀ d₀ k₀ m₀ : ℕ)
     → (endOf (ruleAnswer r k o) s₀ < stateCount r)

@@ -144,7 +144,7 @@ same-start : (reading : Reading) (t : Tree) (u : ℕ) → wordStart reading t u 
 same-start WithUpper t u = refl
 same-start BelowUpper t u = refl
 
--- an accepted answer is one: the named result is never a refusal with number 0
+-- where the number is 0 there is an answer: the named result is never a refusal with number 0
 answer-there : (r : List ℕ) (k : ℕ) (o : Option Coloured) → descendingNumber (colourAnswer k o) ≡ 0
     → stateKept r (colourAnswer k o) → (s₀ y₀ : ℕ)
     → (endOf (colourAnswer k o) s₀ < stateCount r)

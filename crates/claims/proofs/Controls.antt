@@ -42,7 +42,7 @@ use Rattle.claims.specs.Histories.{same, permuted, Reordered, ToTheEnd, 
 
 -- ---- Undisturbed
 
--- advances given the same, then a Read: undisturbed, whatever their answers
+-- advances given the same, then a Read: undisturbed, for any answers
 undisturbed-met : (z : Sizes) (x : Inputs) (ws : List Inputs) (ys : List Answer) → AllSame z x ws
     → Undisturbed z x (advancesOf ws ++ (read ∷ [])) ys
 undisturbed-met z x [] [] s = tt

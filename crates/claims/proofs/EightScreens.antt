@@ -3,7 +3,7 @@
 --     another-length-.., number-above-7-..    25 before everything else
 --     deal-serves, screen-alone            of the model that both refine
 --     demand-3-.., references-..           one statement about every list of screen calls; a panel book for each screen
---     screen-.., screen-finishes-..        what a screen is answered is a single session's; a question to its end
+--     screen-.., screen-finishes-..        a screen's answers are a single session's; a question to its end
 --     isolation-.., since-load-..          what the others start or cancel makes no difference
 --     named-alone-on-bytes, deal-alone-on-bytes    on any bytes: a screen's answers depend on its own record alone
 --     own-call-.., others-stay-..          a call is its screen's own call, and every other record is as it was
@@ -54,7 +54,7 @@ use Rattle.claims.proofs.laws.ScreenLoads.{structs-wait, structs-clear}
 use Rattle.claims.proofs.laws.ScreenHistories as history
 
 -- ---- "A screen number above 7, the one to try first included, or a run of another length, gives 25, before everything
--- else.": whatever the records are
+-- else.": for any records
 
 another-length-on-structs : (ss ss′ : List Session) (c : ScreenCall) (a : ScreenAnswer) → ScreenInPlace ss c a ss′
     → (length ss ≡ 8 → ⊥) → (a ≡ one (refused 25)) × (ss′ ≡ ss)
@@ -105,7 +105,7 @@ screen-on-structs = history.screen-on-structs
 screen-on-bytes : ScreenHistory freshRun ScreensExports
 screen-on-bytes = history.screen-on-bytes
 
--- as one of them: a question of a screen that is carried to its end, by as many turns as it has parts
+-- one such statement: a question of a screen that is carried to its end, with one turn for each of its parts
 screen-finishes-on-structs : ScreenFinishes eightSessions ScreenInPlace
 screen-finishes-on-structs = history.screen-finishes eightSessions ScreenInPlace history.screen-on-structs
 

@@ -1,7 +1,7 @@
 -- What is claimed of lists of changes (document 02, S-4, S-5 and S-12), each proved by citing what is below.
---     superseding, laying-over, rising, nothing-else    what the two operations are, said without their definitions
+--     superseding, laying-over, rising, nothing-else    what the two operations are, without their definitions
 --     lay-tied, lay-numbers, lay-lists, lay-refused     what the exported call whatif_lay_over returns
---     changed-by, repeats-..                    a list with repeats is as good as its superseded form
+--     changed-by, repeats-..                    a list with repeats has the answers of its superseded form
 --     left-out, left, as-before, fewer-parts, either-way    changes that change nothing
 --     associative, empty, itself, swapped       the laws of laying over
 --     associative-call, empty-call, itself-call, swapped-call    with its numbers
@@ -242,8 +242,8 @@ still-a-plan : (p r vs bs : List ℕ) → firstNo (ruleTableChecks p r) ≡ 0
 still-a-plan = plan-passes
 
 -- "a question with the second on the plan changed by the first has the state of a question with the second laid over
--- the first on the plan itself, each on tables built from its own plan and left alone": whatever came of the two
--- questions, CleanOutcomes is what finished-answers (Main) and undisturbed-.. (Forms) give of each
+-- the first on the plan itself, each on tables built from its own plan and left alone": for any answers to the two
+-- questions. CleanOutcomes is what finished-answers (Main) and undisturbed-.. (Forms) give of each
 on-a-changed-plan : (x y : Inputs) (vs bs us cs : List ℕ) → PlanPasses (x .plan)
     → y .plan ≡ changedPlan (x .plan) vs bs → y .rules ≡ x .rules
     → (n m : ℕ) (ys zs : List Answer) → CleanOutcomes y us cs n ys

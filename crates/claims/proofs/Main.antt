@@ -5,8 +5,9 @@
 --     sample                                                       the sample clearance
 -- Forms: demands 1 and 2 of the calls by value and in place. Session: further statements about the session. Requests:
 -- Kept (S-1), Planner (S-2), Jumps (S-3), Lists (S-4, S-5, S-12), Products (S-6, S-13), PassedOver (S-7), EightScreens
--- (S-8), Branches (S-9), Choices (S-10), here (S-11), Colours, ColourSets (S-14). Contracts: each promise is its function's
--- own contract. What 01 wants proved besides: ProvedToo. What a word of a statement means: tools/believe, docs/PROVED.md.
+-- (S-8), Branches (S-9), Choices (S-10), here (S-11), Colours, ColourSets (S-14). Contracts: each promise is its
+-- function's own contract. What 01 wants proved besides: ProvedToo. What a word of a statement means: tools/believe,
+-- docs/PROVED.md.
 use Prim.Native.Nat.{ℕ, _<_}
 use mathlib.Core.Path.{_≡_}
 use mathlib.Core.Bool.{true, false}
@@ -61,7 +62,7 @@ start-18-on-bytes = refusal.start-18-on-bytes
 -- ---- demand 2. "On tables as built, a finished answer is the automaton's run on the changed plan (source document
 -- 002); a branch answer is the word automaton's."
 
--- of a question that Start accepted, undisturbed: Read's outcome is the fresh run's, after as many advances as parts
+-- of an undisturbed question that Start accepted: after one advance for each part, Read's outcome is the fresh run's
 finished-answers : QuestionsAnswered (replicate 983 0) Exports
 finished-answers = exported-questions
 

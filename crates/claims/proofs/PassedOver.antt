@@ -1,12 +1,11 @@
 -- Document 02, S-7: nodes passed over.
---     climb-passes       a climb passes over as many nodes as the depth of its start is above that of its end
---     between            on tables as built, of a question: no fewer than its links, no more than the plan is high for
---                        each part
---     told-between       and so in what Reads answer of an undisturbed question
+--     climb-passes       the number of nodes that a climb passes over is the depth of its start less that of its end
+--     between            on tables as built, of a question: at least its links, at most the plan's height for each part
+--     told-between       the same of what Reads answer about an undisturbed question
 --     stays-valid, stays-valid-on-bytes   for any inputs the record after a call keeps its conditions: links ≤ passed ≤
 --                        65,535 for each part handled
 --     gap                in the sample they equal the links; here they do not: 2 parts, 3 links, 5 nodes passed over
--- That Read tells the sum over the parts' climbs is demand 2 and 3 (Main), by freshAnswer (reference/specs/Reference).
+-- That Read returns the sum over the parts' climbs: demands 2 and 3 (Main), by freshAnswer (reference/specs/Reference).
 use Prim.Native.Nat.{ℕ, _-_, _*_, _≤_, _<_}
 use mathlib.Core.Path.{_≡_}
 use mathlib.Core.Bool.{Bool, true, false}

@@ -61,9 +61,9 @@ module _ (b p ps : List ℕ) (n : ℕ) (q qs : List ℕ) (D : OutDone b p ps n q
     planner.n-becomes-2n+1 b (length p) (length ps) bytes (sym (D .number) ∙ accepted),
   )
 
-  -- "Going out, a table of 16-bit numbers tells each planner node's place in our plan.": there stands that node
-  -- (`items` lists what our nodes are, in our order), with its label, and below it the image of its children's list
-  -- and of the siblings after it
+  -- "Going out, a table of 16-bit numbers tells each planner node's place in our plan.": at that place is that node
+  -- (`items` lists what our nodes are, in our order), with its label, and below it the image of its children's list and
+  -- of the siblings after it
   place-of-node : (v : ℕ) → v < fileCount b
       → (getD (items (fileTree b) 0) (getD qs v 0) none ≡ some v)
       × (labelAt (image (fileTree b)) (getD qs v 0) ≡ getD (labelRun b) v 0)

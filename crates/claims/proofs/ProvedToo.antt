@@ -147,8 +147,8 @@ parts-partition w t x h =
       only = λ u q. part-unique w t u (p .0) x q (p .1);
     }
 
--- ---- from an accepted Start that told n parts, n advances given the same and a Read answer more .., finished and the
--- fresh run's answer
+-- ---- after an accepted Start that returned n parts, n advances given the same and a Read answer more .., finished and
+-- the fresh run's answer
 
 answered-by-value : QuestionsFinish freshSession CallByValue
 answered-by-value = finishes-by-value
@@ -159,7 +159,7 @@ answered-in-place = finishes-in-place
 answered-on-bytes : QuestionsFinish (replicate 983 0) Exports
 answered-on-bytes = finishes-on-bytes
 
--- "at most three links for each binary digit of the plan's height", of the call that handles the part; on usable tables
+-- at most three links for each binary digit of the plan's height, of the call that handles the part; on usable tables
 part-links : (s s′ : Session) (x : Inputs) (a : Answer) (ps : List Part) → CallByValue s (advance x) a s′
     → valid s ≡ true
     → refusal (stageOf (recordOf s)) (advance x) ≡ 0 → Usable (recordOf s) x ps

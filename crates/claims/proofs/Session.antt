@@ -75,8 +75,8 @@ read-places : (b : List ℕ) (r : ℕ) (before after : Places) → ReadExported 
     → after ≡ before
 read-places = read-kept
 
--- ---- "Load and Cancel end in loaded with the record exactly as after a first Load of that plan.": whatever the record
--- was. Of Cancel, "in all but that answer", it is cancel-leaves (Kept)
+-- ---- "Load and Cancel end in loaded with the record exactly as after a first Load of that plan.": for any record
+-- before. For Cancel, "in all but that answer": cancel-leaves (Kept)
 
 load-leaves : (s s′ : Session) (x : Inputs) (a : Answer) → CallByValue s (load x) a s′ → a ≡ Answer.accepted
     → s′ ≡ sessionOf (loadedRecord (sizesIn x))

@@ -2,8 +2,8 @@
 --
 -- BranchAnswered reading p r u l n state yes links passed == on tables as built: the word automaton's state on the
 --   reading's word, its mark, the links of the tree's own climb and the nodes it passes over
--- BranchAnsweredOn p r nodeTable u l state yes links passed == on any tables: what is left of that
--- branchTableA == a branch table of 2 states and 2 labels: whether label 1 came an even number of times
+-- BranchAnsweredOn p r nodeTable u l state yes links passed == on any tables: what still holds of that
+-- branchTableA == a branch table of 2 states and 2 labels: whether label 1 occurs an even number of times
 use Prim.Native.Nat.{ℕ, _-_, _<_, _≤_}
 use mathlib.Core.Path.{_≡_}
 use mathlib.Core.List.{List, [], _∷_}

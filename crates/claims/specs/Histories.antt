@@ -13,8 +13,8 @@
 -- FreshRunAgrees fresh Step == such a Read has the state and the yes or no of fresh_run on Start's plan, rules and list
 -- StateOver fresh Step == two such questions, on a changed plan and with lists laid over, have one state
 -- Beyond c == a call of the screens that names a screen above 7, the one to try first included
--- ScreenHistory fresh Step == what a screen is answered, in every list of calls of the eight, is a single session's
--- ScreenFinishes fresh Step == a question of a screen, carried to its end, is answered as a single session's
+-- ScreenHistory fresh Step == a screen's answers, in every list of calls of the eight, are a single session's
+-- ScreenFinishes fresh Step == a question of a screen, carried to its end, is answered as one of a single session
 --
 -- What `supersededCalls` are: reference/specs/Superseding; `AnswerLasts`: reference/specs/Lasting; `advancesOf`,
 -- `AllSame` and `toTheEnd`: reference/specs/Finished; `ownCalls`, `ownAnswers`: screens/specs/Projection.

@@ -1,14 +1,14 @@
 -- What calls leave in the buffers that their caller passes in: Load's two tables, and the lists of laying over.
 --
--- filled table entry == what a buffer that held entry holds then: the table at its front, behind it what it held
--- Unwritten x nodeTable′ stateTable′ == both buffers hold what they held
+-- filled table entry == a buffer that held entry, once the table is written to its front: the rest is unchanged
+-- Unwritten x nodeTable′ stateTable′ == both buffers are unchanged
 -- Written x nodeTable′ stateTable′ == both hold the tables of the plan and the rules given, excess untouched
 -- TablesAfterLoad x denied nodeTable′ stateTable′ == the buffers after a Load given x, denied: whether it was refused
 -- TablesAfterLoadCall x r nodeTable′ stateTable′ == the same by the number r that an exported Load returns, 0: accepted
 -- HandsBack l nodes′ labels′ count′ == the first count′ entries of the two buffers are the nodes and the labels of l
 --
--- Plan and rules are passed in to be read alone, and no other session call is given a buffer to write: that is in the
--- functions' types.
+-- Plan and rules are passed in to be read only, and no other session call is given a buffer to write: the functions'
+-- types say so.
 use Prim.Native.Nat.{ℕ}
 use mathlib.Core.Path.{_≡_}
 use mathlib.Core.Bool.{Bool, true, false}

@@ -1,7 +1,7 @@
 -- What a caller reads of the output of whatif_merge and of whatif_agree (document 02, S-6 and S-13).
 --
--- mergedIn first second out == the merged table: as many bytes of the output as a table of S1 × S2 states and K labels
---   has
+-- mergedIn first second out == the merged table: the front of the output, as long as a table of S1 × S2 states and K
+--   labels
 -- lineIn lines i == line i of a buffer of four numbers a line (0 leaf or 1 inner, label, left line, right line)
 -- linesIn lines n == the first n lines
 -- numbersOfLines xs == the numbers of the lines xs, four each; a leaf's left and right are 0

@@ -1,10 +1,10 @@
 -- Propositions of claims/proofs/ProvedToo.
 --
--- ClimbTo t w to == the climb from node w to depth to: there is one, and this is what it is
+-- ClimbTo t w to == the climb from node w to depth to: it exists, and its moves, its end, their number and its ceiling
 -- ClimbTakes t w to n == it makes n moves
 -- RootsReady t vs l == the list l is the ready set of the listed nodes vs and the root: exactly its members, each once
 --   and rising
--- PartOf w t x == the member that roots the part of node x, and no other does
+-- PartOf w t x == node x is in the part of exactly one member
 use Prim.Native.Nat.{ℕ, _-_, _*_, _≤_}
 use mathlib.Core.Path.{_≡_}
 use mathlib.Core.Bool.{Bool}

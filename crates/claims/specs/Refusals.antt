@@ -1,13 +1,15 @@
 -- Demand 1 as a property of one call.
 --
--- RefusedBy n before c a after == call c is answered as its first failing check, number n or 0 for none, has it
+-- RefusedBy n before c a after == call c is answered as its first failing check requires: n is that check's number, or
+--   0 where none fails
 -- RefusedInOrder s c a s′ == the same of a session, by value or in place
 -- refusalFor b c == the number of call c's first failing check on record bytes b, or 0; 1 for bytes that are no record
--- RefusedOnBytes b c a b′ == the same of record bytes, whatever they hold
+-- RefusedOnBytes b c a b′ == the same of any record bytes
 -- Start18 r x vs bs a == the answer a of a Start on record r is 18 exactly where document 02, S-11, has it
--- StartSettled b x vs bs == the reference model's reply to a Start: the number of parts, or the first no's number
+-- StartSettled b x vs bs == the reference model's reply to a Start: the number of parts, or the number of the first
+--   failing check
 --
--- Which checks a call asks, and in which order, is `refusalOn` (crate session, Promises), by `refusal` (crate model,
+-- Which checks a call makes, and in which order: `refusalOn` (crate session, Promises), from `refusal` (crate model,
 -- Refusals). An advance's 18 is not among them: it is left to the program.
 use Prim.Native.Nat.{ℕ, suc}
 use mathlib.Core.Path.{_≡_}
@@ -51,7 +53,7 @@ abbrev pub Start18 : Record → Inputs → List ℕ → List ℕ → Answer → 
 Start18 r x vs bs a =
     (a ≡ refused 18) ↔ ((firstNo (checksBefore18 (stageOf r) x vs bs) ≡ 0) × (Sound (r .sizes) x → ⊥))
 
--- "Nothing about Start is left to the program then": its reply does not ask for the program's answer
+-- "Nothing about Start is left to the program then": its reply does not depend on the program's answer
 pub record StartSettled (b : Reference) (x : Inputs) (vs bs : List ℕ) : Type 0 where
   -- "Start: running, count 0, clean if sound; clean, it tells the number of parts."
   pub accepted : refusal (reference.stageOf b) (start x vs bs) ≡ 0

@@ -1,4 +1,4 @@
-// Branch questions by colours, on whatever is lent: from drop to drop down the path.
+// Branch questions by colours, for any inputs: from drop to drop down the path.
 pub mod answers;
 pub mod ask;
 mod steps;

@@ -1,2 +1,2 @@
-// The parts of a rule question by colours, on whatever is lent.
+// The parts of a rule question by colours, for any inputs.
 pub mod part;

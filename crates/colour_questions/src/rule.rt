@@ -1,4 +1,4 @@
-// The rule question by colours, on whatever is lent: superseding and equal labels as in the session.
+// The rule question by colours, for any inputs: superseding and equal labels as in the session.
 pub mod answers;
 pub mod ask;
 mod checks;

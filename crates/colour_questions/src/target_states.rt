@@ -1,2 +1,2 @@
-// One side of a part by colours, on whatever is lent: target states in rising order, until one is found.
+// One side of a part by colours, for any inputs: target states in rising order, until one is found.
 pub mod trials;

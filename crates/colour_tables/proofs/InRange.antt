@@ -82,7 +82,7 @@ module _ (n : ℕ) (step : ℕ → ℕ → ℕ) (t : Tree) (nums : List ℕ) (C 
           marks-ascend t m .rises v h (omega (arith, C c p b v h .depths)),
         )
 
-    -- where a marked node's number is told, the colour falls
+    -- where the colour falls, the table lands it on a lower one
     falls-there : (v : ℕ) → v < size t → fallsAt n step t c v ≡ true → c ≤ cellTable (size t) nums .lands c v → ⊥
     falls-there v h e o = omega (arith, ltb-true (landsAt n step t c v) c e, C c p b v h .lands)
 

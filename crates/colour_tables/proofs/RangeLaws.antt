@@ -1,4 +1,4 @@
--- Where a descent gives nothing, on whatever tables.
+-- Where a descent gives nothing, on any tables.
 --     descend-cause   a value of the tables leads outside, or not upward, or to no fall
 --     descend-low     where it ends, the colour is not above the first
 use Prim.Native.Nat.{ℕ, zero, suc, _+_, _≤_, _<_}

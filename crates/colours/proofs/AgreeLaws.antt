@@ -1,5 +1,5 @@
--- Tables that agree on their nodes lead down alike: so a lent table that says what a tree's own colours say.
---     fell-inside       a drop stands at one of the nodes
+-- Tables that agree on their nodes give the same descents; so does any table that agrees with a tree's own colours.
+--     fell-inside       a drop is at one of the nodes
 --     SameColour        two forests agree on n nodes, and so does what the colour lands on
 --     next-same         the next drop is the same
 --     descend-agree     and so is the whole descent

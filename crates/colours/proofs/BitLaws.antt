@@ -1,6 +1,6 @@
 -- The laws of sets of states as numbers.
 --     setOf-below     n states give a number below 2 ^ n
---     member-setOf    the members are those that the test says
+--     member-setOf    the members are those that pass the test
 --     member-single   2 ^ x is the set of x alone
 use Prim.Native.Nat.{ℕ, zero, suc, _+_, _*_, _/_, _%_, _^_, _<_}
 use mathlib.Core.Path.{_≡_, refl, sym, ap, _∙_}

@@ -39,7 +39,7 @@ holds-last : (q : ℕ) (xs : List ℕ) → holds q (xs ++ (q ∷ [])) ≡ true
 holds-last q [] = holds-here q []
 holds-last q (x ∷ xs) = holds-later q x (xs ++ (q ∷ [])) (holds-last q xs)
 
--- what is held is held before, or is the last
+-- a member of the longer list is in the shorter one, or is the element added
 holds-snoc : {P : Type 0} (q y : ℕ) (xs : List ℕ) → holds q (xs ++ (y ∷ [])) ≡ true → (holds q xs ≡ true → P)
     → (q ≡ y → P) → P
 holds-snoc q y [] e f g =
@@ -93,7 +93,7 @@ place-left q (x ∷ xs) ys e = go (eqb q x) e (place-left q xs ys)
     go true i ih = refl
     go false i ih = ap suc (ih i)
 
--- what is not there has the place past the end
+-- the place of a state that is not there is the length
 pub place-none : (q : ℕ) (xs : List ℕ) → holds q xs ≡ false → placeOf q xs ≡ length xs
 unfolding holds placeOf
 place-none q [] e = refl
@@ -204,7 +204,7 @@ takes-held xs q = go (holds q xs) refl
     )
     go false e = (holds-last q xs, place-le q xs [])
 
--- what takes its own state stands last
+-- a state that no lower colour has is taken by the next colour: its place is the last
 pub place-last : (xs : List ℕ) (q : ℕ) → holds q xs ≡ false → placeOf q (xs ++ (takes xs q ∷ [])) ≡ length xs
 unfolding takes
 place-last xs q e = rw e (place-new xs q e)

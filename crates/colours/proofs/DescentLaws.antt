@@ -1,5 +1,5 @@
 -- Going down from drop to drop.
---     next-.., descend-..          the equations of a drop and of a descent, on whatever table
+--     next-.., descend-..          the equations of a drop and of a descent, on any table
 --     Left, left-top, left-node    how many places of a path are left: from the top copy, from a node's copy
 --     descend-tree                 on a tree's own colours a descent is never stuck; it ends with the colour that the
 --                                  way leads to, its drops are the places where the colour falls, and each search is
@@ -131,7 +131,8 @@ module _ (t : Tree) where
   marksBy m none = 0
   marksBy m (some z) = marksAt t m z
 
-  -- the copy z stands k places above l: whatever is marked, those places have what l has and z has not
+  -- the copy z is k places above l: for any marks, those k places have the marked nodes at l or above that are not at
+  -- z or above
   abbrev pub Left : Place → ℕ → ℕ → Type 0
   Left z l k = (m : ℕ → Bool) → marksAt t m l ≡ marksIn t m l k + marksBy m z
 

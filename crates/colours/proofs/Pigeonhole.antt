@@ -106,7 +106,7 @@ remove-distinct x (y ∷ l) e =
     (holds-not y (remove x l) (λ i. true-false (sym (remove-from x y l i) ∙ distinct-head y l e)))
     (remove-distinct x l (distinct-tail y l e))))
 
--- it stood there once
+-- it was there only once
 remove-gone : (x : ℕ) (l : List ℕ) → distinct l ≡ true → holds x (remove x l) ≡ true → ⊥
 remove-gone x [] e h = true-false (sym (unfold holds remove in h))
 remove-gone x (y ∷ l) e h =

@@ -25,7 +25,7 @@ recolour-sample : recolour (λ q. getD (2 ∷ 2 ∷ 0 ∷ []) q 0) (0 ∷ 1 ∷ 
 unfolding recolour recolourFrom takes lowestFree freeFrom holds
 recolour-sample = refl
 
--- labels: 0 turns the states, 1 takes 0 to 2, 2 takes 2 to 1
+-- labels: 0 rotates the states, 1 takes 0 to 2, 2 takes 2 to 1
 abbrev B : WordAutomaton
 B = record {
   states = 3;

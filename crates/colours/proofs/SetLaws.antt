@@ -1,4 +1,4 @@
--- Climbs by colours over sets of states tell the state of the climb.
+-- Climbs by colours over sets of states give the state of the climb.
 --     setStep-root           the root's own copy is the top copy
 --     set-walk               a state is in the set at w to which a set T at k places above leads exactly where the
 --                            climb's walk of k steps takes it into T
@@ -45,7 +45,7 @@ more f m a b h k = omega arith
 once : (f m a : ℕ) → a ≤ m → a ≤ suc f * m
 once f m a h = omega arith
 
--- ---- one trial on whatever table and copies
+-- ---- one trial on any table and copies
 
 module _ (T : ColourTable) (rows : ℕ → List ℕ) (c w q x : ℕ) (later : Option Tried) where
   pub try-uncoloured : length (rows c) ≤ targetColour rows c x → tryOne T rows c w q x later ≡ none

@@ -1,4 +1,4 @@
--- Branch questions by colours tell what the word automaton does, for either reading of the word.
+-- Branch questions by colours answer as the word automaton does, for either reading of the word.
 --     stateDown-word   the steps down a path read its word
 --     upper-answer     with the upper node: the run on the word from u down to l
 --     below-answer     without it: the run on the labels below u
@@ -67,7 +67,7 @@ module _ (B : WordAutomaton) (t : Tree) (below : (q a : ℕ) → B .step q a < B
         few = D .few;
       }
 
-  -- as many drops as there are places on those k where the colour falls
+  -- the number of drops is that of the places on those k where the colour falls
   drops-are : (z : Place) (l k c : ℕ) → l < size t → c < n → Left t z l k → (d : Descent)
       → descend (colourTableOf n (wordStep B t) t) c z l c ≡ some d → drops d ≡ dropsDown n (wordStep B t) t l k c
   drops-are z l k c h b left d e =
@@ -103,7 +103,7 @@ module _ (B : WordAutomaton) (t : Tree) (below : (q a : ℕ) → B .step q a < B
 
     -- ---- with it
 
-    -- the copy above u stands one place higher
+    -- the copy above u is one place higher
     left-above : Left t (aboveOf t u) l (suc (depth t l - depth t u))
     unfolding aboveOf
     left-above = elim (ℕ-discrete (u + 1) (size t)) [

@@ -1,7 +1,7 @@
 -- A colouring of a copy of the states, and the next copy's from it (source document 002, 2.2.3 and chapter 3).
 --
--- A copy is the list of its states in the order of their colours: element c has document 02's colour c + 1. The
--- numbers of colours stand in no answer, so they start from 0 here, as states and nodes do.
+-- A copy is the list of its states in the order of their colours: element c has document 02's colour c + 1. No answer
+-- contains a colour's number, so colours start from 0 here, as states and nodes do.
 --
 -- lowestFree xs == the lowest number that is not in xs
 -- takes xs q == what the next colour takes where the lower colours have xs and its state above leads to q

@@ -1,9 +1,9 @@
--- From drop to drop down a path, on whatever table of colours.
+-- From drop to drop down a path, on any table of colours.
 --
 -- ColourTable == for each colour a forest (parent, jump and depth for each node) and, for each node, the colour it
 --   lands on
 -- Place == a copy: of a node (some z), or the top copy above the root (none)
--- seen T c z == how many of the nodes where colour c falls stand at z or above, as the table says
+-- seen T c z == the number of nodes at z or above where colour c falls, by the table
 -- lowestOf T c l == the lowest of them at l or above
 -- Next == what comes next on the way to l: no drop (done), a drop at a node to a lower colour found by some links
 --   (fell), or nothing (lost): a search that would leave the nodes or not rise, or a colour that would not fall
@@ -58,7 +58,7 @@ unfoldable pub fellBy : Forest → (ℕ → ℕ) → ℕ → ℕ → Option (Lis
 fellBy F lands c v none = lost
 fellBy F lands c v (some ms) = fellAt c lands (climbEnd F v ms) (length ms)
 
--- to the highest of those that stand below the first `to` of them
+-- to the highest of those that are below the first `to` of them
 unfoldable pub nextFrom : Forest → (ℕ → ℕ) → ℕ → ℕ → ℕ → Next
 nextFrom F lands c to l =
     let searched = fellBy F lands c (lowestIn F lands c l) (climb F (lowestIn F lands c l) to) in

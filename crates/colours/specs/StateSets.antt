@@ -1,13 +1,13 @@
 -- Climbs by colours over sets of states: the instance for rule tables.
 --
--- setOf n p == the number of the set of those of n states that p tells: 2 to the power k for each member k
+-- setOf n p == the number of the set of those of n states for which p holds: 2 to the power k for each member k
 -- member T k == whether state k is in the set numbered T
 -- setStep A t v T == the states at node v that lead into the set T at its parent; into the root's copy nothing
 --   changes, so the root's own copy is the top copy
 -- targetColour rows c x == the colour of the set {x} in the copy of node c, where rows are the copies of the nodes
 -- setAt rows w d == the set that a descent d to node w ends with
 -- Tried == the target state that was found, and the links of each search of all trials
--- tryFrom T rows c w q f x == on whatever table and copies: the target states at node c from x on, f of them, until the
+-- tryFrom T rows c w q f x == on any table and copies: the target states at node c from x on, f of them, until the
 --   set that one leads down to at w holds q; none (18) where no colour has the set {x}, a descent has none, or no set
 --   holds q
 -- tryTargets A t c w q == the same by the tree's own colours, all target states in rising order

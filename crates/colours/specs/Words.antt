@@ -4,9 +4,9 @@
 -- aboveOf t u == the copy above node u: its parent's, or the top copy
 -- withUpper B t u l == the descent of the question whose word runs from u down to l, both included
 -- belowUpper B t u l == the one whose word leaves out u: the plain call
--- wordState B t l d == the state that such a descent tells
+-- wordState B t l d == the state that such a descent gives
 --
--- Both are put for a node l at u or below it. State 0 is the start; its colour is looked up in the copy where the
+-- Both are asked for a node l at u or below it. State 0 is the start; its colour is looked up in the copy where the
 -- word begins.
 use Prim.Native.Nat.{ℕ, _+_}
 use mathlib.Core.Bool.{cond}

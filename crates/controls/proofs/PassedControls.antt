@@ -1,7 +1,7 @@
 -- A control of document 02's S-7 through the calls, computed: in 01's sample the nodes passed over equal the links in
 -- every line, here they do not.
 --     gap-told         N 13, the list 1→0, 3→1: 2 parts, 3 links, 5 nodes passed over, which the reference model settles
---     gap-turned-down  and turns down the links told in their place, one node less, and one more
+--     gap-turned-down  and rejects the number of links in their stead, one node less, and one more
 use Prim.Native.Nat.{ℕ}
 use mathlib.Core.Path.{_≡_, refl}
 use mathlib.Core.Bool.{Bool, true, false}

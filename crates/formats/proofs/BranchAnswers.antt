@@ -32,7 +32,7 @@ module _ (b : List ℕ) (s k : ℕ) where
   branch-end m d e f =
       rw (eq-eqb (le32 b 8) 16 e, eq-eqb (le32 b 12) (16 + s * k) f) (ap (λ (i : ℕ). eqb (length b) (i + s)) d)
 
-  -- what its yes tells
+  -- what its yes means
   pub branch-exact : branchShape b s k ≡ true → length b ≡ branchLength s k
   branch-exact e =
       let size : Bool = eqb (length b) (branchLength s k) in

@@ -4,7 +4,7 @@
 --     branch-numbered             no check has the number 0
 --     length-branchSteps, length-branchMarks
 --     step-below, branch-mark-below
---                                 every state and mark in its limit, at every place: past the end it is 0
+--                                 every state and mark in its limit, at every index: past the end it is 0
 --     steps-part, branch-marks-part
 --                                 what `&branch[16..16 + s * k]` and `&branch[16 + s * k..]` are to a proof
 use Prim.Native.Nat.{ℕ, _+_, _-_, _*_, _≤_, _<_}

@@ -1,4 +1,4 @@
--- Check 17, question by question.
+-- Check 17, test by test.
 --     limits-none, limits-many, limits-end     limitsFit by its tests; the last decides where the others pass
 --     Limits, limits-are, are-limits           what it says, by name: where it says yes, and back
 --     plan-no, table-no, buffers-end           the same for buffersFit

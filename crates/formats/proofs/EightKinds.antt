@@ -1,4 +1,4 @@
--- Eight kinds at a time: what the sums over one number tell of the trees that wait.
+-- Eight kinds at a time: what the sums over one number say about the trees that wait.
 --     all-eight     one computed test over all 256 lists of eight kinds, with 0 to 16 trees waiting before
 --     high-clear    the mask's test is that no byte is 128 or more
 --     Eight, eight  what after_eight needs of the kinds that it reads
@@ -107,7 +107,7 @@ below-at (suc n) f e t h = elim (decLt t n) [
   | no l ↦ (let s : n ≡ t = omega arith in subst (λ (m : ℕ). f m ≡ true) s (and-left (f n) (below n f) e))
 ]
 
--- whether a test and twice the inner nodes tell what waits after eight kinds, where t waited before
+-- whether a test and twice the inner nodes give what waits after eight kinds, where t waited before
 pub tells : Option ℕ → Bool → ℕ → ℕ → Bool
 tells none clear p t = not clear
 tells (some v) clear p t = clear && eqb (v + p) (t + 8) && ltb 0 v

@@ -3,7 +3,7 @@
 --     rule-table-passes, passes-rule-table       2 to 10 for a rule table; branch-table-passes, passes-branch-table for a branch table
 --     build-passes, passes-build                 2 to 11; branch-build-passes, passes-branch-build
 --     fresh-run-passes, passes-fresh-run         2 to 10, then 12 to 14
---     label-below                 every label of the plan is below K, at every place: past the end it is 0
+--     label-below                 every label of the plan is below K, at every index: past the end it is 0
 --     build-table, branch-build-table, fresh-run-table
 --                                 where 2 to 11, or 2 to 14, pass, 2 to 10 do
 use Prim.Native.Nat.{ℕ, _+_, _≤_, _<_}
@@ -123,7 +123,7 @@ module _ (p r : List ℕ) where
       numbered-append (planChecks p) (branchChecks r ++ last) (plan-numbered p)
       (numbered-append (branchChecks r) last (branch-numbered r) (omega arith, tt))
 
-  -- at every place: past the end getD gives 0
+  -- at every index: past the end getD gives 0
   pub label-below : 1 ≤ labelCount r → allBelow (labelCount r) (labelsIn p) ≡ true → (j : ℕ) → getD (labelsIn p) j 0 < labelCount r
   label-below h e j = allBelow-all (labelCount r) (labelsIn p) e h j
 

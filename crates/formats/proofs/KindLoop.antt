@@ -1,4 +1,4 @@
--- One turn, and the end, of the loop over the last kinds, which has no branch: what is known after i kinds.
+-- One iteration, and the end, of the loop over the last kinds, which has no branch: what is known after i kinds.
 --     Counted         the count starts at `none`, the number of kinds; where the running answer is yes, w - none trees wait
 --     counted-start, counted-iteration, counted-end
 use Prim.Native.Nat.{ℕ, _+_, _-_, _*_, _%_, _≤_, _<_}

@@ -1,7 +1,7 @@
 -- Plans that pass 2 to 5.
 --     PlanPasses p                 what the four checks say of a plan, by name; plan-passes, passes-plan: exactly where none fails
 --     plan-numbered                no check has the number 0
---     within-low .. within-next    what a test of a range tells; product-most: a product of numbers within limits
+--     within-low .. within-next    what a test of a range means; product-most: a product of numbers within limits
 --     length-kindsIn, length-labelsIn, kinds-planTree, labels-planTree, size-planTree
 --                                  the two runs of such a plan and its tree
 --     labels-part, kinds-part      what `&plan[12..12 + n]` and `&plan[12 + n..]` are to a proof

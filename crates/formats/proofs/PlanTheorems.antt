@@ -2,7 +2,7 @@
 --     plan-decodes        bytes pass 2 to 5 exactly when they are the plan of a tree of at most 65,535 nodes
 --     one-tree, only-tree two trees have no plan in common, so it is the tree that is read
 --     one-node            N 1 is accepted with 14 bytes
---     two-nodes           N 2 gets 5, whatever the kinds; two-nodes-any: there are such bytes
+--     two-nodes           N 2 gets 5, for any kinds; two-nodes-any: there are such bytes
 use Prim.Native.Nat.{ℕ, zero, suc, _+_, _≤_}
 use mathlib.Core.Path.{_≡_, refl, sym, ap, _∙_, subst}
 use mathlib.Core.Bool.{true, false}
@@ -64,7 +64,7 @@ two-kinds (zero ∷ suc (suc l) ∷ []) e = refl
 two-kinds (suc zero ∷ l ∷ []) e = refl
 two-kinds (suc (suc k) ∷ l ∷ []) e = refl
 
--- N 2 gets 5, whatever labels and kinds stand in its 16 bytes
+-- N 2 gets 5, for any labels and kinds in its 16 bytes
 pub two-nodes : (p : List ℕ) → length p ≡ 16 → nodeCount p ≡ 2 → le32 p 4 ≡ 12 → le32 p 8 ≡ 14 → firstNo (planChecks p) ≡ 5
 two-nodes p h n a b =
     let kinds : length (kindsIn p) ≡ 2 = length-part p (12 + nodeCount p) (nodeCount p) (omega arith) ∙ n in

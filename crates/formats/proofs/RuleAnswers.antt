@@ -42,7 +42,7 @@ module _ (s k : ℕ) where
   pub counts-last : 1 ≤ s → s ≤ 16 → 1 ≤ k → leb k 64 ≡ countsFit s k
   counts-last a b c = rw (le-leb 1 s a, le-leb s 16 b, le-leb 1 k c)
 
-  -- what its yes tells
+  -- what its yes means
   pub counts-answer : countsFit s k ≡ true → (1 ≤ s) × (s ≤ 16) × (1 ≤ k) × (k ≤ 64)
   counts-answer e =
       let a : within 1 stateLimit s ≡ true = and-left (within 1 stateLimit s) (within 1 labelLimit k) e in
@@ -66,7 +66,7 @@ module _ (b : List ℕ) (s k : ℕ) where
   shape-end m d e f g =
       rw (eq-eqb (le32 b 8) 20 e, eq-eqb (le32 b 12) (20 + k) f, eq-eqb (le32 b 16) (20 + k + s * k * s) g) (ap (λ (i : ℕ). eqb (length b) (i + s)) d)
 
-  -- what its yes tells
+  -- what its yes means
   pub shape-exact : ruleShape b s k ≡ true → length b ≡ ruleLength s k
   shape-exact e =
       let size : Bool = eqb (length b) (ruleLength s k) in

@@ -3,8 +3,8 @@
 --     rules-numbered              no check has the number 0
 --     length-leafStates, length-innerStates, length-ruleMarks
 --     leaf-state-below, inner-state-below, mark-below
---                                 every state and mark in its limit, at every place: past the end it is 0
---     rule-in                     the place of a rule is inside the inner states
+--                                 every state and mark in its limit, at every index: past the end it is 0
+--     rule-in                     the index of a rule is inside the inner states
 --     leaves-part, inner-part, marks-part
 --                                 what `&rules[20..20 + k]`, `&rules[20 + k..20 + k + s * k * s]` and the rest are to a proof
 use Prim.Native.Nat.{ℕ, _+_, _-_, _*_, _≤_, _<_}

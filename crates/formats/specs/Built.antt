@@ -23,7 +23,7 @@ builtStateTable p r = stateTableOf (ruleAutomaton r) (planTree p)
 abbrev pub builtBranchTable : List ℕ → List ℕ → List ℕ
 builtBranchTable p r = branchTableOf (branchAutomaton r) (planTree p)
 
--- the part of a lent buffer that n nodes (and s states) use
+-- the part of a buffer that n nodes (and s states) use
 abbrev pub nodeTablePart : ℕ → List ℕ → List ℕ
 nodeTablePart n nodeTable = take (nodeTableLength n) nodeTable
 

@@ -1,6 +1,6 @@
--- The questions put to each call, by number and in order.
+-- The checks of each call, by number and in order.
 --
--- Check == a number and whether its question is answered with yes
+-- Check == a number and whether the check of that number passes
 -- firstNo cs == the number of the first check that fails; 0 where none does
 -- planChecks p == 2 to 5; ruleChecks r, branchChecks r == 6 to 9; labelCheck == 10; roomCheck == 11; listChecks == 12 to 14
 -- ruleTableChecks p r, branchTableChecks p r == 2 to 10

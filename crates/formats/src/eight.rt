@@ -58,8 +58,8 @@ fn few(trees: usize) -> usize
 }
 
 // Whether two trees wait at each inner node of the eight, where `trees` waited before them.
-// A tree is missing at a kind where twice the inner nodes up to it exceed these trees by more than its place: then the high bit of
-// its byte is set.
+// A tree is missing at a kind where twice the inner nodes up to it exceed these trees by more than its position: then
+// the high bit of its byte is set.
 pub fn trees_suffice(twice: usize, trees: usize) -> bool
     requires { ⌜ twice < 2000000000000000000 ⌝ }
     ensures { λ r. ⌜ r ≡ sufficient twice trees ⌝ }

@@ -8,7 +8,7 @@
 //     lists    checks 12 to 14, and 15 as a test
 //     inputs   the checks of whole calls, 10 and 11 among them
 //     buffers  check 17
-// A check answers the number of the first question that is answered with no, and 0 where none is.
+// A check returns the number of the first test that fails, and 0 where none does.
 mod branch;
 pub mod buffers;
 pub mod bytes;

@@ -1,4 +1,4 @@
--- What lists in a row have at a place.
+-- The elements of appended lists, by index.
 --     at-left, at-middle, at-right   three lists, one after the other
 --     getD-past                      a list put in front of the rest of another: past it, the other as it was
 use Prim.Native.Nat.{ℕ, _+_, _-_, _≤_, _<_}

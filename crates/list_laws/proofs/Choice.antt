@@ -1,6 +1,6 @@
--- A choice made by a Bool test, and how to prove something of it: by the fact that the test stands for.
+-- A choice made by a Bool test, and how to prove something of it: by the fact that the test decides.
 --     by-test, by-eq, by-le, by-lt   one proof for each answer of the test
---     le-or                          two cases for a goal in which no test stands
+--     le-or                          two cases for a goal without a test
 use mathlib.Core.Path.{_≡_, refl}
 use mathlib.Core.Bool.{Bool, true, false, cond}
 use Prim.Native.Nat.{ℕ, _≤_, _<_}

@@ -1,8 +1,8 @@
--- One turn, and the end, of the loops over lists: what is known of the elements passed and of those still to come.
+-- One iteration, and the end, of the loops over lists: what is known of the elements passed and of those still to come.
 --     below-iteration, below-end       allBelow with a running answer
 --     holds-iteration, holds-end       holds with a running answer
 --     distinct-no, distinct-yes, distinct-end
---                                 distinct from a place on
+--                                 distinct from an index on
 use Prim.Native.Nat.{ℕ, _+_, _-_, _≤_, _<_}
 use mathlib.Core.Path.{_≡_, refl, sym, ap, _∙_}
 use mathlib.Core.Bool.{Bool, true, false, not, _&&_, _||_}
@@ -15,7 +15,7 @@ use Rattle.list_laws.specs.Tests.{allBelow, holds, distinct}
 use Rattle.list_laws.proofs.BoolLaws.{and-assoc, or-assoc, and-yes, or-no}
 use Rattle.list_laws.proofs.SliceLaws.{rest-part}
 
--- the elements from place i on: the one there, and those after it
+-- the elements from index i on: the one there, and those after it
 from : (l : List ℕ) (i : ℕ) → i < length l → drop i l ≡ getD l i 0 ∷ drop (i + 1) l
 from l i h = rw add-one (drop-cons l i 0 h)
 

@@ -1,5 +1,5 @@
--- The laws of tables of rows, for any width w: cell k of row v stands at v * w + k.
---     stride .. cell-split      places: rows do not overlap, and every place below n * w is a cell
+-- The laws of tables of rows, for any width w: cell k of row v is at v * w + k.
+--     stride .. cell-split      indices: rows do not overlap, and every index below n * w is a cell
 --     length-tabulate ..        a list by its entries
 --     length-rows, getD-rows    a table by its cells
 --     rows-of-cells .. take-over  a buffer whose cells are a table's begins with the table, and back
@@ -14,7 +14,7 @@ use lib.Seq.{ext-getD, getD-append-add, getD-append-seam, getD-take, length-take
 use Rattle.list_laws.specs.Rows.{tabulate, rows}
 use Rattle.list_laws.proofs.AppendLaws.{getD-past}
 
--- ---- places
+-- ---- indices
 
 -- row v begins after row u has ended
 pub stride : (w u v : ℕ) → u < v → u * w + w ≤ v * w
@@ -31,7 +31,7 @@ cells-apart w u v a b ha hb ne e = elim (decLt u v) [
 pub cell-in : (w n v k m : ℕ) → v < n → k < w → n * w ≤ m → v * w + k < m
 cell-in w n v k m h l room = omega (arith, stride w v n h)
 
--- place j is cell `column` of row `row`
+-- index j is cell `column` of row `row`
 pub record Cell (w n j : ℕ) : Type 0 where
   pub row : ℕ
   pub column : ℕ

@@ -1,6 +1,6 @@
 -- The laws of the parts of a slice: what `&s[a..]` and `&s[a..a + n]` are to a proof.
 --     rest-part, end-part    the rest of the list, and the rest where n elements follow
---     run-part, length-part  n elements from place a on
+--     run-part, length-part  n elements from index a on
 --     rest-cut               the rest of the list is a run and the rest behind it; append-both: two equal runs joined
 use Prim.Native.Nat.{ℕ, _+_, _-_, _≤_}
 use mathlib.Core.Path.{_≡_, sym, ap, ap₂, _∙_}
@@ -24,7 +24,7 @@ run-part s a n = let q : a + n - a ≡ n = omega arith in ap (λ (i : ℕ). take
 pub length-part : (s : List ℕ) (a n : ℕ) → a + n ≤ length s → length (take n (drop a s)) ≡ n
 length-part s a n h = simp (length-take, length-drop) (omega arith)
 
--- a run of n elements from place a on, and what stands behind it
+-- a run of n elements from index a on, and what comes after it
 pub rest-cut : (s : List ℕ) (a n b : ℕ) → b ≡ a + n → drop a s ≡ take n (drop a s) ++ drop b s
 rest-cut s a n b e =
     sym (take-append-drop n (drop a s))

@@ -1,9 +1,10 @@
--- The laws of the tests of lists: what allBelow, holds, distinct and sameList tell, element by element.
---     allBelow-at, allBelow-all   every element is below, by its place; with 0 < n at every place, past the end too
+-- The laws of the tests of lists: what allBelow, holds, distinct and sameList mean, element by element.
+--     allBelow-at, allBelow-all   every element is below, by its index; with 0 < n at every index, past the end too
 --     at-allBelow                 and back; allBelow-not: else one of them is not
 --     allBelow-cons, allBelow-le  one element more; a greater bound
 --     sameList-true, sameList-refl, sameList-false
---     holds-at, distinct-at       an element that is held has a place; two places of a distinct list differ; at-distinct back
+--     holds-at, distinct-at       an element has an index; two indices of a distinct list have different elements;
+--                                 at-distinct back
 use Prim.Native.Nat.{ℕ, zero, suc, _≤_, _<_}
 use mathlib.Core.Path.{_≡_, refl, sym, ap, ap₂, _∙_}
 use mathlib.Core.Bool.{Bool, true, false, not, _&&_, _||_}
@@ -24,7 +25,7 @@ allBelow-at n [] j e h = absurd (omega arith)
 allBelow-at n (x ∷ l) zero e h = ltb-true x n (and-left (ltb x n) (allBelow n l) e)
 allBelow-at n (x ∷ l) (suc j) e h = allBelow-at n l j (and-right (ltb x n) (allBelow n l) e) (omega arith)
 
--- at every place: past the end getD gives 0
+-- at every index: past the end getD gives 0
 pub allBelow-all : (n : ℕ) (l : List ℕ) → allBelow n l ≡ true → 0 < n → (j : ℕ) → getD l j 0 < n
 allBelow-all n l e h j =
     elim (decLt j (length l)) [
@@ -91,7 +92,7 @@ at-holds x (y ∷ l) (suc j) h e = go (eqb x y) (at-holds x l j (omega arith) e)
     go true r = refl
     go false r = r
 
--- what is in no place is not held
+-- what is at no index is not an element
 pub never-holds : (x : ℕ) (l : List ℕ) → ((j : ℕ) → j < length l → getD l j 0 ≡ x → ⊥) → holds x l ≡ false
 unfolding holds
 never-holds x [] f = refl
@@ -110,7 +111,7 @@ pub distinct-cons : (x : ℕ) (l : List ℕ) → holds x l ≡ false → distinc
 unfolding distinct
 distinct-cons x l e f = rw e f
 
--- two places of a distinct list hold different numbers
+-- a distinct list has different numbers at different indices
 pub distinct-at : (l : List ℕ) (i j : ℕ) → distinct l ≡ true → i < j → j < length l → getD l i 0 ≡ getD l j 0 → ⊥
 distinct-at [] i j e h k q = absurd (omega arith)
 distinct-at (x ∷ l) zero zero e h k q = omega arith

@@ -2,7 +2,7 @@
 --
 -- allBelow n l == whether every element of l is below n
 -- holds x l == whether x is an element of l
--- distinct l == whether no element stands twice in l
+-- distinct l == whether no element is in l twice
 -- sameList l m == whether l and m are the same list
 use Prim.Native.Nat.{ℕ}
 use mathlib.Core.Bool.{Bool, true, false, not, _&&_, _||_}

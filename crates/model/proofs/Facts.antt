@@ -46,7 +46,7 @@ pub record Layers : Type 0 where
   -- the roots of a list rise to the plan's root and are few
   pub roots-are : (z : Sizes) (x : Inputs) (vs : List ℕ) → nodeTableBuilt z x ≡ true → allBelow (z .n) vs ≡ true
       → RootsAre (z .n) (length vs) (rootsIn x vs)
-  -- "an advance goes on as always and stores and counts what this rule gives on those bytes", whatever nodes ws are W
+  -- "an advance goes on as always and stores and counts what this rule gives on those bytes", for any nodes ws as W
   pub part-built : (z : Sizes) (y : Inputs) (vs bs : List ℕ) (x : Inputs) (ws : List ℕ) (ps : List Part) → SettledInputs z y vs bs x
       → Handled (z .s) (rootsIn y ws) ps → length ps < length (rootsIn y ws)
       → partOn (viewBy z x) (take (length ps) (rootsIn y ws)) (statesOf ps) vs bs (nextRoot (rootsIn y ws) ps)

@@ -2,13 +2,13 @@
 --
 -- Call == a call with its inputs beside the record; Cancel and Read need only the record
 -- Answer == "Compared are acceptance, refusal numbers and what Start, advance and Read tell."
--- Outcome == what Read tells; outcomeAnswer s y p l d == the answer with these five values
+-- Outcome == what Read returns; outcomeAnswer s y p l d == the answer with these five values
 -- onRefused f d a, onParts f d a, onOutcome f d a == f of a refusal's number, of Start's parts, of Read's outcome; d of any other
 --   answer
 -- onAdvance m f d a == m of more, f of finished; d of any other answer
 -- isRefused a == whether an answer is a refusal
 -- Phase == which of the four states a session is in
--- mayLoad, mayStart, isRunning == in which states a call may be made; Read goes by whether an answer is there
+-- mayLoad, mayStart, isRunning == in which states a call may be made; Read depends on whether there is an answer
 -- isSome o == whether an option holds something
 use Prim.Native.Nat.{ℕ}
 use mathlib.Core.Bool.{Bool, true, false}
@@ -43,7 +43,7 @@ pub data Answer : Type 0 where
 abbrev pub outcomeAnswer : ℕ → Bool → ℕ → ℕ → ℕ → Answer
 outcomeAnswer s y p l d = outcome (record { state = s; yes = y; parts = p; links = l; passed = d })
 
--- ---- cases of an answer, each said once
+-- ---- cases of an answer, shared
 
 abbrev pub onRefused : {A : Type 0} → (ℕ → A) → A → Answer → A
 onRefused f d (refused n) = f n

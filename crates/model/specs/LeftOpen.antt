@@ -1,12 +1,12 @@
--- What holds of an advance whatever its inputs: the properties of what document 01 leaves to the program.
+-- What holds of an advance for any inputs: the properties of what document 01 leaves to the program.
 --
 -- Usable r x ps == "plan and rules name the record's N, S and K and, like the 16-bit numbers, are .. as built, but run states and maps
 --   are any bytes below S"; the record's roots are the plan's for some W, and ps the parts handled so far
 -- ruleGives r x ps == the state, links and nodes passed over that the rule of document 01 gives for the next part
--- AdvanceProperties r x a r′ == of an advance's: one state more, below S, the links of one climb, and as many nodes passed over or
---   more, at most the greatest depth lent; 18 only where a value leads out of
---   range; on usable tables the rule's, never 18
--- LeftOpen r c a r′ == of a call's; the others leave nothing to the program
+-- AdvanceProperties r x a r′ == those of an advance: one more state, below S; the links of one climb, and no fewer
+--   nodes passed over, at most the greatest depth in the node table; 18 only where a value is out of range; on usable
+--   tables what the rule gives, never 18
+-- LeftOpen r c a r′ == those of a call; the calls other than advance leave nothing to the program
 use Prim.Native.Nat.{ℕ, _+_, _≤_, _<_}
 use mathlib.Core.Path.{_≡_}
 use mathlib.Core.Bool.{true, false}

@@ -10,7 +10,7 @@
 -- act r c == a call on a record: the answer and the record then
 -- Does r c a r′ == the same as a relation
 --
--- What an advance leaves to the program goes by a definition of the questions layer: partOn; 18 where it gives none.
+-- What an advance leaves to the program is defined in the questions layer: partOn; 18 where it gives none.
 use Prim.Native.Nat.{ℕ, zero, suc, _+_, _*_}
 use mathlib.Core.Path.{_≡_}
 use mathlib.Core.Bool.{Bool, true, false, cond}
@@ -91,7 +91,7 @@ marksBy z x = take (z .s) (drop (20 + z .k + z .s * z .k * z .s) (x .rules))
 
 -- ---- Start: "running", no part state, no link
 
--- document 02, S-5: "A listed node whose label equals the plan's is left out of W", the plan that Start is lent
+-- document 02, S-5: "A listed node whose label equals the plan's is left out of W", the plan given to Start
 abbrev pub leftIn : Inputs → List ℕ → List ℕ → List ℕ
 leftIn x vs bs = differing (labelsIn (x .plan)) vs bs
 

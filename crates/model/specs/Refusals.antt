@@ -1,4 +1,4 @@
--- The refusal of each session call, an advance's 18 apart: "The first no gives its number".
+-- The refusal of each session call, except an advance's 18: "The first no gives its number".
 --
 -- Stage == what the checks ask of a session: which state it is in, the N, S and K of the last accepted Load, and whether a finished answer
 --   is there

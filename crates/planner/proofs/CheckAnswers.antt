@@ -1,4 +1,4 @@
--- What each answer of the two checks stands for.
+-- What each answer of the two checks means.
 --     out-19, out-20, out-21, out-good         going out: one law for each number
 --     OutPasses, out-passes                    what is known where nothing fails
 --     home-19, home-21, home-good              going home

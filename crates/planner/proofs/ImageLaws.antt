@@ -4,7 +4,7 @@
 --     image-unimage      a tree with label 63 at its leaves is the image of its siblings: what goes home comes from
 --       there
 --     length-items       as many items as nodes
---     place-item         the place given for planner node v is where it stands; item-place: and back
+--     place-item         the place given for planner node v is where it is; item-place: and back
 use Prim.Native.Nat.{ℕ, zero, suc, _+_, _*_, _-_, _≤_, _<_}
 use mathlib.Core.Path.{_≡_, refl, sym, ap, ap₂, _∙_}
 use mathlib.Core.Bool.{true, _&&_}
@@ -48,7 +48,7 @@ length-places empty lo = refl
 length-places (sibling a c r) lo =
     simp (length-append, length-places c lo, length-places r (lo + size (image c))) (omega arith)
 
--- where node v + i of f's nodes stands, among the items of f that begin at lo
+-- where node v + i of f's nodes is, among the items of f that begin at lo
 pub record PlaceOf (f : Siblings) (v lo i : ℕ) : Type 0 where
   pub low : lo ≤ getD (places f lo) i 0
   pub high : getD (places f lo) i 0 < lo + size (image f)
@@ -96,7 +96,7 @@ place-item (sibling a c r) v lo (suc i) h = elim (decLt i (count c)) [
       })
 ]
 
--- the other way: an item that is planner node u stands at the place given for u
+-- the other way: an item that is planner node u is at the place given for u
 pub record NodeAt (f : Siblings) (v lo x u : ℕ) : Type 0 where
   pub from : v ≤ u
   pub before : u < v + count f

@@ -113,7 +113,7 @@ counts-runs m f h e = runs-whole m f ∙ counts-few m f h e
 
 -- ---- one tree at the top
 
--- what stands before the last of three lists in a row
+-- what is before the last of three lists in a row
 before-last : (xs ys : List ℕ) (z : ℕ) → 0 < length ys
     → getD (xs ++ (ys ++ (z ∷ []))) (length (xs ++ (ys ++ (z ∷ []))) - 2) 0 ≡ getD ys (length ys - 1) 0
 before-last xs ys z h =

@@ -2,7 +2,7 @@
 --     outward-siblings    a list of siblings is read whole, and then what waits above it is closed
 --     outward-tree        so a whole file gives the items of its image
 --     placed-items        how many items there are; placed-siblings: the items of a list of siblings write its places
---     placed-tree         so a whole file gives its places, and what stands behind them stays
+--     placed-tree         so a whole file gives its places, and what is behind them stays
 use Prim.Native.Nat.{ℕ, zero, suc, _+_, _-_, _≤_, _<_}
 use mathlib.Core.Path.{_≡_, refl, sym, ap, ap₂, _∙_, subst}
 use mathlib.Core.Bool.{Bool, true, false, not}
@@ -85,7 +85,7 @@ regroup pre o a b post =
     ∙ append-assoc pre (o ∷ []) (a ++ (b ++ post))
     ∙ ap (λ (l : List ℕ). pre ++ (o ∷ l)) (sym (append-assoc a b post))
 
--- the places of f's nodes stand from place v on, behind `pre`
+-- the places of f's nodes are from index v on, behind `pre`
 abbrev PlacesOf : Siblings → Type 0
 PlacesOf f = (v i : ℕ) (pre old post : List ℕ) (xs : List (Option ℕ)) → length pre ≡ v → length old ≡ count f
     → placed (items f v ++ xs) i (pre ++ (old ++ post)) ≡ placed xs (i + size (image f)) (pre ++ (places f i ++ post))
@@ -128,7 +128,7 @@ placed-siblings (sibling a c r) v i pre (o ∷ old) post xs hp ho =
     ∙ ap (λ (n : ℕ). placed xs n
     (pre ++ ((i + size (image c) + size (image r)) ∷ (places c i ++ places r (i + size (image c)) ++ post)))) e
 
--- a whole tree's places, and what stands behind them
+-- a whole tree's places, and what is behind them
 pub placed-tree : (f : Siblings) (ps : List ℕ) → count f ≤ length ps
     → placed (items f 0) 0 ps .places ≡ places f 0 ++ drop (count f) ps
 placed-tree f ps h =

@@ -4,7 +4,7 @@
 --     home-and-out          going home and out restores the plan
 --     home-exactly          a plan goes home exactly where it is the plan of an acceptable file's tree
 --     plan-passes-2-to-5    what goes out is a plan
---     place-of-node         the place given for a node is where it stands, with its label, as an inner node
+--     place-of-node         the place given for a node is where it is, with its label, as an inner node
 --     tests-are-image       check 19 going home, by tests of labels and kinds
 use Prim.Native.Nat.{ℕ, zero, suc, _+_, _*_, _-_, _≤_, _<_}
 use mathlib.Core.Path.{_≡_, refl, sym, ap, _∙_}

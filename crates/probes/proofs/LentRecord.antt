@@ -1,6 +1,6 @@
--- What the walks of the calls in place, run, share: a function that is given a record by value and slices beside it, lends the record to a
--- call in place, and hands it back with the answer.
---     byValue ls O     the signature: the record, what is lent, and the result's type O
+-- What the walks of the calls in place share: a function that is given a record by value and slices beside it, lets a
+-- call in place borrow the record, and returns it with the answer.
+--     byValue ls O     the signature: the record, the slices, and the result's type O
 --     clauses          what is promised: P of the arguments, the result and the arguments at exit
 --     Post             what a walk has to end in.   exits   it does, with a result of which P holds
 --     met              a function that is walked to Post meets the promise
@@ -64,7 +64,7 @@ module _ {n : ℕ} (ls : List (Lending n)) (O : RattleType) where
       Post = walkOf 𝓤 H A byValue stayed clauses .post ((κs, qs, tt, a, passed κs a), tt)
 
       module _ (r : O .Denot) (ws : Lasts κs ls (a .1)) (v : Val) where
-        -- the tokens of what is lent, what is said of that, and the result
+        -- the tokens of the slices, what is said of them, and the result
         abbrev pub Ends : List (Item 𝓤)
         Ends = raw (toks 𝓤 A n κs qs) ∷ ‵ (Said κs ls (a .1) ws) ∷ ‵ (O .own r (v ∷ [])) ∷ []
 

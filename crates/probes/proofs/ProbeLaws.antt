@@ -1,4 +1,4 @@
--- What a known case of an answer tells, a session that is advanced once more, and a question from its calls' promises.
+-- What an answer in a known case holds, a session that is advanced once more, and a question from its calls' promises.
 use Prim.Native.Nat.{ℕ, suc, _-_, _<_, _≤_}
 use mathlib.Core.Path.{_≡_, sym, ap, ap₂, _∙_, subst}
 use mathlib.Core.Bool.{Bool}

@@ -1,17 +1,19 @@
 -- What the probes promise, by the definitions of the layers below.
 --
--- RootsProbed x n l == how many roots the answer x has, and the roots with zeros behind them; 0 and zeros where they are refused
+-- RootsProbed x n l == how many roots the answer x has, and the roots with zeros behind them; 0 and zeros where they
+--   are refused
 -- partIn x == the state and the links of part x; 16 and 0 where it is refused
 --
 -- loadedWith n s k == a loaded session of N, S and K
 -- advanced i x s == session s after i advances with the inputs x
--- partsIn a == the parts that answer a tells; 0 for any other answer
+-- partsIn a == the number of parts in answer a; 0 for any other answer
 -- stepsIn x vs bs i s == the parts of a question, and its links after i advances
--- after x vs bs i s == session s after Start and i advances; startParts x vs bs s == the parts that Start tells
--- readIn a == what answer a of Read tells; state 16 and zeros for any other
--- questionIn x vs bs s == what Read tells after Start and as many advances as it told parts
+-- after x vs bs i s == session s after Start and i advances; startParts x vs bs s == the parts that Start returns
+-- readIn a == the outcome in answer a of Read; state 16 and zeros for any other
+-- questionIn x vs bs s == what Read returns after Start and an advance for each part
 -- callNumber a == the number of an answer to Load or Cancel: 0 for one that is no refusal
--- lifeIn x y vs bs == what a life of a session tells, Load lent x and the later calls y: from fresh, Load, Start, Cancel and a question
+-- lifeIn x y vs bs == what a life of a session returns, Load given x and the later calls y: from fresh, Load, Start,
+--   Cancel and a question
 use Prim.Native.Nat.{ℕ, zero, suc}
 use mathlib.Core.Path.{_≡_}
 use mathlib.Core.Bool.{false}

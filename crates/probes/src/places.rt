@@ -1,5 +1,6 @@
-// The calls in place, run: each is lent a record of its own by `&mut` (session/in_place), and the record is handed back with the answer.
-// So these functions have the promises of the calls by value (crate session), and what they return can be compared with those.
+// The calls in place, run: each function's own record is borrowed by `&mut` (session/in_place) and returned with the
+// answer. So these functions have the promises of the calls by value (crate session), and what they return can be
+// compared with those.
 use session::answers::Advanced;
 use session::answers::Called;
 use session::answers::ReadAnswer;

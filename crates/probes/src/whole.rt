@@ -24,7 +24,7 @@ pub struct Steps {
     pub links: u32,
 }
 
-// What Read tells.
+// What Read returns.
 #[repr(C)]
 pub struct Question {
     pub state: u32,
@@ -42,7 +42,7 @@ fn loaded(n: u16, s: u8, k: u8) -> Session
     idle(Phase::Loaded, sizes, last)
 }
 
-// As many parts as Start tells; 0 where it is refused.
+// The number of parts that Start returns; 0 where it is refused.
 fn parts_in(answer: StartAnswer) -> u32
     ensures { λ r. ⌜ r ≡ partsIn (startAnswer answer) ⌝ }
 {
@@ -108,7 +108,7 @@ pub extern "C" fn probe_steps(
     }
 }
 
-// What Read tells; state 16 where it is refused.
+// What Read returns; state 16 where it is refused.
 fn read_in(answer: ReadAnswer) -> Question
     ensures { λ r. ⌜ r ≡ readIn (readAnswer answer) ⌝ }
 {
@@ -132,7 +132,7 @@ fn read_in(answer: ReadAnswer) -> Question
     }
 }
 
-// A whole question on a session: Start, as many advances as it tells parts, Read.
+// A whole question on a session: Start, an advance for each part, Read.
 fn question_on(
     before: Session,
     plan: &[u8],
@@ -175,7 +175,8 @@ pub extern "C" fn probe_question(
     question_on(before, plan, rules, node_table, state_table, nodes, labels)
 }
 
-// The numbers of Load and Cancel, the parts that the first Start tells, and what Read tells of the question put again.
+// The numbers of Load and Cancel, the parts that the first Start returns, and what Read returns for the question asked
+// again.
 #[repr(C)]
 pub struct Life {
     pub load: u32,
@@ -198,7 +199,8 @@ fn call_number(answer: CallAnswer) -> u32
     }
 }
 
-// A life of a session, each call in place: fresh, Load, Start, Cancel, and the question put again, as many advances as it has parts, Read.
+// A life of a session, each call in place: fresh, Load, Start, Cancel, and the question asked again, with an advance
+// for each part, Read.
 #[no_mangle]
 pub extern "C" fn probe_life(
     plan: &[u8],

@@ -1,6 +1,6 @@
--- Every listed node is among the roots of the parts, on whatever numbers.
+-- Every listed node is among the roots of the parts, for any numbers.
 --     fork-keeps, meet-keeps    what a fork and a meeting are added to stays
---     forks-keep                all turns keep what is there, and add every wanted node
+--     forks-keep                all iterations keep what is there, and add every wanted node
 --     given-listed              so the roots that are given have every listed node
 use Prim.Native.Nat.{ℕ, _-_, _<_}
 use mathlib.Core.Path.{_≡_, refl, sym, _∙_, subst}

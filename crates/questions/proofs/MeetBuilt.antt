@@ -1,7 +1,7 @@
 -- On numbers as built the search finds the lowest common ancestor.
---     below-is      the test by lent sizes is the subtree's
+--     below-is      the test by the given sizes is the subtree's
 --     meet-past     the lowest common ancestor is that of a node further up which does not have u below it
---     meet-built    what meetOn tells on numbers as built
+--     meet-built    what meetOn returns on numbers as built
 --     meet-unique   two nodes have one lowest common ancestor
 use Prim.Native.Nat.{ℕ, zero, suc, _+_, _-_, _≤_, _<_}
 use mathlib.Core.Path.{_≡_, refl, sym, ap, _∙_, subst}

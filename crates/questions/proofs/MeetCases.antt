@@ -65,7 +65,7 @@ module _ (F : Forest) (stop : ℕ → Bool) (v j : ℕ) (ej : j ≡ F .jump v) w
 
 -- ---- meet
 
--- a move told is a move made
+-- an answer that is a node comes from a move to it
 answer-at : (F : Forest) (o : Option Move) (y : ℕ) → At y ≡ targetOf F o → (m : Move) × (o ≡ some m) × (target F m ≡ y)
 answer-at F none y e = let z : _≡_ {A = ℕ} 0 1 = cc in absurd (omega arith)
 answer-at F (some m) y e = (m, refl, cc)

@@ -1,4 +1,5 @@
--- What a part gives: a state, no more links than there are nodes, and as many nodes passed over or more, as the lent depths allow.
+-- What a part gives: a state, no more links than nodes, and at least as many nodes passed over as links, as the given
+-- depths allow.
 --     side-bounded, Joined, joined      at a child, and by the rule
 --     inner-sides                       an inner node joins what its two children come to
 --     part-bounded                      of every part

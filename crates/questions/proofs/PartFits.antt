@@ -1,4 +1,4 @@
--- Whether what is lent and asked for fits, test by test.
+-- Whether the inputs and the part asked for fit, test by test.
 --     roots-short .. asked-end                         askedFits by its tests; the last decides where the others pass
 --     Asked, asked-are                                 what it says, by name, where it says yes
 --     given-limits, given-lengths, given-asked, given-yes   partGiven by the three

@@ -2,11 +2,11 @@
 --     answer-no, answer-yes                  a number read as a state
 --     leaf-outside, leaf-at              the part of a leaf
 --     join-lost, join-made               the rule for the states of both children
---     place-none, place-found            what stands at a place found, for roots
+--     place-none, place-found            what is at a place found, for roots
 --     label-none, label-found            and for labels
 --     side-run, side-own, side-lost, side-climb   the state at a child
---     reached-answer                         what is told is heard
---     answer-reached, answer-outside         what was meant, from what is told
+--     reached-answer                         the result can be read from the answer
+--     answer-reached, answer-outside         the result, from a given answer
 use Prim.Native.Nat.{ℕ, _+_, _-_, _≤_, _<_}
 use mathlib.Core.Path.{_≡_, refl, sym, ap, _∙_}
 use mathlib.Core.List.{List}

@@ -37,7 +37,7 @@ side-args n s k ls inn nodeTable stateTable es qs c own P h e f = record {
   inside = λ i z. omega (arith, last-covers c (sizeCell nodeTable c) es i (sym f ∙ z));
 }
 
--- what a side tells is a state, by few links that passed over few nodes
+-- what a side returns is a state, by few links that passed over few nodes
 pub side-few : (X : View) (t c : ℕ) (f g : Option Found) (r : Climbed) → X .n ≤ 65535
     → ((v : ℕ) → depthCell (X .nodeTable) v ≤ 65535) → r ≡ climbedOf (sideOn X t c f g)
     → (x : Reached) → reachedIn r ≡ some x → Few (X .s) x

@@ -1,4 +1,4 @@
--- A climb reads only a part of what is lent: the parts of a question on that part are those on the whole.
+-- A climb reads only some of the inputs: the parts of a question on these alone are those on all.
 --     climb-same, side-same, fork-same    on labels, inner states and tables alone
 use Prim.Native.Nat.{ℕ, _+_, _-_}
 use mathlib.Core.Path.{_≡_, refl, sym, ap, ap₂, _∙_}

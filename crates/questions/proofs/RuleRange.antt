@@ -1,4 +1,5 @@
--- What "Parts of a question" lends leads nowhere outside the plan, the states or the labels: there 18 has no cause.
+-- No value of the inputs of "Parts of a question" leads outside the plan, the states or the labels: there 18 has no
+-- cause.
 --     reads-in-range
 use Prim.Native.Nat.{ℕ, _<_}
 use mathlib.Core.Path.{_≡_, sym, ap, _∙_, subst}

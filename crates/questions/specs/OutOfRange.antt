@@ -1,7 +1,7 @@
 -- Values that lead outside the plan, the states or the labels.
 --
--- PartOutOfRange X qs vs bs == such a value, where a part of the list vs, bs is asked for with the states qs of the roots before it: what 18
---   means. What "Parts of a question" lends has none (proofs/RuleRange).
+-- PartOutOfRange X qs vs bs == such a value, where a part of the list vs, bs is asked for with the states qs of the
+--   roots before it: what 18 means. The inputs of "Parts of a question" have none (proofs/RuleRange).
 --
 -- "18 means that a value read leads outside the plan, the states or the labels, or a climb doesn't rise."
 use Prim.Native.Nat.{ℕ, _+_, _*_, _≤_, _<_}

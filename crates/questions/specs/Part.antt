@@ -1,7 +1,7 @@
--- One part of a question, on whatever is lent.
+-- One part of a question, for any inputs.
 --
--- Found == a root handled before, with its state; foundBelow nodeTable c es qs == the last of the roots es, of states qs, that is c or below
---   it, by the lent size of c
+-- Found == a root handled before, with its state; foundBelow nodeTable c es qs == the last of the roots es, of states
+--   qs, that is c or below it, by the given size of c
 -- labelOn X vs bs v == the label of node v as changed by the list
 -- sideOn X t c f == the state at child c, at depth t: its run state where no root is below, else the climb from the found one
 -- innerOn X t l r a == the part of an inner node at depth t - 1 with children l and r and label a

@@ -1,7 +1,7 @@
 -- The part that a caller asks for.
 --
--- askedFits n roots states vs bs == there is a root after as many as have states, it is one of n nodes, the lists of
---   nodes and labels have one length, and neither list of nodes is longer than a plan can be
+-- askedFits n roots states vs bs == there is a root after those that have states, it is one of n nodes, the lists of
+--   nodes and labels have the same length, and neither list of nodes is longer than a plan can be
 -- partFits .. == besides, n, s and k are within their limits, and the buffers fit them (check 17; crate formats, Buffers)
 -- partGiven .. == the part of the root that comes next after those whose states are given; none (18) also where it does
 --   not fit
@@ -33,7 +33,7 @@ partFits n s k plan rules nodeTable stateTable roots states vs bs =
     && (buffersFit n s (ruleLength s k) (length plan) (length rules) (length nodeTable) (length stateTable)
     && askedFits n roots states vs bs)
 
--- what is lent, without the excess of longer tables
+-- the inputs, without the excess of longer tables
 abbrev pub viewIn : ℕ → ℕ → ℕ → List ℕ → List ℕ → List ℕ → List ℕ → View
 viewIn n s k plan rules nodeTable stateTable = viewOf n s k plan rules (take (nodeTableLength n) nodeTable) (take (stateTableLength n s) stateTable)
 

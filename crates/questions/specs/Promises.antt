@@ -3,7 +3,8 @@
 -- RootsAre n m l == what holds of the roots l of m listed nodes on any numbers: they rise to the plan's root, n - 1, and are few
 -- rootedNumber r, numberFor o == document 01's number of an answer: 18 where there is no result, else 0
 -- RootsDone n nodeTable vs r == the promise of roots
--- Reads X G == what is lent, X, is as G has it: the 16-bit numbers those of the tree, run states and maps any bytes below S
+-- Reads X G == the inputs X are as G has them: the 16-bit numbers those of the tree, run states and maps any bytes
+--   below S
 -- Asked .. G ps == a part asked for as "Parts of a question" has it: the roots are the ready set's of any W, ps the parts before
 -- PartDone .. r == the promise of part
 use Prim.Native.Nat.{ℕ, _+_, _-_, _*_, _≤_, _<_}
@@ -51,7 +52,7 @@ pub record RootsDone (n : ℕ) (nodeTable vs : List ℕ) (r : Rooted) : Type 0 w
   pub number : rootedNumber r ≡ numberFor (rootsGiven n nodeTable vs)
   -- 18 on what fits: a number leads outside the plan or does not rise
   pub out-of-range : rootsFit n (length nodeTable) vs ≡ true → rootedNumber r ≡ 18 → NodeTableOutOfRange n nodeTable
-  -- on whatever numbers: rising to the root, and few
+  -- for any numbers: rising to the root, and few
   pub few : (l : List ℕ) → rootsGiven n nodeTable vs ≡ some l → RootsAre n (length vs) l
   -- and every listed node is among them
   pub listed : (l : List ℕ) → rootsGiven n nodeTable vs ≡ some l → (v : ℕ) → List·Memᴰ v vs → List·Memᴰ v l
@@ -95,7 +96,8 @@ pub record PartDone (n s k : ℕ) (plan rules nodeTable stateTable roots states 
   -- 18 on what fits: a value leads outside the plan, the states or the labels, or a link does not rise
   pub out-of-range : partFits n s k plan rules nodeTable stateTable roots states vs bs ≡ true → climbedNumber r ≡ 18
       → PartOutOfRange (viewIn n s k plan rules nodeTable stateTable) states vs bs
-  -- on whatever is lent: a state, and no more links than a plan has nodes; as many nodes passed over or more, which fit 16 bits
+  -- for any inputs: a state, no more links than a plan has nodes, and at least as many nodes passed over as links; both
+  -- fit 16 bits
   pub state-below : (x : Reached) → partGiven n s k plan rules nodeTable stateTable roots states vs bs ≡ some x → x .state < s
   pub links-most : (x : Reached) → partGiven n s k plan rules nodeTable stateTable roots states vs bs ≡ some x → x .links ≤ 65535
   pub links-passed : (x : Reached) → partGiven n s k plan rules nodeTable stateTable roots states vs bs ≡ some x → x .links ≤ x .passed

@@ -1,4 +1,4 @@
--- A climb that looks for the lowest common ancestor, on whatever numbers are lent.
+-- A climb that looks for the lowest common ancestor, for any numbers.
 --
 -- nextUnless F stop v == a move from v that does not pass the goal: the jump unless `stop` holds there, else the parent; none where it
 --   leads outside the forest or does not rise

@@ -1,9 +1,9 @@
-// Whether what a caller of a part asks for fits: the rest of what he lends is check 17 (crate formats, buffers).
+// Whether what a caller of a part asks for fits; the caller's buffers are check 17 (crate formats, buffers).
 use formats::limits::NODE_LIMIT;
 ghost use mathlib.Core.Path.{_≡_};
 ghost use Rattle.questions.specs.PartAnswers.{askedFits};
 
-// Is there a root after as many as have states, is it one of n nodes, and have both lists one length?
+// Is there a root after those that have states, is it one of n nodes, and do both lists have the same length?
 pub fn asked_fits(n: usize, roots: &[u16], states: &[u8], nodes: &[u16], labels: &[u8]) -> bool
     ensures { λ r. ⌜ r
         ≡ askedFits n (now (roots .entry)) (now (states .entry)) (now (nodes .entry)) (now (labels .entry)) ⌝ }

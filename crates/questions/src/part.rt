@@ -1,5 +1,5 @@
 // One part of a question: the state of its root, from the parts before it, the links of its climb, and the nodes passed
-// over, on whatever is lent.
+// over, for any inputs.
 use crate::fits::asked_fits;
 use crate::scan::last_in;
 use formats::buffers::limits_fit;
@@ -248,8 +248,8 @@ fn part_on(
     )
 }
 
-// The part of the root that comes next after those whose states are given, with N, S and K as given, on whatever is
-// lent and with the listed nodes' labels changed. Out of range also where what is lent or asked for does not fit.
+// The part of the root that comes next after those whose states are given, with N, S and K as given, for any inputs and
+// with the listed nodes' labels changed. Out of range also where the inputs or what is asked for do not fit.
 pub fn part(
     n: usize,
     s: usize,

@@ -1,4 +1,4 @@
-// The search for a lowest common ancestor on lent numbers, whatever they hold. It counts no link.
+// The search for a lowest common ancestor, for any node table. It counts no link.
 use tables::node_tables::moves::depth_at;
 use tables::node_tables::moves::is_below;
 use tables::node_tables::moves::jump_at;

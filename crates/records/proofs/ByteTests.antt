@@ -68,7 +68,7 @@ sets-all out vs e =
     sets-eq vs out 0 (omega arith)
     ∙ (ap (λ (t : List ℕ). vs ++ t) (drop-of-length-le out {i = 0 + length vs} (omega arith)) ∙ append-nil vs)
 
--- the state and the yes or no as told by the functions that number them
+-- the state and the yes or no, as the functions that number them return them
 pub head-written : (out : List ℕ) (h : Head) (p y : ℕ) → length out ≡ 13 → p ≡ phaseByte (h .phase)
     → y ≡ yesByte (h .yes) → sets out 0 (p ∷ y ∷ drop 2 (headBytes h)) ≡ headBytes h
 head-written out h p y e f g = rw (← f, ← g) (sets-all out (p ∷ y ∷ drop 2 (headBytes h)) e)
@@ -78,13 +78,13 @@ pub last-written : (out : List ℕ) (h : Head) (f y : ℕ) → length out ≡ 16
     → sets out 0 (f ∷ h .last .outcome .state ∷ y ∷ drop 3 (lastBytes h)) ≡ lastBytes h
 last-written out h f y e g i = rw (← g, ← i) (sets-all out (f ∷ h .last .outcome .state ∷ y ∷ drop 3 (lastBytes h)) e)
 
--- p stands before place a; k bytes ys go behind it
+-- p is before index a; the k bytes ys go behind it
 pub part-written : (x p o ys : List ℕ) (a k : ℕ) → x ≡ p ++ drop a o → length p ≡ a
     → take a x ++ (ys ++ drop k (drop a x)) ≡ (p ++ ys) ++ drop (a + k) o
 part-written x p o ys a k e h =
     rw (e, take-at p (drop a o) a h, drop-at p (drop a o) a h, drop-drop, append-assoc)
 
--- what a buffer holds after a part of k bytes from place a on was lent and written
+-- what a buffer holds after its k bytes from index a on were borrowed and written
 abbrev pub put : ℕ → ℕ → List ℕ → List ℕ → List ℕ
 put a k x ys = take a x ++ (ys ++ drop k (drop a x))
 
@@ -136,7 +136,7 @@ step-written o h t w e lh lt =
     ∙ (ap (λ (u : List ℕ). ((p ++ t) ++ w) ++ u) (drop-of-length-le o {i = 983} (omega arith))
     ∙ (append-nil ((p ++ t) ++ w) ∙ simp append-assoc))
 
--- the states of the parts stand behind the first 13 bytes
+-- the states of the parts are behind the first 13 bytes
 states-behind : (o h : List ℕ) → length h ≡ 13 → run 713 254 (h ++ drop 13 o) ≡ run 713 254 o
 states-behind o h e = behind h (drop 13 o) 13 700 254 e ∙ ap (take 254) (drop-drop 700 13 o)
 

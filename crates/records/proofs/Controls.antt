@@ -17,7 +17,7 @@ use Rattle.records.specs.Layout.{numbers16, decoded, laidOut, validBytes
 abbrev loaded : List ℕ
 loaded = 1 ∷ 0 ∷ 2 ∷ 2 ∷ 7 ∷ 0 ∷ replicate 977 0
 
--- state 0, no, two parts, one link, one node passed over, and so many by the running question
+-- state 0, no, two parts, one link, one node passed over; and `passed` nodes passed over by the running question
 abbrev kept : ℕ → List ℕ
 kept passed = 1 ∷ 0 ∷ 0 ∷ 2 ∷ 1 ∷ 0 ∷ 0 ∷ 0 ∷ passed ∷ 0 ∷ 0 ∷ 0 ∷ 1 ∷ 0 ∷ 0 ∷ 0 ∷ []
 
@@ -64,8 +64,9 @@ value-broken :
 unfolding validBytes laidOut decoded numbers16 valid validIn sizesFit listFits partsFit questionFits risesTo zeroFrom noQuestion allBelow isNone lastFits lastIsOwn sameFlag
 value-broken = (refl, refl, refl, refl, refl, refl)
 
--- of the answer that is kept: neither there nor not, a state 2, a yes or no 2, no part, 65,536 links with one part (and as many nodes passed over), a value of
--- one that is not there; in answered another than the record's own; none in answered; one in empty
+-- of the answer that is kept: neither there nor not, a state 2, a yes or no 2, no part, 65,536 links with one part (and
+-- 65,536 nodes passed over), a value of one that is not there; in answered another than the record's own; none in
+-- answered; one in empty
 kept-broken :
     None (set cancelled 967 2) × None (set again 968 2) × None (set again 969 2) × None (set cancelled 970 0)
     × None (set (set (set (set (set cancelled 970 1) 971 0) 973 1) 979 0) 981 1) × None (set loaded 970 1) × None (set answered 969 1)

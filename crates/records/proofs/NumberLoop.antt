@@ -1,4 +1,4 @@
--- One turn, and the end, of the loops that copy bytes, write the bytes of numbers and read numbers from bytes.
+-- One iteration, and the end, of the loops that copy bytes, write the bytes of numbers and read numbers from bytes.
 --     copy-iteration, copy-end
 --     put-iteration, put-end
 --     get-iteration, get-end

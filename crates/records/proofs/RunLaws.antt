@@ -1,7 +1,7 @@
 -- Runs of bytes in lists in a row, bytes one by one, and the bytes of the state and of the yes or no.
 --     behind, first-run       a run behind a list, and a run that is the list
---     run-then                a run, and what stands behind it
---     firsts-then             the bytes from a place on, one by one, and what stands behind them
+--     run-then                a run, and what follows it
+--     firsts-then             the bytes from an index on, one by one, and what follows them
 --     head-same, last-same    a record's first bytes, and its last 16, field by field
 --     run-at                  a byte of a run
 --     firsts-all              all bytes, one by one
@@ -31,11 +31,11 @@ behind p q a b n e = ap (take n) (rw (← e) (drop-append-add p q b))
 pub first-run : (p q : List ℕ) (n : ℕ) → length p ≡ n → run 0 n (p ++ q) ≡ p
 first-run p q n e = take-at p q n e
 
--- a run, and what stands behind it
+-- a run, and what follows it
 pub run-then : (b : List ℕ) (a n : ℕ) → run a n b ++ drop (a + n) b ≡ drop a b
 run-then b a n = ap (λ (t : List ℕ). run a n b ++ t) (sym (drop-drop n a b)) ∙ take-append-drop n (drop a b)
 
--- n bytes from place i on, one by one
+-- n bytes from index i on, one by one
 unfoldable pub firsts : ℕ → ℕ → List ℕ → List ℕ
 firsts zero i b = []
 firsts (suc n) i b = getD b i 0 ∷ firsts n (suc i) b

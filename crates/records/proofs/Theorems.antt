@@ -1,5 +1,5 @@
 -- The record's bytes and the bytes' record are each other's.
---     decode-encode       the struct of a struct's bytes is the struct, whatever its types allow
+--     decode-encode       the struct of a struct's bytes is the struct, for every struct that the types allow
 --     encode-decode       the bytes of the struct of a record are the record; encode-laid: of any bytes that are laid out
 --     encoded-length      983 bytes, each below 256 (encoded-bytes)
 --     fresh-bytes         a fresh session's bytes are 983 zeros, and fresh-valid: they are a record
@@ -50,7 +50,7 @@ module _ (s : Session) (t : InTypes s) where
       let r = t .states-length in
       simp length-append (omega arith)
 
-  -- what stands behind the head, the nodes, the labels and the roots
+  -- what follows the head, the nodes, the labels and the roots
   abbrev tail : List ℕ
   tail = s .states ++ lastBytes (s .head)
 

@@ -36,7 +36,7 @@
 --
 -- "the record crosses as bytes, whose layout stands in docs/, and bytes that break it get 1": the table above is that
 -- of docs/LAYOUT.md, "The record".
--- Order: numbers, states, the struct's bytes, the bytes' struct, tests. The laws stand in proofs/.
+-- Order: numbers, states, the struct's bytes, the bytes' struct, tests. The laws are in proofs/.
 use Prim.Native.Nat.{ℕ, _+_, _*_, _/_, _%_, _<_}
 use mathlib.Core.Path.{_≡_}
 use mathlib.Core.Bool.{Bool, true, false, cond, _&&_}
@@ -101,7 +101,7 @@ encoded s = headBytes (s .head) ++ restBytes s
 
 -- ---- the bytes' struct
 
--- n bytes from a place on
+-- n bytes from an index on
 abbrev pub run : ℕ → ℕ → List ℕ → List ℕ
 run at n b = take n (drop at b)
 

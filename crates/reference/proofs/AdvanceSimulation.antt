@@ -1,6 +1,6 @@
 -- Advance on record and reference model.
---     parted-more      one more part, whatever its state below S
---     on-advance       what advance tells conforms, and record and reference model stay related
+--     parted-more      one more part, with any state below S
+--     on-advance       advance's answer conforms, and record and reference model stay related
 use Prim.Native.Nat.{ℕ, suc, _+_, _-_, _<_}
 use mathlib.Core.Path.{_≡_, refl, sym, ap, ap₂, _∙_, subst}
 use mathlib.Core.Bool.{Bool, true, false, cond, not, _&&_}
@@ -103,7 +103,7 @@ module _ (r : Record) (z : Sizes) (q : Question) (x : Inputs) (sizes : r .sizes 
       (part-bounded (viewBy (r .sizes) x) (take (length (r .states)) (r .roots)) (r .states) (r .nodes) (r .labels)
       (getD (r .roots) (length (r .states)) 0) y e .state)
 
--- one more part, whatever its state below S
+-- one more part, with any state below S
 pub parted-more : (r : Record) (z : Sizes) (q : Question) (ps : List Part) → Parted r z q ps → length ps < partCount q
     → (y : Reached) → y .state < z .s → (f : Phase) (m : Bool) (k : Settlement) (tr : List Part)
     → Parted (stepped r f y m) z (advanced q k tr) (ps ++ (part (nextRoot (rootsOf q) ps) (y .state) (y .links) (y .passed) ∷ []))

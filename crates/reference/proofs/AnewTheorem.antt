@@ -30,7 +30,7 @@ use Rattle.reference.proofs.Demand3Theorem.{simulates, at-first}
 
 -- ---- one call
 
--- of the record with the last finished answer o, and of the record without a look at it
+-- a: the call on the record with the last finished answer o; b: on a record that differs in that answer alone
 record ButLast (o : Option Outcome) (c : Call) (a b : Acted) : Type 0 where
   tells : SameUnlessRead c (a .answer) (b .answer)
   same : replaces c (a .answer) ≡ true → a .record′ ≡ b .record′

@@ -1,4 +1,4 @@
--- A value that leads out of range is a cause for 18, as the reference model asks for one.
+-- A value that is out of range is a cause for 18, as the reference model requires one.
 --     links-cause, view-cause      of the node table, and of all that an advance reads
 --     advance-cause                so 18 is an answer to an advance that the reference model allows
 use Prim.Native.Nat.{ℕ, _+_, _-_, _*_, _<_}

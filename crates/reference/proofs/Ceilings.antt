@@ -1,4 +1,4 @@
--- Ceilings on what the calls tell of a clean question.
+-- Ceilings on what the calls answer of a clean question.
 --     part-links        the links of one part are at most three for each binary digit of the plan's height
 --     question-links    those of a question, for each of its parts
 --     nodes-passed      the nodes passed over: between the links, and the plan's height for each of its parts
@@ -88,7 +88,7 @@ question-links t vs =
     let M : Members w t (readyList w t) = list-members w t in
     sum-links w t (readyList w t) M (readyList w t) (M .inside)
 
--- document 02, S-7: no fewer nodes passed over than links, and no more than the plan is high for each part
+-- document 02, S-7: no fewer nodes passed over than links, and at most the plan's height for each part
 pub nodes-passed : (t : Tree) (vs : List ℕ)
     → (questionLinks t (roots t vs) ≤ questionPassed t (roots t vs))
     × (questionPassed t (roots t vs) ≤ length (roots t vs) * height t)

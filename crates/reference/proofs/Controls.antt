@@ -1,5 +1,5 @@
--- Controls of demand 3 on plan A, computed: where the reference model must settle an answer, where it must leave it to the
--- program, and wrong answers that it turns down. A premise that is too strong (excess compared, the plan tied to
+-- Controls of demand 3 on plan A, computed: where the reference model must settle an answer, where it must leave it to
+-- the program, and wrong answers that it turns down. A premise that is too strong (excess compared, the plan tied to
 -- Load's) shows here: an answer that should be settled is left.
 -- The answers are the model's (act): so that partOn is run too.
 use Prim.Native.Nat.{ℕ}
@@ -83,7 +83,7 @@ pub exchanged-plan :
 unfolding seen loadA inputsA inputsB
 exchanged-plan = refl
 
--- which label is no change is told by Start's plan: 0 is node 0's label in plan B, not in plan A, which was loaded
+-- Start's plan decides which label is no change: 0 is node 0's label in plan B, not in plan A, which was loaded
 pub own-label-at-start : seen (onNode0 inputsB inputsB inputsB)
     ≡ all (some Answer.accepted ∷ some (parts 1) ∷ some finished ∷ some (refused 1) ∷ some (outcomeAnswer 1 true 1 0 0) ∷ [])
 unfolding seen onNode0 inputsA inputsB
@@ -111,7 +111,7 @@ pub other-states : seen (onNode0 inputsA inputsA (otherState 1 1))
 unfolding seen onNode0 inputsA otherState
 other-states = refl
 
--- Start's 18: bytes below S and not, numbers that lead nowhere outside and that do, another label; then the tables as built
+-- Start's 18: bytes below S and not, numbers in range and out of range, another label; then the tables as built
 pub other-at-start :
     seen (load loadA ∷ onNode (otherState 1 1) ∷ onNode (otherState 1 2) ∷ onNode (otherState 20 0) ∷ onNode (otherNumber 1 6)
     ∷ onNode (otherNumber 1 60000) ∷ onNode otherLabel ∷ advance inputsA ∷ onNode inputsA ∷ [])
@@ -120,7 +120,7 @@ pub other-at-start :
 unfolding seen loadA inputsA onNode otherState otherNumber otherLabel
 other-at-start = refl
 
--- 18 is the last of Start's checks: 17 and 12 to 14 come before it; a node listed twice is none of them
+-- 18 is the last of Start's checks: 17 and 12 to 14 come before it; a node listed twice fails none of them
 pub eighteen-last :
     seen (load loadA ∷ start nothing [] [] ∷ start (otherState 1 1) (0 ∷ []) [] ∷ start (otherState 1 1) (7 ∷ []) (0 ∷ [])
     ∷ start (otherState 1 1) (0 ∷ []) (2 ∷ []) ∷ start (otherState 1 1) (0 ∷ 0 ∷ []) (0 ∷ 1 ∷ []) ∷ start (otherState 1 1) [] [] ∷ [])
@@ -129,7 +129,8 @@ pub eighteen-last :
 unfolding seen loadA inputsA otherState
 eighteen-last = refl
 
--- rules of equal length, 27 bytes, that name another S and K: S 1 and K 3 for a record of S 2 and K 1. They are sound for their own
+-- rules of equal length, 27 bytes, that name another S and K: S 1 and K 3 for a record of S 2 and K 1. They are sound
+-- for their own
 unfoldable pub planOne : List ℕ
 planOne = 1 ∷ 0 ∷ 0 ∷ 0 ∷ 12 ∷ 0 ∷ 0 ∷ 0 ∷ 13 ∷ 0 ∷ 0 ∷ 0 ∷ 0 ∷ 0 ∷ []
 
@@ -166,7 +167,7 @@ pub wrong-state : seen (read ∷ cancel ∷ load loadA ∷ advance inputsA ∷ s
 unfolding seen loadA inputsA
 wrong-state = refl
 
--- two faults at once: the first no in the text's order, 17 before 12, all of 13 before 14
+-- two faults at once: the first failing check in the text's order, 17 before 12, all of 13 before 14
 pub first-no : seen (load loadA ∷ start loadA (7 ∷ []) (2 ∷ []) ∷ start nothing (7 ∷ []) [] ∷ start inputsA (7 ∷ []) []
     ∷ start inputsA (0 ∷ 7 ∷ []) (2 ∷ 0 ∷ []) ∷ start inputsA (0 ∷ 0 ∷ []) (0 ∷ 2 ∷ []) ∷ start inputsA (replicate 65 0)
     (replicate 65 0) ∷ [])
@@ -205,7 +206,7 @@ unfoldable pub judged : List Answer → Bool
 unfolding computing onNode0 inputsA
 judged xs = agreed newReference (onNode0 inputsA inputsA inputsA) xs
 
--- the answers; a state, links, nodes passed over, parts that are not so; finished told early; 18 on sound inputs; a Load turned
+-- the answers; a wrong state, links, nodes passed over, parts; finished too early; 18 on sound inputs; a Load turned
 -- down; an answer missing
 pub turned-down :
     judged (Answer.accepted ∷ parts 2 ∷ more ∷ finished ∷ outcomeAnswer 0 false 2 1 1 ∷ [])
@@ -248,7 +249,8 @@ pub turned-down-unsettled :
 unfolding judgedUnsettled
 turned-down-unsettled = refl
 
--- a Start on sound tables that is refused, and Starts on others that are accepted: a number, a byte below S, another label
+-- a Start on sound tables that is refused, and Starts on others that are accepted: a number, a byte below S, another
+-- label
 unfoldable pub judgedStart : Inputs → Answer → Bool
 unfolding computing loadA onNode
 judgedStart x a = agreed newReference (load loadA ∷ onNode x ∷ []) (Answer.accepted ∷ a ∷ [])
@@ -260,7 +262,8 @@ pub start-turned-down :
 unfolding judgedStart otherNumber otherState otherLabel inputsA
 start-turned-down = refl
 
--- an advance's 18 without a cause: on another label, which leads nowhere outside; with a cause it is allowed: a jump outside the plan
+-- an advance's 18 without a cause: on another label, which is in range; with a cause it is allowed: a jump outside the
+-- plan
 unfoldable pub judgedAdvance : Inputs → Answer → Bool
 unfolding computing loadA inputsA onNode
 judgedAdvance x a =
@@ -292,7 +295,7 @@ pub parts-differ :
 unfolding changedA inputsA computing entries nodesListed labelsListed put putAll superseded laidOver
 parts-differ = (refl, refl)
 
--- a node listed twice: what Reads tell is that of its last entry, whatever the first one says
+-- a node listed twice: what Reads return is that of its last entry, for any first one
 pub last-entry : (row (0 ∷ 0 ∷ []) (0 ∷ 1 ∷ []) 1 ≡ row (0 ∷ []) (1 ∷ []) 1) × (row (0 ∷ 0 ∷ []) (1 ∷ 0 ∷ []) 2 ≡ row (0 ∷ []) (0 ∷ []) 2)
 unfolding row
 last-entry = (refl, refl)
@@ -314,8 +317,8 @@ unfoldable pub inputsFive : List ℕ → Inputs
 unfolding planFive tableA computing
 inputsFive ls = inputsOf (planFive ls) tableA (builtNodeTable (planFive ls)) (builtStateTable (planFive ls) tableA)
 
--- "links may go either way": labels 0 0 0 1 0 with 2 to 1 and 3 to 1, its own label, have a link more than without S-5, and fewer parts; labels
--- 0 1 1 0 0 with 2 to 1, its own, have one less
+-- "links may go either way": labels 0 0 0 1 0 with 2 to 1 and 3 to 1, its own label, have a link more than without S-5,
+-- and fewer parts; labels 0 1 1 0 0 with 2 to 1, its own, have one less
 pub links-either-way :
     (withListed (inputsFive (0 ∷ 0 ∷ 0 ∷ 1 ∷ 0 ∷ [])) (2 ∷ 3 ∷ []) ≡ 3 ∷ 0 ∷ [])
     × (withLeft (inputsFive (0 ∷ 0 ∷ 0 ∷ 1 ∷ 0 ∷ [])) (2 ∷ 3 ∷ []) (1 ∷ 1 ∷ []) ≡ 2 ∷ 1 ∷ [])
@@ -324,7 +327,8 @@ pub links-either-way :
 unfolding inputsFive planFive computing
 links-either-way = (refl, refl, refl, refl)
 
--- a node that is left out may still root a part: node 5 of plan A, with its own label, is the common ancestor of 3 and 4
+-- a node that is left out may still root a part: node 5 of plan A, with its own label, is the common ancestor of 3 and
+-- 4
 pub left-out-rooting :
     (rootsOf (asked inputsA (3 ∷ 4 ∷ 5 ∷ []) (1 ∷ 0 ∷ 0 ∷ [])) ≡ 3 ∷ 4 ∷ 5 ∷ 6 ∷ [])
     × (leftOf (asked inputsA (3 ∷ 4 ∷ 5 ∷ []) (1 ∷ 0 ∷ 0 ∷ [])) ≡ 3 ∷ 4 ∷ [])

@@ -1,5 +1,5 @@
--- Demand 3 for the session's calls: every list of calls, from a fresh record, whatever the inputs, is answered as the
--- reference model says.
+-- Demand 3 for the session's calls: every list of calls, from a fresh record, is answered as the reference model says,
+-- for any inputs.
 --     demand-3     the theorem, from the facts of the questions layer
 --     demand-3-of  it passes on to every form of the calls that refines this one: by value, in place, and as bytes
 use mathlib.Core.Path.{refl}

@@ -1,6 +1,7 @@
--- A question that Start accepted is answered to its end: no advance given the same is refused, and the Read after the last is told.
+-- A question that Start accepted is answered to its end: no advance given the same is refused, and the Read after the
+-- last is answered.
 --     same-fits           what is the same as inputs that are long enough is long enough: check 17
---     to-the-end          of a question that runs: what its advances and its Read tell
+--     to-the-end          of a question that runs: what its advances and its Read answer
 --     questions-finish    so a question's advances and Read answer more .., finished and the fresh run's answer
 --     finish-of           and passes on to every form of the calls
 use Prim.Native.Nat.{ℕ, zero, suc, _+_, _-_, _*_, _≤_, _<_}
@@ -80,7 +81,7 @@ module _ (z : Sizes) (o : Option Question) (q : Question) (c : ℕ) (tr : List P
   abbrev on : Answer → Bool
   on a = onAdvance true true false a
 
-  -- what goes on tells nothing else
+  -- a question that goes on has no other answer
   not-on : (k : Question) (a : Answer) → on a ≡ false → Conforms (goesOn (going z o q c tr) k) a → ⊥
   unfolding goesOn
   not-on k a h e = go (eqb (k .count) (partCount k)) e

@@ -1,10 +1,11 @@
 -- A clean question: its parts, worked out on the state table that Load writes, give the fresh run.
 --     table-below      every byte that Load writes is below S
 --     sound-below      so sound inputs have bytes below S
---     part-below       whatever the bytes, the state of a part is below S
+--     part-below       for any bytes, the state of a part is below S
 --     given-same       the rule reads no more of the inputs than the state table in use
 --     whole-state      the last part has the root state of a fresh run on Start's plan with the listed labels changed
---     whole-before     so had the last of the parts of all listed nodes: "On tables as built the answer is as before" (document 02, S-5)
+--     whole-before     so had the last of the parts of all listed nodes: "On tables as built the answer is as before"
+--                      (document 02, S-5)
 --     whole-links      the links in all are the moves of the parts' climbs
 --     whole-over       the nodes passed over in all are those of the parts' climbs
 use Prim.Native.Nat.{ℕ, zero, suc, _+_, _-_, _*_, _<_}

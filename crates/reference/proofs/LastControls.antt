@@ -1,7 +1,9 @@
--- Controls of the last finished answer on plan A, computed: what the reference model settles of Reads after a Cancel, a Start, a Load and an
--- unclean finish, and wrong answers that it turns down.
---     kept-on         a clean answer is told in every state: while a question runs, after its Cancel; the next finish replaces it
---     unclean-over    an unclean question does not spoil it while it runs; its finish replaces it, and is left to the program
+-- Controls of the last finished answer on plan A, computed: what the reference model settles of Reads after a Cancel, a
+-- Start, a Load and an unclean finish, and wrong answers that it turns down.
+--     kept-on         Read returns a clean answer in every state: while a question runs, after its Cancel; the next
+--                     finish replaces it
+--     unclean-over    an unclean question does not spoil it while it runs; its finish replaces it, and is left to the
+--                     program
 --     by-rule-over    a finish on other bytes below S replaces it, and stays settled by the rule
 --     load-empties, refused-load-keeps
 --     last-turned-down
@@ -54,8 +56,8 @@ pub refused-load-keeps : seen (asking [] [] 1 ++ (load nothing ∷ read ∷ onNo
 unfolding seen asking loadA onNode inputsA
 refused-load-keeps = refl
 
--- after the first question: a Start, a Cancel, and a Read told the answer; refused; told the half-done question; after a Load, told the
--- answer, and refused
+-- after the first question: a Start, a Cancel, and a Read that returns the answer; refused; returns the half-done
+-- question; after a Load, returns the answer, and refused
 unfoldable pub judgedLast : List Call → List Answer → Bool
 unfolding computing asking
 judgedLast cs xs =

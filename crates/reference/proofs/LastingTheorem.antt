@@ -1,6 +1,6 @@
--- The last finished answer: how long Reads tell it.
+-- The last finished answer: how long Reads return it.
 --     last-kept         a call leaves the last finished question as it is, unless it replaces it
---     lasting           so every Read is told what settles it, until then
+--     lasting           so until then every Read returns the answer that settles it
 --     answer-lasts      the answer of a question that was undisturbed to its finish lasts
 --     no-answer-yet     before the first finish every Read is refused with 1, and after every accepted Load again
 --     lasts-of, none-of both pass on to every form of the calls

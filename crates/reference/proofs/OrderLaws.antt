@@ -1,6 +1,7 @@
 -- The order of a list of changes does not matter to the reference model.
---     roots-order      the roots of the parts go by the nodes alone
---     last-order, left-order    where no node is listed twice, each has the same last label, and the same nodes are left in W
+--     roots-order      the roots of the parts depend on the nodes alone
+--     last-order, left-order    where no node is listed twice, each has the same last label, and the same nodes are
+--                               left in W
 --     start-order      nor does the refusal of a Start
 --     parts-order, fresh-order    the number of parts, and the answer of a clean question
 -- A permutation is mathlib's `List·Permᴰ`, of the list of entries (node, label).
@@ -43,7 +44,7 @@ same-append xs ys zs p q e = go (firstNo ys) refl
     go zero f = firstNo-append-zero xs zs p (e ∙ f) ∙ sym (firstNo-append-zero ys zs q f)
     go (suc n) f = firstNo-append-suc xs zs n (e ∙ f) ∙ sym (firstNo-append-suc ys zs n f)
 
--- two labels, or none, that are there alike and the same before one default
+-- two optional labels are equal: both are there or neither is, and they are the same with one default
 same-option : (o p : Option ℕ) (d : ℕ) → isSome o ≡ isSome p → labelOr o d ≡ labelOr p d → o ≡ p
 same-option none none d i e = refl
 same-option none (some y) d i e = absurd (true-false (sym i))

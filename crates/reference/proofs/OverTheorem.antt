@@ -1,7 +1,7 @@
 -- A question on a changed plan (document 02, S-12).
---     state-over, yes-over    the fresh run with the second list on the plan changed by the first is that with the second laid over the
---                             first on the plan itself
---     question-over           so are the state and the yes or no that Reads tell of the two questions
+--     state-over, yes-over    the fresh run with the second list on the plan changed by the first is that with the
+--                             second laid over the first on the plan itself
+--     question-over           so are the state and the yes or no that Reads return for the two questions
 -- Nothing is said of parts, links and nodes passed over: they may differ (parts-differ, Controls).
 use Prim.Native.Nat.{ℕ}
 use mathlib.Core.Path.{_≡_, ap, ap₂, _∙_, subst}
@@ -38,7 +38,7 @@ every-first : (q : ℕ) (b : Bool) (p l d : ℕ) (ys : List Answer) → OnlyOutc
 every-first q b p l d ys only =
     after-map (λ (o : Outcome). outcome o ≡ outcomeAnswer q b p l d) (Tells q b) (λ o e. told-first q b p l d o e) ys only
 
--- of an undisturbed question every Read after its finish tells the fresh run's state and yes or no
+-- for an undisturbed question every Read after its finish returns the fresh run's state and yes or no
 pub read-tells : (x : Inputs) (vs bs : List ℕ) (n : ℕ) (ys : List Answer) → CleanOutcomes x vs bs n ys
     → EveryOutcomeAfter (Tells (rootState (x .plan) (x .rules) vs bs) (rootAccepted (x .plan) (x .rules) vs bs)) ys
 unfolding freshAnswer
@@ -63,8 +63,9 @@ module _ (x y : Inputs) (vs bs us cs : List ℕ) (passes : PlanPasses (x .plan))
   pub yes-over : rootAccepted (y .plan) (y .rules) us cs ≡ rootAccepted (x .plan) (x .rules) (nodesListed over) (labelsListed over)
   yes-over = ap₂ (λ (r : List ℕ) (t : Tree). accepts (ruleAutomaton r) t) rules-are tree-over
 
-  -- "a question with the second on the plan changed by the first has the state of a question with the second laid over the first on the
-  -- plan itself, each on tables built from its own plan and left alone": what Reads tell of the one and of the other
+  -- "a question with the second on the plan changed by the first has the state of a question with the second laid over
+  -- the first on the plan itself, each on tables built from its own plan and left alone": of what Reads return for the
+  -- one and for the other
   pub question-over : (n m : ℕ) (ys zs : List Answer) → CleanOutcomes y us cs n ys
       → CleanOutcomes x (nodesListed over) (labelsListed over) m zs
       → (q : ℕ) × (b : Bool) × EveryOutcomeAfter (Tells q b) ys × EveryOutcomeAfter (Tells q b) zs

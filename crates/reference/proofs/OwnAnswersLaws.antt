@@ -1,7 +1,7 @@
--- Controls against a reference model that takes too much: what it allows is the call's own kind of answer.
+-- Controls against a reference model that allows too much: what it allows is the call's own kind of answer.
 --     own-answers      of every state, call and answer
---     read-outcome     a Read once a question has finished is told an outcome, and no refusal, whatever the state
---     wrong-kinds      on plan A, computed: Start told more, an advance told parts, a Read refused are turned down
+--     read-outcome     a Read once a question has finished is answered with an outcome, and no refusal, in any state
+--     wrong-kinds      on plan A, computed: more for a Start, parts for an advance, a refused Read are turned down
 use Prim.Native.Nat.{ℕ, zero, suc}
 use mathlib.Core.Path.{_≡_, refl, sym, subst}
 use mathlib.Core.Bool.{Bool, true, false, cond}

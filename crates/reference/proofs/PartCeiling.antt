@@ -1,5 +1,6 @@
 -- The ceiling for each part, of the call that handles it.
---     advance-few    an advance that no check refuses, on usable tables, counts at most three links for each binary digit of the plan's height
+--     advance-few    an advance that no check refuses, on usable tables, counts at most three links for each binary
+--                    digit of the plan's height
 -- It follows from what every form of the call promises: AdvanceProperties (crate model, LeftOpen).
 use Prim.Native.Nat.{ℕ, zero, suc, _+_, _*_, _≤_, _<_}
 use mathlib.Core.Path.{_≡_, refl, sym, ap, _∙_, subst}
@@ -42,7 +43,7 @@ counted r x y = either (eqb (suc (length (r .states))) (length (r .roots)))
     either true u v e f = e
     either false u v e f = f
 
--- the links of the part at a place of the ready set
+-- the links of the part at an index of the ready set
 links-at : (t : Tree) (vs ms : List ℕ) (i : ℕ) → ms ≡ roots t vs → i < length ms → partLinks t ms (getD ms i 0) ≤ 3 * digits (height t)
 unfolding roots
 links-at t vs ms i e h =
@@ -50,7 +51,7 @@ links-at t vs ms i e h =
     subst (Members (λ v. holds v vs) t) (sym e) (list-members (λ v. holds v vs) t) in
     part-links (λ v. holds v vs) t ms M (getD ms i 0) (M .inside (getD ms i 0) (entry-in ms i h))
 
--- "at most three links for each binary digit of the plan's height" for one part
+-- at most three links for each binary digit of the plan's height, for one part
 pub advance-few : (r : Record) (x : Inputs) (a : Answer) (r′ : Record) (ps : List Part) → AdvanceProperties r x a r′
     → refusal (stageOf r) (advance x) ≡ 0 → Usable r x ps → r′ .links ≤ r .links + 3 * digits (height (planTree (x .plan)))
 advance-few r x a r′ ps A e U =

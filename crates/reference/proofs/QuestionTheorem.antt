@@ -1,4 +1,4 @@
--- The further statements of demand 3, about what the calls tell of one question.
+-- The further statements of demand 3, about what the calls answer of one question.
 --     question-answered   QuestionAnswered holds in every history from a fresh record
 --     questions-of        and passes on to every form of the calls
 --     outcome-order       and does not depend on the order of the list
@@ -63,7 +63,7 @@ module _ (b : Reference) (x : Inputs) (vs bs : List ℕ) (n : ℕ) where
       go zero e = (parts-in (partCount (asked x vs bs)) e, refl)
       go (suc m) e = absurd (true-false (sym (ap isRefused e)))
 
--- ---- what Reads tell
+-- ---- what Reads return
 
 linksIn : Answer → ℕ
 linksIn a = onOutcome (λ o. o .links) 0 a
@@ -144,7 +144,7 @@ module _ (L : Layers) (cs : List Call) (xs : List Answer) (x : Inputs) (vs bs : 
             };
       }
 
--- "whatever the order of the list": where no node is listed twice, what is told of one order is what is told of another
+-- where no node is listed twice, the answers do not depend on the order of the list
 pub outcome-order : (x : Inputs) (vs bs ws cs : List ℕ) → length vs ≡ length bs → length ws ≡ length cs
     → List·Permᴰ (zip vs bs) (zip ws cs)
     → distinct vs ≡ true → (n : ℕ) (ys : List Answer) → CleanOutcomes x vs bs n ys → CleanOutcomes x ws cs n ys

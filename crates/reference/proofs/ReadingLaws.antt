@@ -1,6 +1,6 @@
 -- What the reference model's reply to a Read allows.
 --     outcome-only       an answer that it takes from the program is an outcome
---     reading-outcome    what a Read of a finished question is told is an outcome, however it is settled
+--     reading-outcome    a Read of a finished question is answered with an outcome, however it is settled
 --     reading-stays      and it leaves the reference model as it is
 use mathlib.Core.Path.{_≡_, refl, sym}
 use mathlib.Core.Bool.{true}

@@ -1,6 +1,6 @@
 -- What ties the session's record to the reference model.
---     Parted r z q ps    Start's node table is as built; the record has the question's list and the ready set, and the states of parts
---                        ps, all below S
+--     Parted r z q ps    Start's node table is as built; the record has the question's list and the ready set, and the
+--                        states of parts ps, all below S
 --     Counted r q        its states, links and nodes passed over are the reference model's results, one for each count
 --     Cleanly z q        the state table of Start is as built, and the results were worked out on it
 --     SettledAs r z q k  what holds of a question of settlement k
@@ -8,8 +8,8 @@
 --     Told o q k         outcome o is that of a finished question of settlement k, as far as it is settled
 --     Lasts o l          the last finished answer is the last finished question's
 --     Rel r b            record and reference model agree
--- Of a question left to the program SettledAs has only that some parts are handled: enough for "never 18" on other bytes, and for 18
--- only with a cause.
+-- Of a question left to the program SettledAs has only that some parts are handled: enough to show that 18 is never
+-- given on other bytes, and only with a cause.
 use Prim.Native.Nat.{_<_}
 use mathlib.Core.Path.{_≡_}
 use mathlib.Core.Bool.{true}
@@ -45,7 +45,7 @@ pub record Cleanly (z : Sizes) (q : Question) : Type 0 where
   pub stateTable : stateTableBuilt z (q .inputs) ≡ true
   pub replayed : q .results ≡ partsFrom (givenBy z q (q .inputs)) (rootsOf q) [] (take (length (q .results)) (rootsOf q))
 
--- some parts were handled, whatever their states
+-- some parts were handled, with any states
 abbrev pub SomeParted : Record → Sizes → Question → Type 0
 SomeParted r z q = (ps : List Part) × Parted r z q ps
 

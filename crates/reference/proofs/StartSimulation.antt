@@ -1,6 +1,6 @@
 -- Start on record and reference model: its checks settle it, 18 too.
 --     some-part        a question has a part
---     on-start         what Start tells conforms, and record and reference model stay related
+--     on-start         Start's answer conforms, and record and reference model stay related
 use Prim.Native.Nat.{ℕ, _<_}
 use mathlib.Core.Path.{_≡_, refl}
 use mathlib.Core.Bool.{true}

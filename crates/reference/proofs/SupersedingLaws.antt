@@ -3,7 +3,7 @@
 --     parts-superseded, fresh-superseded    so are the number of parts and the answer of a clean question
 --     refusal-superseded  a Start whose list passes 12 to 14 is refused as with its list superseded
 --     act-superseded      one call
---     superseding-tells   every answer of every list of calls, whatever is lent
+--     superseding-tells   every answer of every list of calls, for any inputs
 use Prim.Native.Nat.{ℕ, zero, suc}
 use mathlib.Core.Path.{_≡_, refl, sym, ap, ap₂, _∙_}
 use mathlib.Core.Bool.{Bool, true, false, cond}
@@ -179,7 +179,8 @@ answers-superseded r (c ∷ cs) =
     ap (λ (a : Acted). a .answer ∷ answersOf (a .record′) (supersededCalls (act r c .record′) cs)) (act-superseded r c)
     ∙ ap (λ (xs : List Answer). act r c .answer ∷ xs) (answers-superseded (act r c .record′) cs)
 
--- "with repeats the answer is that of the list after superseding": of every call of every list, refused or not, whatever is lent
+-- "with repeats the answer is that of the list after superseding": of every call of every list, refused or not, for any
+-- inputs
 pub superseding-tells : (cs : List Call) → answersOf freshRecord (supersededCalls freshRecord cs) ≡ answersOf freshRecord cs
 unfolding freshRecord
 superseding-tells cs =

@@ -1,8 +1,9 @@
 -- The crate's theorems about the session's calls, with nothing left to assume.
---     model-demand-3    every list of calls, from a fresh record, whatever the inputs, is answered as the reference model
---                       (document 01's panel book) says
+--     model-demand-3    every list of calls, from a fresh record, is answered as the reference model (document 01's
+--                       panel book) says, for any inputs
 --     start-settled     nothing about Start is left to the program
---     model-questions   one question: an accepted Start had sound inputs; undisturbed: parts, advances, what Reads tell, ceilings
+--     model-questions   one question: an accepted Start had sound inputs; undisturbed: parts, advances, what Reads
+--                       return, ceilings
 --     model-agrees      so the model's own answers agree with the reference model
 -- The order of a list is outcome-order and start-order (QuestionTheorem, OrderLaws); that the premises can be met is
 -- written-sound and start-written (WrittenSound), and Controls.
@@ -26,7 +27,7 @@ use Rattle.reference.proofs.AgreementTestLaws.{history-of}
 pub model-demand-3 : Demand3 freshRecord Does
 model-demand-3 = demand-3 layers
 
--- "Nothing about Start is left to the program then": the reference model's reply to a Start is settled, whatever is given
+-- "Nothing about Start is left to the program then": the reference model's reply to a Start is settled, for any inputs
 pub start-settled : (b : Reference) (x : Inputs) (vs bs : List ℕ) → (a : Answer) × (b′ : Reference) × (step b (start x vs bs) ≡ settled a b′)
 unfolding step decided proceed starting
 start-settled b x vs bs = go (refusal (stageOf b) (start x vs bs))

@@ -1,10 +1,10 @@
 -- A clean question that is undisturbed, call by call and for whole lists.
 --     at q c tr            question q, clean, with c accepted advances counted
---     Iteration, iteration      one call while it runs: refused, a Read of an earlier answer, or an advance; finished exactly at the number
---                               of parts
---     Rest, rest           one call once it is answered: refused, or a Read that tells the fresh run's answer
+--     Iteration, iteration      one call while it runs: refused, a Read of an earlier answer, or an advance; finished
+--                               exactly at the number of parts
+--     Rest, rest           one call once it is answered: refused, or a Read that returns the fresh run's answer
 --     agrees-split         a list of calls in two parts
---     UndisturbedFrom, undisturbed    a whole list: the advances it takes to finish, and what Reads tell after that
+--     UndisturbedFrom, undisturbed    a whole list: the advances it takes to finish, and what Reads return after that
 --     every-map, after-map      what holds of every outcome
 use Prim.Native.Nat.{ℕ, zero, suc, _+_, _≤_, _<_}
 use mathlib.Core.Path.{_≡_, refl, sym, ap, _∙_, subst}
@@ -114,7 +114,7 @@ module _ (z : Sizes) (o : Option Question) (q : Question) (c : ℕ) (tr : List P
       go zero e = both (sameInputs z (q .inputs) x) refl e
       go (suc n) e = waits (suc n) e refl
 
-  -- a Read tells of the question before, or is refused
+  -- a Read returns the answer of the question before, or is refused
   iteration-read : (w : Option Question) (a : Answer) → Conforms (readingLast going w) a → Iteration a (after (readingLast going w) a)
   unfolding readingLast
   iteration-read none a e = waits 1 e refl

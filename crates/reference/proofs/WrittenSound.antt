@@ -1,5 +1,6 @@
--- "It may lend what Load wrote": whatever Load accepts, what it leaves in the buffers is sound for that plan's N, S
--- and K, longer buffers and their excess included. So every plan and rule table passes Start's 18 after its Load.
+-- "It may lend what Load wrote": for any inputs that Load accepts, what it leaves in the buffers is sound for that
+-- plan's N, S and K, longer buffers and their excess included. So every plan and rule table passes Start's 18 after its
+-- Load.
 --     loaded x          the inputs after an accepted Load
 --     written-sound, written-fits     they are sound, and long enough
 --     start-written     so a Start on them is accepted with any list that passes 12 to 14
@@ -127,14 +128,15 @@ module _ (x : Inputs) (passed : firstNo (ruleTableChecks (x .plan) (x .rules)) �
       stateTable′ : List ℕ
       stateTable′ = builtStateTable (x .plan) (x .rules) ++ drop (length (builtStateTable (x .plan) (x .rules))) (x .stateTable)
 
--- whatever the buffers held, and however long they are
+-- for any contents and any lengths of the buffers
 pub written-sound : (t : Stage) (x : Inputs) → refusal t (load x) ≡ 0 → sound (sizesIn x) (loaded x) ≡ true
 written-sound t x e = passed-sound x (load-passes t x e)
 
 pub written-fits : (t : Stage) (x : Inputs) → refusal t (load x) ≡ 0 → fits (sizesIn x) (loaded x) ≡ true
 written-fits t x e = passed-fits x (load-passes t x e)
 
--- so a Start on what an accepted Load left is accepted with any list that passes 12 to 14, and tells its parts
+-- so a Start on what an accepted Load left is accepted with any list that passes 12 to 14, and returns its number of
+-- parts
 pub start-written : (t : Stage) (x : Inputs) (s : State) (o : Option Question) (vs bs : List ℕ) → refusal t (load x) ≡ 0
     → mayStart (phase s) ≡ true
     → firstNo (listChecks (sizesIn x .n) (sizesIn x .k) vs bs) ≡ 0

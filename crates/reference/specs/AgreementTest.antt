@@ -1,10 +1,11 @@
 -- Demand 3 as a test that computes, for samples and controls.
 --
--- answersOf r cs == what the model answers to the calls cs, from record r on
+-- answersOf r cs == the model's answers to the calls cs, from record r on
 -- sameAnswer a b == whether two answers are the same
--- agreed b cs xs == whether the answers xs agree with the reference model; it says what Agrees says: proofs/AgreementTestLaws
--- settledAnswers b cs xs == what the reference model settles of each call; none where it is left to the program: only there are the
---   answers xs looked at
+-- agreed b cs xs == whether the answers xs agree with the reference model b; where it is true Agrees holds
+--   (proofs/AgreementTestLaws)
+-- settledAnswers b cs xs == for each call the answer that the reference model settles, none where it is left to the
+--   program: only there are the answers xs read
 use Prim.Native.Nat.{ℕ}
 use mathlib.Core.Bool.{Bool, true, false, _&&_}
 use mathlib.Core.List.{List, [], _∷_}

@@ -2,16 +2,18 @@
 --
 -- "18 means that a value read leads outside the plan, the states or the labels, or a climb doesn't rise."
 --
--- isChildless b x == by the node table b a child of node x would lie outside the plan
--- strays n b v, isApart n b v == the links of node v lead outside the plan, do not rise or lead to a node without children; node v is at
---   the top, and not above all
--- nodeTableCause n b == some value of the n nodes does so
--- nodeCause X vs bs v == a state, a label or the kind of node v leads outside, with the labels as the list changes them
--- rulesCause X == a rule gives no state
--- cause X vs bs == one of these: of what an advance reads
--- advanceCause z x vs bs == of the inputs, excess aside
+-- isChildless b x == by the node table b, a child of node x would lie outside the plan
+-- strays n b v == a link of node v leads outside the plan, does not rise, or leads to a node without children
+-- isApart n b v == node v has depth 0, and some node is not in its subtree
+-- nodeTableCause n b == one of these two holds of one of the n nodes
+-- nodeCause X vs bs v == a state, a label or the kind of node v is out of range, with the labels as the list changes
+--   them
+-- rulesCause X == a rule gives a number that is no state
+-- cause X vs bs == one of these, in what an advance reads
+-- advanceCause z x vs bs == the same of the inputs, excess aside
 --
--- The same as data, with the value's place: NodeTableOutOfRange (crate tables) and PartOutOfRange (crate questions); proofs/CauseLaws.
+-- The same as data, with the value's position: NodeTableOutOfRange (crate tables) and PartOutOfRange (crate questions);
+-- proofs/CauseLaws.
 use Prim.Native.Nat.{ℕ, _+_, _-_, _*_}
 use mathlib.Core.Bool.{Bool, not, _&&_, _||_}
 use mathlib.Core.List.{List}
@@ -27,7 +29,7 @@ use Rattle.formats.specs.Inputs.{Inputs, Sizes, usedNodeTable, usedStateTable}
 unfoldable pub isChildless : List ℕ → ℕ → Bool
 isChildless b x = eqb x 0 || ltb (x - 1) (sizeCell b (x - 1))
 
--- below the top: a link that does not rise, or leads to a node without children
+-- at a depth above 0: a link that does not rise, or leads to a node without children
 unfoldable pub isFlat : List ℕ → ℕ → Bool
 isFlat b v =
     leb (depthCell b v) (depthCell b (jumpCell b v))

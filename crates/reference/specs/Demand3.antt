@@ -1,10 +1,10 @@
 -- Demand 3: one statement about every list of calls.
 --
--- Conforms r a == answer a against the reference model's reply r; after r a == the reference model then
--- Agrees b cs xs == the whole list of answers xs to the calls cs against the reference model b
+-- Conforms r a == the reference model's reply r allows answer a; after r a == the reference model after that answer
+-- Agrees b cs xs == the reference model b allows the answers xs to the calls cs, one by one
 -- Demand3 fresh Step == every history from the fresh record agrees with the new reference model
 --
--- The contracts come in as `Step`; the session puts its calls' very promises there (History: crate model).
+-- `Step` is a call's contract: for the session, its calls' own promises (History: crate model).
 use mathlib.Core.Path.{_≡_}
 use mathlib.Core.Bool.{Bool, true}
 use mathlib.Core.List.{List, [], _∷_}

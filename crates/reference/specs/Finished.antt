@@ -1,10 +1,10 @@
--- A question that is carried to its end: what is told of it.
+-- A question that is carried to its end: what its calls answer.
 --
 -- advancesOf ws == an advance on each of the inputs ws
 -- AllSame z x ws == each of the inputs ws is the same as x, excess aside
--- toTheEnd n a == the answers of n advances and a Read that tells a: more until the last, which tells finished
--- QuestionsFinish fresh Step == in every history from the fresh record: a Start that was accepted and told n parts, then n advances given
---   the same as it and a Read, are all accepted and answered so, the Read with the fresh run's answer
+-- toTheEnd n a == the answers of n advances and of a Read that returns a: more, and finished for the last advance
+-- QuestionsFinish fresh Step == in every history from the fresh record: after an accepted Start that returned n parts,
+--   n advances given the same as it and a Read are all accepted and answered so, the Read with the fresh run's answer
 use Prim.Native.Nat.{ℕ, _-_}
 use mathlib.Core.Path.{_≡_}
 use mathlib.Core.Bool.{true}

@@ -1,12 +1,13 @@
 -- The last finished answer over lists of calls (document 02, S-1).
 --
--- ReadTells a c z == where call c is a Read, its answer z is a
--- finishes c z == call c is an advance that told finished
--- replaces c z == it is that, or a Load that was accepted: from then on the last finished answer is another one, or none
--- AnswerLasts a cs zs == every Read of the calls cs is told a, until one that replaces it
+-- ReadTells a c z == if call c is a Read, its answer z is a
+-- finishes c z == call c is an advance that answered finished
+-- replaces c z == it is that, or an accepted Load: from then on the last finished answer is another one, or none
+-- AnswerLasts a cs zs == every Read of the calls cs returns a, until a call that replaces it
 -- NoAnswerYet cs zs == every Read is refused with 1, until an advance finishes
--- SameButReads cs xs ys == the answers xs and ys to the calls cs are the same, but for Reads before the first call that replaces
--- AnswersLast, NoAnswersYet, AsAnew == these of every history from the fresh record, for any form of the calls
+-- SameButReads cs xs ys == the answers xs and ys to the calls cs are the same, except for Reads before the first call
+--   that replaces the last finished answer
+-- AnswersLast, NoAnswersYet, AsAnew == these in every history from the fresh record, for any form of the calls
 use Prim.Native.Nat.{ℕ}
 use mathlib.Core.Path.{_≡_}
 use mathlib.Core.Bool.{Bool, true, false, not}
@@ -67,9 +68,9 @@ SameButReads (c ∷ cs) (a ∷ xs) (b ∷ ys) =
 
 -- ---- of every history
 
--- a question that Start accepted, undisturbed up to the advance that finished it: "if so, Read tells in every state what 01 has for that
--- question, whatever was started or cancelled since". cs and xs are the calls and answers before the Start, ds and ys those between the
--- Start and that advance, es and zs those after it
+-- a question that Start accepted, undisturbed up to the advance that finished it: "if so, Read tells in every state
+-- what 01 has for that question, whatever was started or cancelled since". cs and xs are the calls and answers before
+-- the Start, ds and ys those between the Start and that advance, es and zs those after it
 abbrev pub AnswersLast : {Record : Type 0} → Record → (Record → Call → Answer → Record → Type 0) → Type 0
 AnswersLast fresh Step = (cs : List Call) (xs : List Answer) (x : Inputs) (vs bs : List ℕ) (n : ℕ) (ds : List Call) (ys : List Answer)
     (w : Inputs) (es : List Call) (zs : List Answer) → length cs ≡ length xs → length ds ≡ length ys
@@ -84,8 +85,8 @@ NoAnswersYet fresh Step =
     × ((cs : List Call) (xs : List Answer) (x : Inputs) (ds : List Call) (ys : List Answer) → length cs ≡ length xs
     → History Step fresh (cs ++ (load x ∷ ds)) (xs ++ (Answer.accepted ∷ ys)) → NoAnswerYet ds ys)
 
--- "Loaded after Cancel .. equals it in all but that answer, and a question started then must still end as in a new session": the calls ds
--- after an accepted Cancel, and the same calls after a first Load with the same N, S and K
+-- "Loaded after Cancel .. equals it in all but that answer, and a question started then must still end as in a new
+-- session": the calls ds after an accepted Cancel, and the same calls after a first Load with the same N, S and K
 abbrev pub AsAnew : {Record : Type 0} → Record → (Record → Call → Answer → Record → Type 0) → Type 0
 AsAnew fresh Step = (cs : List Call) (xs : List Answer) (x : Inputs) (ds : List Call) (ys zs : List Answer) → length cs ≡ length xs
     → sizesIn x ≡ referenceAt newReference cs xs .sizes → History Step fresh (cs ++ (cancel ∷ ds)) (xs ++ (Answer.accepted ∷ ys))

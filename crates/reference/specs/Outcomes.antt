@@ -31,24 +31,25 @@ pub record Few (m p : ℕ) : Type 0 where
   pub one : m ≡ 0 → p ≡ 1
   pub few : 1 ≤ m → p ≤ 4 * m - 2
 
--- n is what Start told, ys are the answers of the calls after it
+-- n is the number of parts that Start returned, ys are the answers of the calls after it
 pub record CleanOutcomes (x : Inputs) (vs bs : List ℕ) (n : ℕ) (ys : List Answer) : Type 0 where
-  -- Start tells the size of the ready set
+  -- Start returns the size of the ready set
   pub parts-are : n ≡ partCount (asked x vs bs)
-  -- "the ceiling of 4m-2 uses the m that is left, with 1 part when none is": m counts the nodes whose label, after superseding, is not the plan's
+  -- "the ceiling of 4m-2 uses the m that is left, with 1 part when none is": m counts the nodes whose label, after
+  -- superseding, is not the plan's
   pub few : Few (length (differing (labelsIn (x .plan)) vs bs)) n
   -- "parts and advances needed never rise": no more than with all listed nodes in W
   pub never-more : n ≤ length (roots (planTree (x .plan)) vs)
-  -- finished by exactly as many accepted advances as there are parts
+  -- finished after exactly one accepted advance for each part
   pub exact : (m : ℕ) → finishedAfter ys ≡ some m → m ≡ n
   pub unfinished : finishedAfter ys ≡ none → advances ys < n
   pub most : advances ys ≤ n
-  -- once it is finished Read tells the fresh run's state and yes or no, the parts, the moves of their climbs and the nodes that
-  -- these passed over
+  -- once it is finished Read returns the fresh run's state and yes or no, the parts, the moves of their climbs and the
+  -- nodes that these passed over
   pub only : OnlyOutcomeAfter (freshAnswer (asked x vs bs)) ys
-  -- at most three links for each binary digit of the plan's height, for each part told
+  -- at most three links for each binary digit of the plan's height, for each part
   pub links : EveryOutcomeAfter (λ o. o .links ≤ o .parts * (3 * digits (height (planTree (x .plan))))) ys
-  -- document 02, S-7: as many nodes passed over as links or more, and no more than the plan is high for each part told
+  -- document 02, S-7: no fewer nodes passed over than links, and at most the plan's height for each part
   pub passed-least : EveryOutcomeAfter (λ o. o .links ≤ o .passed) ys
   pub passed-most : EveryOutcomeAfter (λ o. o .passed ≤ o .parts * height (planTree (x .plan))) ys
 
@@ -65,6 +66,6 @@ QuestionsAnswered fresh Step = (cs : List Call) (xs : List Answer) (x : Inputs) 
     → length cs ≡ length xs → History Step fresh (cs ++ (start x vs bs ∷ ds)) (xs ++ (parts n ∷ ys))
     → QuestionAnswered (referenceAt newReference cs xs .sizes) x vs bs n ds ys
 
--- what a Read tells first: this state, and this yes or no
+-- an outcome has this state, and this yes or no
 abbrev pub Tells : ℕ → Bool → Outcome → Type 0
 Tells q b o = (o .state ≡ q) × (o .yes ≡ b)

@@ -1,7 +1,7 @@
 -- Which answers belong to which call.
 --
--- Own c a == a is a refusal, or what call c tells when it is accepted: Load and Cancel that alone, Start its parts, an advance more or
---   finished, Read an outcome
+-- Own c a == a is a refusal, or an answer of the kind that call c gives when it is accepted: for Load and Cancel just
+--   accepted, for Start its parts, for an advance more or finished, for Read an outcome
 use Prim.Native.Nat.{ℕ}
 use mathlib.Core.List.{List}
 use Rattle.formats.specs.Inputs.{Inputs}

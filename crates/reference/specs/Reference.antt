@@ -1,15 +1,19 @@
--- The reference model: the panel book of document 01, a model of the session that is fed the calls and their inputs, never the record.
+-- The reference model: the panel book of document 01, a model of the session that is fed the calls and their inputs,
+-- never the record.
 --
--- Settlement == what settles a question's answers. Start settles its own, and begins clean: sound inputs. clean: the same at every advance;
---   byRule: plan, rules and node table as at Start, the state table's bytes below S, so that "Parts of a question" settles them; byProgram:
---   neither. byRule and byProgram come of advances alone
--- Question == "its list, what its Start lent, a count, and whether it is clean"; the results of its parts, by the rule on the inputs given
--- Reference == "the session's state, N, S and K of the last accepted Load", the question, and the last that finished, as it was at its
---   finish; stageOf b == what the checks ask of it
--- Reply == its reply to a call: settled without the program's answer, or unsettled, left to the program and fed its answer
--- step b c == the lines of "The panel book"
+-- Settlement == what settles a question's answers. Start's answer is always settled, and its question begins clean, on
+--   sound inputs. clean: every advance is given the same; byRule: plan, rules and node table as at Start, the state
+--   table's bytes below S, so that "Parts of a question" settles the answers; byProgram: neither. Only an advance makes
+--   a question byRule or byProgram
+-- Question == "its list, what its Start lent, a count, and whether it is clean"; and the results of its parts, by the
+--   rule on the inputs given
+-- Reference == "the session's state, N, S and K of the last accepted Load", the question, and the last finished
+--   question as it was at its finish; stageOf b == what the checks read of it
+-- Reply == its reply to a call: settled, without the program's answer, or unsettled: left to the program, whose answer
+--   it is fed
+-- step b c == its reply to call c, by the lines of "The panel book"
 --
--- A settled answer cannot see the program's: it is the constructor's argument.
+-- A settled answer cannot depend on the program's: it is the constructor's argument.
 use Prim.Native.Nat.{ℕ, zero, suc}
 use mathlib.Core.Bool.{Bool, true, false, cond, not, _&&_}
 use mathlib.Core.List.{List, [], _∷_, _++_}
@@ -49,8 +53,8 @@ pub data State : Type 0 where
   running : Question → State
   answered : State
 
--- "The session record, and the panel book of demand 3 with it, gains the last finished answer .. The book keeps with it whether its question
--- was clean at its finish" (02, S-1): the question itself is kept, and its settlement with it
+-- "The session record, and the panel book of demand 3 with it, gains the last finished answer .. The book keeps with it
+-- whether its question was clean at its finish" (02, S-1): the question itself is kept, and its settlement with it
 pub record Reference : Type 0 where
   pub state : State
   pub sizes : Sizes
@@ -67,7 +71,7 @@ phase State.loaded = Phase.loaded
 phase (State.running q) = Phase.running
 phase State.answered = Phase.answered
 
--- what the checks ask of it
+-- what the checks read of it
 abbrev pub stageOf : Reference → Stage
 stageOf b = stage (phase (b .state)) (b .sizes) (isSome (b .last))
 
@@ -84,7 +88,8 @@ finishedWith b q = record { state = State.answered; sizes = b .sizes; last = som
 
 -- ---- what a question's Start settles
 
--- document 02, S-5: "A listed node whose label equals the plan's is left out of W from now on, after superseding": what is left, by Start's plan
+-- document 02, S-5: "A listed node whose label equals the plan's is left out of W from now on, after superseding": what
+-- is left, by Start's plan
 abbrev pub leftOf : Question → List ℕ
 leftOf q = differing (labelsIn (q .inputs .plan)) (q .nodes) (q .labels)
 
@@ -107,8 +112,9 @@ givenBy z q x = givenOf z (q .inputs) x (q .nodes) (q .labels)
 unfoldable pub longer : Sizes → Question → Inputs → List Part
 longer z q x = q .results ++ (partOf (givenBy z q x) (rootsOf q) (q .results) (getD (rootsOf q) (length (q .results)) 0) ∷ [])
 
--- "the root state, and its yes or no, of a fresh run (source document 002's, on Start's plan with the listed labels changed), the
--- parts, and as links the moves of its parts' climbs"; document 02 (S-7): "the total over their climbs", the nodes passed over
+-- "the root state, and its yes or no, of a fresh run (source document 002's, on Start's plan with the listed labels
+-- changed), the parts, and as links the moves of its parts' climbs"; document 02 (S-7): "the total over their climbs",
+-- the nodes passed over
 unfoldable pub freshAnswer : Question → Answer
 freshAnswer q =
     outcomeAnswer (fresh-run.rootState (q .inputs .plan) (q .inputs .rules) (q .nodes) (q .labels))
@@ -137,19 +143,20 @@ unfoldable pub advanced : Question → Settlement → List Part → Question
 advanced q k ps =
     record { nodes = q .nodes; labels = q .labels; inputs = q .inputs; count = suc (q .count); settlement = k; results = ps }
 
--- "the count rises by one. At the number of parts it tells finished and the state is answered; until then it tells more."
+-- "the count rises by one. At the number of parts it tells finished and the state is answered; until then it tells
+-- more."
 unfoldable pub goesOn : Reference → Question → Reply
 goesOn b q =
     cond (eqb (q .count) (partCount q)) (settled finished (finishedWith b q)) (settled more (inState b (State.running q)))
 
--- "Where plan and rules name the record's N, S and K and, like the 16-bit numbers, are as at Start and as built, but run states and
--- maps are any bytes below S, an advance goes on as always and stores and counts what this rule gives on those bytes."
--- What Start was given is as built
+-- "Where plan and rules name the record's N, S and K and, like the 16-bit numbers, are as at Start and as built, but
+-- run states and maps are any bytes below S, an advance goes on as always and stores and counts what this rule gives on
+-- those bytes." What Start was given is as built
 unfoldable pub otherStates : Sizes → Question → Inputs → Bool
 otherStates z q x = sameNodeInputs z (q .inputs) x && statesBelow z x
 
--- left to the program: more or finished, or 18 where the inputs give a cause: never where the tables are as built and as at Start, or
--- other bytes
+-- left to the program: more, finished or 18. 18 needs a cause in the inputs (caused), and is never given where these
+-- are Start's except for state table bytes below S (usable)
 unfoldable pub mayAdvanceWith : Bool → Bool → Answer → Bool
 mayAdvanceWith usable caused a =
     onAdvance true true (onRefused (λ n. eqb n 18 && (not usable && caused)) false a) a
@@ -173,8 +180,8 @@ advancing b x q clean =
 advancing b x q byRule = advancingByRule b x q
 advancing b x q byProgram = advancingByProgram b x q
 
--- ---- Read: "if so, Read tells in every state what 01 has for that question, whatever was started or cancelled since; if not, what Read
--- tells is left to the program as far as 01 leaves it"
+-- ---- Read: "if so, Read tells in every state what 01 has for that question, whatever was started or cancelled since;
+-- if not, what Read tells is left to the program as far as 01 leaves it"
 
 unfoldable pub isOutcome : Answer → Bool
 isOutcome a = onOutcome (λ o. true) false a
@@ -191,7 +198,7 @@ readingLast b (some q) = reading b q (q .settlement)
 
 -- ---- the step
 
--- a call that no check refuses, an advance's 18 apart; the states in which it may not be made do not come here
+-- the reply to a call that passed its checks (an advance may still give 18); an advance outside running never gets here
 unfoldable pub proceed : Reference → State → Call → Reply
 proceed b s (load x) = settled Answer.accepted (record { state = State.loaded; sizes = sizesIn x; last = none })
 proceed b s (start x vs bs) = starting b (asked x vs bs)
@@ -202,7 +209,8 @@ proceed b State.answered (advance x) = settled (refused 1) b
 proceed b s cancel = settled Answer.accepted (inState b State.loaded)
 proceed b s read = readingLast b (b .last)
 
--- "One of the next section's checks, 18 apart, says no: the first such number; the book stays." Start's 18 is such a check now
+-- "One of the next section's checks, 18 apart, says no: the first such number; the book stays." Start's 18 is now one
+-- of these checks
 unfoldable pub decided : ℕ → Reference → Call → Reply
 decided zero b c = proceed b (b .state) c
 decided (suc n) b c = settled (refused (suc n)) b

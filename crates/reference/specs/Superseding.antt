@@ -1,8 +1,9 @@
 -- A question with repeats, and the question with its list superseded (document 02, S-4).
 --
--- supersededNodes vs bs, supersededLabels vs bs == the list "after superseding": each node once, with the label of its last entry, rising
+-- supersededNodes vs bs, supersededLabels vs bs == the list "after superseding": each node once, with the label of its
+--   last entry, rising
 -- supersede t c == the call c with its list superseded, where it is a Start whose list passes 12 to 14 at stage t
--- supersededCalls r cs == the calls cs, from record r on, each so
+-- supersededCalls r cs == the calls cs, from record r on, each changed by supersede
 -- supersededRecord r == the record r with its list superseded
 use Prim.Native.Nat.{ℕ}
 use mathlib.Core.Bool.{cond}
@@ -20,7 +21,7 @@ supersededNodes vs bs = nodesListed (superseded (entries vs bs))
 abbrev pub supersededLabels : List ℕ → List ℕ → List ℕ
 supersededLabels vs bs = labelsListed (superseded (entries vs bs))
 
--- 12 to 14 are asked of the list as listed: one that is refused stays as it is
+-- checks 12 to 14 are made on the list as listed: one that is refused stays as it is
 abbrev pub supersede : Stage → Call → Call
 supersede t (load x) = load x
 supersede t (start x vs bs) =

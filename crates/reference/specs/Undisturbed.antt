@@ -1,12 +1,13 @@
 -- A question that is undisturbed (document 01: left alone): the words of demand 3's further statements.
 --
--- advances xs == how many accepted advances the answers xs have
--- finishedAfter xs == how many they have up to the first that tells finished, it included; none where none does
+-- advances xs == the number of accepted advances in the answers xs
+-- finishedAfter xs == their number up to the first that answers finished, that one included; none where none does
 -- referenceAt b cs xs == the reference model after the calls cs with the answers xs
 -- Undisturbed z y cs xs == every accepted call of cs is an advance given the same as y, excess aside, or a Read
--- OutcomeHas P a == where a is what a Read tells, that has P; EveryOutcome P xs == of all answers xs; OnlyOutcome a xs == each is a
--- EveryOutcomeAfter P xs, OnlyOutcomeAfter a xs == the same of the answers after the first that tells finished: a Read before it tells of an
---   earlier question
+-- OutcomeHas P a == if a is an outcome (the answer of a Read), it has P
+-- EveryOutcome P xs == the same of all answers xs; OnlyOutcome a xs == every outcome in xs is a
+-- EveryOutcomeAfter P xs, OnlyOutcomeAfter a xs == the same of the answers after the first finished: a Read before it
+--   is about an earlier question
 use Prim.Native.Nat.{ℕ, suc}
 use mathlib.Core.Path.{_≡_}
 use mathlib.Core.Bool.{Bool, true, false}

@@ -2,7 +2,7 @@
 --     label-hit, label-miss, label-end   the scan of the list, entry by entry: what its loop uses
 --     label-changed   labelFor is the label that `changed` holds
 --     label-last, label-unlisted   it is the last entry's for the node, or the node's own where none is for it
---     length-changed, label-below  as many labels as before, and all in their range
+--     length-changed, label-below  the number of labels is unchanged, and all are in their range
 use Prim.Native.Nat.{ℕ, suc, _+_, _≤_, _<_}
 use mathlib.Core.Path.{_≡_, refl, sym, ap, _∙_}
 use mathlib.Core.Bool.{Bool, true, false, cond, _||_}

@@ -1,10 +1,10 @@
--- The turns of the pass over a plan's nodes.
---     top-most, inner-two, rule-args, left-state     what the machine asks in a turn
---     leaf-step, inner-step   the turn of a node
---     stretch-start, stretch-step     the nodes up to the next mark: what holds at first, and a turn keeps it
+-- The iterations of the pass over a plan's nodes.
+--     top-most, inner-two, rule-args, left-state     what the machine asks in an iteration
+--     leaf-step, inner-step   the iteration of a node
+--     stretch-start, stretch-step     the nodes up to the next mark: what holds at first, and an iteration keeps it
 --     stretch-inside, stretch-before  no mark is passed
 --     Passed, span-start, span-step, span-end   the nodes whose changes are marked
---     pass-start, pass-end   the whole pass: what holds before its first node, and what its last tells
+--     pass-start, pass-end   the whole pass: what holds before its first node, and what its last one returns
 -- Not here: the marks (ChangeLaws).
 use Prim.Native.Nat.{ℕ, _+_, _-_, _*_, _≤_, _<_}
 use mathlib.Core.Path.{_≡_, refl, sym, ap, ap₂, _∙_}
@@ -38,7 +38,7 @@ trees v top x = record { node = v; count = top; last = x }
 
 -- ---- bounds
 
--- the rule of states below s stands in the table
+-- the rule of states below s is in the table
 pub rule-args : {inn : List ℕ} {s k p a q : ℕ} → p < s → a < k → q < s → s ≤ 16 → k ≤ 64 → length inn ≡ s * k * s
     → RuleArgs inn s k p a q
 rule-args {s = s} {k = k} {p = p} {a = a} hp ha hq hs hk e =
@@ -52,7 +52,7 @@ pub top-most : {ks : List ℕ} {s : ℕ} {st : List ℕ} {w : Waiting} → Stack
 top-most {ks = ks} {w = w} p =
     omega (arith, waiting-most (drop (w .node) ks) (w .count) (p .one), length-drop (w .node) ks, p .few, p .here, p .room)
 
--- ---- the turn of a node
+-- ---- the iteration of a node
 
 module _ {ks : List ℕ} {s : ℕ} {st : List ℕ} {w : Waiting} (p : Stacked ks s st w) (h : w .node < length ks) where
   -- a leaf is one more tree that waits
@@ -87,7 +87,7 @@ module _ {ks : List ℕ} {s : ℕ} {st : List ℕ} {w : Waiting} (p : Stacked ks
           | no l ↦ omega arith
         ]
 
-    -- the left child's state is in its place
+    -- the left child's state is in its cell
     pub left-state : getD (set st (w .count) (w .last)) (w .count - 1) 0 ≡ getD st (w .count - 1) 0
     left-state = getD-set-other st (w .count) (w .count - 1) (w .last) 0 (λ e. omega (arith, inner-two))
 
@@ -198,7 +198,7 @@ stretch-step {cs = cs} {from = from} {w = w} d e f n = record {
 
 -- ---- the nodes whose changes are marked
 
--- before the turn of w's node
+-- before the iteration of w's node
 pub record Passed (ks ls cs : List ℕ) (to : ℕ) (lv inn : List ℕ) (s k : ℕ) (st₀ : List ℕ) (w₀ : Waiting) (st : List ℕ) (w : Waiting)
     : Type 0 where
   pub rising : w₀ .node ≤ w .node
@@ -219,7 +219,7 @@ span-end p h = record { reached = omega (arith, p .inside); stacked = p .stacked
 
 module _ {ks ls cs : List ℕ} {to : ℕ} {lv inn : List ℕ} {s k : ℕ} {st₀ st : List ℕ} {w₀ w t : Waiting}
     (a : SpanArgs ks ls cs to k w₀) (p : Passed ks ls cs to lv inn s k st₀ w₀ st w) (h : w .node < to) where
-  -- after the turn of one node
+  -- after the iteration of one node
   pub stretch-args : t .node ≡ w .node + 1 → StretchArgs ks ls cs (w₀ .node) k t
   stretch-args n = record {
     labelled = a .labelled;

@@ -1,7 +1,7 @@
 -- The fresh run of what passes its checks, and the promise of the call.
 --     pass-args        what the pass asks, from the checks
 --     root-below       the root's state is below S
---     mark-at          a mark by its place in the rules
+--     mark-at          a mark by its index in the rules
 --     freshRun-passed  the answer where every check passes
 --     run-args         the counts of the headers, with bounds of their products
 --     parts-args, root-is, root-in, result-is   of the parts handed on: what the pass asks, and what its answer is

@@ -23,7 +23,7 @@ lower-set st zero i x h = refl
 lower-set st (suc w) i x h =
     ap₂ (λ (y : ℕ) (l : List ℕ). y ∷ l) (getD-set-other st i (suc w) x 0 (λ e. omega arith)) (lower-set st w i x (omega arith))
 
--- the last completed is put into its place, and y is on top
+-- the last completed is stored in its cell, and y is on top
 pub stack-push : (st : List ℕ) (w x y : ℕ) → w < length st → stackOf (set st w x) (w + 1) y ≡ y ∷ stackOf st w x
 unfolding stackOf lowerOf
 stack-push st zero x y h = refl
@@ -36,7 +36,7 @@ pub stack-two : (st : List ℕ) (w top x : ℕ) → top ≡ w + 2 → stackOf st
 unfolding stackOf lowerOf
 stack-two st w top x e = let f : top ≡ suc (suc w) = omega arith in rw (f, add-one)
 
--- one on top of those below: the place above is of no account
+-- one on top of those below: the cell above does not matter
 pub stack-join : (st : List ℕ) (w i x y : ℕ) → w < i → stackOf (set st i x) (w + 1) y ≡ y ∷ lowerOf st w
 unfolding stackOf
 stack-join st w i x y h = rw add-one (ap (λ (l : List ℕ). y ∷ l) (lower-set st w i x h))
@@ -46,7 +46,7 @@ stack-join st w i x y h = rw add-one (ap (λ (l : List ℕ). y ∷ l) (lower-set
 pub some-some : {x y : ℕ} → some x ≡ some y → x ≡ y
 some-some h = cc
 
--- as many trees wait as can still be joined
+-- no more trees wait than can still be joined
 pub waiting-most : (ks : List ℕ) (w : ℕ) → waiting ks w ≡ some 1 → w ≤ length ks + 1
 waiting-most [] w h = omega (arith, some-some h)
 waiting-most (zero ∷ ks) w h = omega (arith, waiting-most ks (suc w) h)

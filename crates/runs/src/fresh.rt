@@ -6,8 +6,8 @@ ghost use mathlib.Core.Path.{_≡_};
 ghost use Rattle.runs.specs.inner.Pass.{RunArgs};
 ghost use Rattle.runs.specs.FreshRun.{freshRun, FreshRunDone};
 
-// The run over plan, rules and list that pass their checks. Labels, kinds and states are handed on as parts of what is
-// lent, never copied.
+// The run over plan, rules and list that pass their checks. Labels, kinds and states are handed on as parts of the
+// inputs, never copied.
 fn run_passed(
     plan: &[u8],
     rules: &[u8],
@@ -34,8 +34,8 @@ fn run_passed(
     Running::Ended(q, rules[marks + q as usize] == 1)
 }
 
-// A fresh run without tables: of the rules over the plan with the listed labels changed. It tells the root's state and
-// yes or no, or the number of the first check that fails, of 2 to 10 and 12 to 14.
+// A fresh run without tables: of the rules over the plan with the listed labels changed. It returns the root's state
+// and yes or no, or the number of the first check that fails, of 2 to 10 and 12 to 14.
 pub fn fresh_run(plan: &[u8], rules: &[u8], nodes: &[u16], labels: &[u8]) -> Running
     ensures { λ r. ⌜ FreshRunDone (now (plan .entry)) (now (rules .entry)) (now (nodes .entry)) (now (labels .entry)) r ⌝ }
 {

@@ -1,5 +1,5 @@
 // Fresh runs: a plan's run with listed labels changed, worked out without tables.
-//     answer    what a fresh run tells
+//     answer    the answer of a fresh run
 //     changes   a list of changes, marked node by node
 //     pass      the pass over the nodes
 //     fresh     the call

@@ -9,15 +9,15 @@ ghost use Rattle.runs.specs.inner.Listed.{marked};
 ghost use Rattle.runs.specs.inner.Pass.{PassArgs, PassDone, RuleStates, Stacked, StepArgs, StepDone};
 ghost use Rattle.runs.specs.inner.Pass.{StretchArgs, StretchDone, SpanArgs, SpanDone, SpanEnd};
 
-// Before a node's turn: the node, how many trees wait, and the state of the last completed. Those of the others stand in
-// an array.
+// Before a node's iteration: the node, how many trees wait, and the state of the last completed. Those of the others
+// are in an array.
 pub struct Waiting {
     pub node: usize,
     pub count: usize,
     pub last: u8,
 }
 
-// Room for the states of the trees that wait: of N nodes at most (N + 1) / 2, and a place before them.
+// Room for the states of the trees that wait: for N nodes at most (N + 1) / 2, and a spare cell before them.
 fn room() -> [u8; 32769]
     ensures { λ r. ⌜ length r ≡ 32769 ⌝ }
 {
@@ -31,8 +31,8 @@ fn small_room() -> [u8; 1024]
     [0u8; 1024]
 }
 
-// The turn of a node with label a. A leaf puts the state of the tree completed before it into its place; an inner node
-// finds there that of its left child.
+// The iteration of a node with label a. A leaf stores the state of the tree completed before it in the array; an inner
+// node reads its left child's state there.
 fn step(
     states: &mut [u8],
     before: Waiting,
@@ -67,7 +67,7 @@ fn step(
     }
 }
 
-// The turns of the nodes that are not listed, up to the next mark. Their labels are read where they are lent.
+// The iterations of the nodes that are not listed, up to the next mark. Their labels are read in the plan itself.
 fn stretch(
     states: &mut [u8],
     before: Waiting,
@@ -107,8 +107,8 @@ fn label_at(labels: &[u8], marks: &[u8], from: usize, v: usize) -> u8
     mark
 }
 
-// The turns of the nodes up to before `to`, whose changes are marked: of one with its label as changed, then of those up
-// to the next mark.
+// The iterations of the nodes up to before `to`, whose changes are marked: of one with its label as changed, then of
+// those up to the next mark.
 fn turns(
     states: &mut [u8],
     before: Waiting,

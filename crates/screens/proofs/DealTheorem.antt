@@ -1,5 +1,5 @@
 -- "While plan, rules and tables are as Load left them" every deal with a screen running is accepted.
---     kept-target   calls that are lent what the Load left keep all eight reference models so (LentLaws)
+--     kept-target   calls on what the Load left keep all eight reference models so (LentLaws)
 --     deal-taken    so a deal that is handed a number up to 7 while a screen runs is accepted
 use Prim.Native.Nat.{ℕ, zero, suc, _<_}
 use mathlib.Core.Path.{_≡_, refl, sym, ap, _∙_, subst}

@@ -1,5 +1,5 @@
 -- One call on the eight records, as each screen sees it.
---     on-target      on eight records a call goes by its target
+--     on-target      on eight records a call is decided by its target
 --     moved          what a screen is fed takes its record from before the call to after it; what it is not fed leaves
 --                    it as it was
 --     stays-eight    the records stay eight

@@ -1,6 +1,6 @@
--- A reference model that is lent what a Load left, and nothing else: its question stays clean, and no advance is
+-- A reference model that is given what a Load left, and nothing else: its question stays clean, and no advance is
 -- refused.
---     Kept x b        its N, S and K are that Load's; a question that runs is clean, and was lent what the Load left
+--     Kept x b        its N, S and K are that Load's; a question that runs is clean, and was given what the Load left
 --     kept-load, kept-start, kept-advance, kept-cancel, kept-read    the calls keep it
 --     advance-taken   while a question runs an advance is accepted
 use Prim.Native.Nat.{ℕ, zero, suc}

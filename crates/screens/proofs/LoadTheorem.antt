@@ -1,8 +1,8 @@
 -- What a Load does to eight screens, and what a refused call does not.
---     load-clears      an accepted Load tells 0 and leaves eight records as after a first Load of that plan
+--     load-clears      an accepted Load returns 0 and leaves eight records as after a first Load of that plan
 --     load-empties     no finished answer is left
 --     load-waits       a Load is refused with 1 while any screen runs
---     refused-alike    a refused call alters nothing, and a refused deal tells no number
+--     refused-alike    a refused call alters nothing, and a refused deal returns no number
 use Prim.Native.Nat.{ℕ, zero, suc, _<_}
 use mathlib.Core.Path.{_≡_, refl, sym, ap, _∙_, subst}
 use mathlib.Core.Bool.{Bool, true, false, cond, not}
@@ -69,7 +69,7 @@ load-waits rs x i long h e =
 
 -- ---- refusals
 
--- a record that is stored where it stood
+-- a record that is stored where it was
 set-at : (rs : List Record) (i : ℕ) → set rs i (at rs i) ≡ rs
 set-at [] i = refl
 set-at (r ∷ rs) zero = refl

@@ -65,7 +65,7 @@ screens-references i hi cs xs h =
 
 -- ---- isolation
 
--- a session's answers go by its record and its calls
+-- a session's answers depend only on its record and its calls
 pub same-answers : (r : Record) (cs : List Call) (xs ys : List Answer) → History Does r cs xs → History Does r cs ys
     → xs ≡ ys
 same-answers r [] [] [] done done = refl

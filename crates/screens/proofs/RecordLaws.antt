@@ -1,8 +1,8 @@
 -- All that the screens use of a single session's calls.
---     act-runs        whether a session runs after a call is told by its answer
---     act-own         a call tells its own kind of answer
+--     act-runs        whether a session runs after a call is decided by its answer
+--     act-own         a call returns its own kind of answer
 --     load-refusal, load-accepted
---                     a Load where no question runs goes by what is lent alone
+--                     a Load where no question runs depends on its inputs alone
 --     refused-same    a refusal leaves the record as it is
 use Prim.Native.Nat.{ℕ, zero, suc}
 use mathlib.Core.Path.{_≡_, refl, sym, ap, _∙_}

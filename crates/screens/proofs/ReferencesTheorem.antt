@@ -1,7 +1,7 @@
 -- One statement about every list of screen calls: eight reference models, each beside its screen's record.
 --     Tied r b           every history from record r agrees with the reference model b
 --     tied-next          a call on both: the answer conforms, and what is left is tied again
---     tied-runs          they agree on whether a question runs: a Cancel tells it
+--     tied-runs          they agree on whether a question runs: a Cancel shows it
 --     screens-demand-3   the statement
 -- Tied asks nothing of a record but its answers, so demand 3 of a single session is all that is used here.
 use Prim.Native.Nat.{ℕ, zero, suc, _<_}
@@ -91,7 +91,7 @@ module _ (rs rs′ : List Record) (bs : References) (t : TiedAll rs bs) (i : ℕ
   fed-tied (screen j c) a f m = own-tied j c (answerIn a) m
   fed-tied (turn j x) a f m = own-tied j (advance x) (answerIn a) m
 
--- what the eight records tell conforms
+-- the answers of the eight records conform
 module _ (rs : List Record) (bs : References) (t : TiedAll rs bs) where
   acts-conforms : (j : ℕ) (c : Call) → j < 8 → Conforms (step (bs j) c) (act (at rs j) c .answer)
   acts-conforms j c h = tied-next (at rs j) _ (bs j) c (act (at rs j) c .answer) (t j h) (acts (at rs j) c) .0

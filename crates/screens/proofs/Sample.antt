@@ -1,12 +1,12 @@
 -- A list of screen calls on plan A, computed: three screens, one cancelled, one refused with 18, a Load refused with 1,
 -- a finished answer read after a Cancel and gone after a Load. The premises of the theorems can be met, and their words
 -- say what they should.
---     sample-answers      what each call tells
+--     sample-answers      the answer of each call
 --     sample-references   what the reference models of screens 0, 3 and 5 settle of their calls
---     sample-turns, sample-handed    who was served, and that the number was handed on as told
+--     sample-turns, sample-handed    who was served, and that the number was handed on as returned
 --     sample-alone        the same calls of screen 0 with no other screen about: its calls are the same, so are its
 --                         answers
---     sample-left         what is lent is what the Load left
+--     sample-left         the inputs are what the Load left
 --     sample-refused      25 before everything else; 1 where no screen runs; a run of seven records
 use Prim.Native.Nat.{ℕ, zero, suc}
 use mathlib.Core.Path.{_≡_, refl}
@@ -149,7 +149,7 @@ pub sample-alone :
 unfolding computingScreens calls told fewer toldFewer loadA
 sample-alone = (refl, refl)
 
--- ---- what is lent
+-- ---- the inputs
 
 pub sample-left :
     sameInputs (sizesIn loadA) (leftBy loadA) inputsA ∷ sameInputs (sizesIn loadA) (leftBy loadA) outside ∷ [] ≡ true

@@ -1,8 +1,8 @@
--- What each answer of a history looks like, by who runs: all that turns go by.
+-- What each answer of a history looks like, by who runs: all that turns depend on.
 --     ShapedBy t a       answer a to a call that is t's: a refusal, a Load's number, a screen's own answer, or a turn's
 --     Shaped run cs xs   of all answers; who runs is followed on the way
 --     history-shaped     so are those of a history
---     shaped-split       and those from any place of it on
+--     shaped-split       and those from any point of it on
 use Prim.Native.Nat.{ℕ, _<_}
 use mathlib.Core.Path.{_≡_, refl, sym, ap, subst}
 use mathlib.Core.List.{List, [], _∷_, _++_}

@@ -1,5 +1,5 @@
 -- A history cut at an accepted Load: what follows it starts from eight records as after a first Load.
---     since-load             so it does, and what was lent to that Load passed 2 to 11
+--     since-load             so it does, and the inputs of that Load passed 2 to 11
 --     isolation-since-load   "Between two accepted Loads, for the same own calls and turns with the same lent bytes in
 --                            the same order, what a screen reads, and each of its refusals except Load's, must
 --                            be the same"

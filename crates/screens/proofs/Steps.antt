@@ -5,7 +5,7 @@
 --     next-first         the next running screen is no farther than one that runs
 --     Nearing k lo D l   the screens l lie on the way from k, each farther than the one before, all nearer than D
 --     nearing-few, nearing-distinct    so they are few, and no one is among them twice
---     until-holds        a list of n screens of which less than n stand before i has i among its first n
+--     until-holds        a list of n screens or more, fewer than n before the first i, has i among its first n
 use Prim.Native.Nat.{ℕ, zero, suc, _+_, _-_, _≤_, _<_}
 use mathlib.Core.Path.{_≡_, refl, sym, ap, _∙_, subst}
 use mathlib.Core.Bool.{Bool, true, false, cond, not, _&&_, _||_}
@@ -82,7 +82,7 @@ past-one k h = go (ltb k 7) refl
     go true e = record { from = h; to = omega (arith, ltb-true k 7 e); few = omega arith; are = inl (omega arith) }
     go false e = record { from = h; to = omega arith; few = omega arith; are = inr (omega (arith, ltb-false k 7 e)) }
 
--- the screen served is heard from the number told
+-- the screen served is known from the number returned
 pub served-past : (s : ℕ) → s < 8 → servedBy (onePast s) ≡ s
 served-past s h = go (ltb s 7) refl
   where

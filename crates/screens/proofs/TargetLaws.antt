@@ -3,9 +3,9 @@
 --     any-no, any-yes  whether any screen runs; or-no-left, or-no-right: neither of two
 --     next-runs        the screen that a deal serves is one of the eight, and runs
 --     number-in, number-out   a call that names a screen, or one to try first: up to 7, and above
---     Rightly, rightly what holds of a call's target: a Load's screens are at rest, and what it lends passes 2 to 11;
+--     Rightly, rightly what holds of a call's target: a Load's screens are at rest, and its inputs pass 2 to 11;
 --                      a screen is one of the eight; a turn is a screen's that runs
---     target-same      a target goes by who of the eight runs
+--     target-same      a target depends only on which of the eight run
 use Prim.Native.Nat.{ℕ, zero, suc, _<_}
 use mathlib.Core.Path.{_≡_, refl, sym, ap, ap₂, _∙_, subst}
 use mathlib.Core.Bool.{Bool, true, false, cond, not, _||_}

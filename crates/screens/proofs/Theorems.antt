@@ -14,7 +14,7 @@
 -- "Load is refused while any screen runs and clears them all": load-waits, load-clears, load-empties
 -- "Each screen has a panel book of its own, fed with the accepted Loads, its own calls and its turns as advances":
 --   screen-alone, screens-references, screens-demand-3
--- A refused call alters nothing, and a refused deal tells no number: refused-alike
+-- A refused call alters nothing, and a refused deal returns no number: refused-alike
 --
 --     screens-hold      those about every list of calls, together
 --     screens-hold-of   they pass on to every form of the calls that refines this one

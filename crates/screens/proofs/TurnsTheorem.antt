@@ -1,7 +1,7 @@
 -- "a screen that stays running is served within eight accepted deals, and no other is served twice between two
--- successive turns of it in one question": whatever is lent, and whatever the others start or cancel.
+-- successive turns of it in one question": for any inputs, and for any Starts and Cancels of the others.
 --     nearing          the screens served before screen i lie on the way to it, each farther than the one before
---     served-soon, turns-apart, between-turns    the sentences, from any place of a history on
+--     served-soon, turns-apart, between-turns    the sentences, from any point of a history on
 -- Only the shape of answers is used (ShapeLaws).
 use Prim.Native.Nat.{ℕ, zero, suc, _+_, _-_, _≤_, _<_}
 use mathlib.Core.Path.{_≡_, refl, sym, ap, _∙_, subst}
@@ -220,7 +220,7 @@ numberIn (one a) = 0
 numberIn (loads k) = k
 numberIn (deals k a) = k
 
--- a deal that tells more and the number n was a turn of a screen of the eight, which runs on
+-- a deal that returns more and the number n was a turn of a screen of the eight, which runs on
 record Goes (n : ℕ) (t : Target) : Type 0 where
   served : servedBy n < 8
   number : n < 8

@@ -1,7 +1,7 @@
 -- The model of eight screens: their records, and a call on them.
 --
 -- at rs i == screen i's record; runs rs == which screens run
--- actOn rs t == a call on the records rs that is t's: what it tells, and the records then
+-- actOn rs t == a call on the records rs that is t's: its answer, and the records then
 -- actAll rs c == a call of the screens; DoesAll rs c a rs′ == the same as a relation
 -- eightFresh == the records of eight fresh screens
 use Prim.Native.Nat.{ℕ}

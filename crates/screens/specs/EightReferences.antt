@@ -5,8 +5,8 @@
 -- References == a reference model for each screen; runningIn bs == which screens run by them
 -- ScreenConforms bs t a == answer a to a call that is t's, against the reference models bs; referencesAfter bs t a ==
 --   these then
--- ScreensAgree bs cs xs == the whole list of answers xs to the calls cs against bs: who is served, the number told, 25,
---   Load's and the deal's 1 too
+-- ScreensAgree bs cs xs == the whole list of answers xs to the calls cs against bs: who is served, the number returned,
+--   25, Load's and the deal's 1 too
 -- ScreensDemand3 fresh Step == every history from the fresh run of records agrees with eight new reference models
 use Prim.Native.Nat.{ℕ, _<_}
 use mathlib.Core.Path.{_≡_}

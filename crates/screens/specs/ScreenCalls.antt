@@ -1,20 +1,20 @@
 -- The calls of eight screens, their answers, and whose call each is.
 --
 -- ScreenCall == "Start, Cancel and Read name a screen"; Load is for all; a deal is handed the screen to try first
--- ScreenAnswer == what a call tells: an answer of a single session, every refusal among them; the screen to try first
---   after a Load; that screen and what the advance tells after a deal
+-- ScreenAnswer == what a call returns: an answer of a single session, every refusal among them; the screen to try first
+--   after a Load; that screen and the advance's answer after a deal
 -- answerIn a == the answer of a single session in it; refuses a == whether it is a refusal
 -- Running == which screens run, by their numbers; nobodyRuns == none
 -- onePast i == the screen to try first after one that was served; servedBy k == the screen that was served, from that
 --   number
 -- nextRunning run k == the first screen that runs from number k on, round from 7 to 0; none where none runs
--- found run k == its number as a program tells it: 8 where none runs, 9 where k is above 7
+-- found run k == its number as a program returns it: 8 where none runs, 9 where k is above 7
 -- anyRuns n run == whether one of the screens below n runs
 -- Target == whose a call is: nobody's, refused with a number; every screen's, an accepted Load; one screen's; one
 --   screen's turn
 -- target run c == whose call c is while run says who runs. The records and the reference models share it
 -- Another t j == a call that is t's is not screen j's
--- turnAnswer i a == what a deal tells that served screen i, whose advance told a
+-- turnAnswer i a == the answer of a deal that served screen i, whose advance returned a
 --
 -- Not here: 25 for a run of another length (EightRecords).
 use Prim.Native.Nat.{ℕ, zero, suc, _-_}
@@ -122,6 +122,6 @@ Another (everyScreen x) j = ⊥
 Another (screen i c) j = i ≡ j → ⊥
 Another (turn i x) j = i ≡ j → ⊥
 
--- a deal that is refused tells no number
+-- a deal that is refused returns no number
 unfoldable pub turnAnswer : ℕ → Answer → ScreenAnswer
 turnAnswer i a = cond (isRefused a) (one a) (deals (onePast i) a)

@@ -6,11 +6,11 @@
 -- Isolation, IsolationSinceLoad == "for the same own calls and turns with the same lent bytes in the same order, what a
 --   screen reads, and each of its refusals except Load's, must be the same"; a premise on calls, never on answers
 -- ServedSoon, TurnsApart, BetweenTurns == "a screen that stays running is served within eight accepted deals, and no
---   other is served twice between two successive turns of it in one question", whatever is lent and whatever the
---   others start or cancel
+--   other is served twice between two successive turns of it in one question", for any inputs, and for any
+--   Starts and Cancels of the others
 -- DealTaken == "While plan, rules and tables are as Load left them" every deal with a screen running is accepted
 -- LoadClears, LoadEmpties, LoadWaits == "Load is refused while any screen runs and clears them all"
--- RefusedAlike == a refused call alters nothing; a refused deal tells no number
+-- RefusedAlike == a refused call alters nothing; a refused deal returns no number
 -- DealServes == "One deal gives one advance to the next running screen .., going from 7 back to 0", said without the
 --   search
 -- Screens fresh Step == those of them that are about every list of calls
@@ -91,7 +91,7 @@ leftBy x =
     inputsOf (x .plan) (x .rules) (written 0 (builtNodeTable (x .plan)) (x .nodeTable))
     (written 0 (builtStateTable (x .plan) (x .rules)) (x .stateTable))
 
--- every Start and deal is lent what that Load left, and no other Load is accepted
+-- every Start and deal is given what that Load left, and no other Load is accepted
 abbrev pub AsLeftIn : Inputs → ScreenCall → ScreenAnswer → Type 0
 AsLeftIn x (loadAll y) a = refuses a ≡ true
 AsLeftIn x (startOn i y vs bs) a = sameInputs (sizesIn x) (leftBy x) y ≡ true
@@ -140,7 +140,7 @@ module _ {Run : Type 0} (fresh : Run) (Step : Run → ScreenCall → ScreenAnswe
       → ownCalls i nobodyRuns cs xs ≡ ownCalls i nobodyRuns ds ys
       → ownAnswers i nobodyRuns cs xs ≡ ownAnswers i nobodyRuns ds ys
 
-  -- from any place of a history on where screen i runs, with any number up to 7 to try first
+  -- from any point of a history on where screen i runs, with any number up to 7 to try first
   abbrev pub FromThere : (ℕ → List ScreenAnswer → Type 0) → Type 0
   FromThere P = (i k : ℕ) (before cs : List ScreenCall) (told xs : List ScreenAnswer) → i < 8 → k < 8
       → length before ≡ length told
@@ -153,7 +153,7 @@ module _ {Run : Type 0} (fresh : Run) (Step : Run → ScreenCall → ScreenAnswe
   abbrev pub TurnsApart : Type 0
   TurnsApart = FromThere (λ i xs. distinct (until i (turnsOf xs)) ≡ true)
 
-  -- after a turn of screen i that told more, up to its next
+  -- after a turn of screen i that returned more, up to its next
   abbrev pub BetweenTurns : Type 0
   BetweenTurns = (i k n : ℕ) (x : Inputs) (before cs : List ScreenCall) (told xs : List ScreenAnswer)
       → length before ≡ length told

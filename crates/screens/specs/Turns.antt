@@ -2,7 +2,8 @@
 --
 -- turnsOf xs == the screens that the accepted deals among the answers xs served, in order
 -- numberAfter k a == the screen to try first after an answer, k before; refused calls keep it
--- HandedOn k cs xs == "records and number are handed on as told": each deal is handed the number told last, k at first
+-- HandedOn k cs xs == "records and number are handed on as told": each deal is handed the number returned last, k at
+--   first
 -- Uncancelled i cs xs == no Cancel of screen i is accepted
 -- until i l == the list l up to the first i
 use Prim.Native.Nat.{ℕ}

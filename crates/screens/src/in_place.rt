@@ -71,7 +71,7 @@ fn next_running(
     8
 }
 
-// What a deal tells for what the advance of screen i tells.
+// The answer of a deal, from that of the advance of screen i.
 fn told_of(answer: AdvanceAnswer, i: usize) -> DealAnswer
     ensures { λ r. ⌜ dealAnswer r ≡ turnAnswer i (advanceAnswer answer) ⌝ }
 {
@@ -124,7 +124,7 @@ pub fn deal(
     told_of(out.answer, at)
 }
 
-// Puts a question on one screen.
+// Asks a question on one screen.
 pub fn start(
     all: &mut [Session],
     screen: usize,
@@ -171,7 +171,7 @@ pub fn cancel(all: &mut [Session], screen: usize) -> CallAnswer
     out.answer
 }
 
-// Tells the last finished answer of one screen.
+// Returns the last finished answer of one screen.
 pub fn read(all: &[Session], screen: usize) -> ReadAnswer
     ensures { λ r. ⌜ screens.one (readAnswer r) ≡ answerAll (now (all .entry)) (screens.readOn screen) ⌝ }
 {

@@ -8,7 +8,7 @@ ghost use mathlib.Core.Path.{_≡_};
 ghost use Prim.Native.Nat.{_<_};
 ghost use Rattle.screens.specs.ScreenCalls.{onePast};
 
-// One past a screen, 0 past 7.
+// The next screen, 0 after 7.
 pub fn one_past(i: usize) -> usize
     ensures { λ r. ⌜ (r ≡ onePast i) × (r < 8) ⌝ }
 {

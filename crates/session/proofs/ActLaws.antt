@@ -187,7 +187,7 @@ running-is calls.Phase.loaded r e H = absurd (true-false (sym e))
 running-is calls.Phase.running r e H = H
 running-is calls.Phase.answered r e H = absurd (true-false (sym e))
 
--- what an advance finds passed over at most 65,535 nodes: so where the lent numbers have 16 bits
+-- what an advance finds passed over at most 65,535 nodes: so where the node table's numbers have 16 bits
 abbrev pub Narrow : Record → Call → Type 0
 Narrow r (load x) = Unit {0}
 Narrow r (start x vs bs) = Unit {0}
@@ -335,7 +335,7 @@ module _ (r : Record) (H : Holds r) where
       go zero e = proceeds-holds c w e
       go (suc n) e = H
 
-  -- the lists fit after every call, whatever numbers are lent
+  -- the lists fit after every call, for any numbers in the tables
   part-listed : (x : Inputs) → refusal (stageOf r) (advance x) ≡ 0 → (o : Option Reached) → Listed (advanceWith r x o .record′)
   unfolding advanceWith stepped
   part-listed x e none = listed-of r H

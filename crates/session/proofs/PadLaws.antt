@@ -52,7 +52,7 @@ module _ (w : ℕ) (l : List ℕ) where
   pub zero-padded-by : (n : ℕ) → length l ≡ n → zeroFrom n (padded w l) ≡ true
   zero-padded-by n e = ap (λ (i : ℕ). zeroFrom i (padded w l)) (sym e) ∙ zero-padded
 
--- an array of w entries, zero from place m on
+-- an array of w entries, zero from index m on
 module _ (w m : ℕ) (l : List ℕ) (e : length l ≡ w) (z : zeroFrom m l ≡ true) where
   pub tail-zeros : drop m l ≡ replicate (w - m) 0
   unfolding zeroFrom

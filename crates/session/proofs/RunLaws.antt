@@ -1,4 +1,4 @@
--- One turn, and the end, of the test of a rising run.
+-- One iteration, and the end, of the test of a rising run.
 use Prim.Native.Nat.{ℕ, _+_, _≤_, _<_}
 use mathlib.Core.Path.{_≡_, refl, sym, ap, _∙_}
 use mathlib.Core.Bool.{Bool, true, false, _&&_}
@@ -11,7 +11,7 @@ use lib.Seq.{drop-cons}
 use Rattle.list_laws.proofs.BoolLaws.{and-assoc}
 use Rattle.session.specs.Records.{risesTo}
 
--- the elements from place i on: the one there, and those after it
+-- the elements from index i on: the one there, and those after it
 from : (l : List ℕ) (i j : ℕ) → j ≡ i + 1 → i < length l → drop i l ≡ getD l i 0 ∷ drop j l
 from l i j e h = rw (e, add-one) (drop-cons l i 0 h)
 

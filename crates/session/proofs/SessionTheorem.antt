@@ -1,7 +1,8 @@
--- Demand 3 for the session's calls: every list of calls, from the fresh session, whatever the inputs, is answered as the
+-- Demand 3 for the session's calls: every list of calls, from the fresh session, for any inputs, is answered as the
 -- reference model (document 01's panel book) says.
 --     by-value-demand-3     the theorem, over the very promises of load, start, advance, cancel and read
---     by-value-questions    a question: an accepted Start had sound inputs; undisturbed: parts, advances, what Reads tell, ceilings
+--     by-value-questions    a question: an accepted Start had sound inputs; undisturbed: parts, advances, the answers
+--                           of Reads, ceilings
 --     by-value-history      a history of these calls is one of the model's, so what is proved of those holds of it
 use mathlib.Core.List.{List}
 use Rattle.model.specs.Calls.{Call, Answer}

@@ -1,6 +1,7 @@
 -- The five calls as one relation, for the statement about every list of calls.
 --
--- CallByValue s c a s′ == call c was made on struct s, told a and left s′: its promise, as its function has it, holds of what it returned
+-- CallByValue s c a s′ == call c was made on struct s, answered a and left s′: its promise, as its function has it,
+--   holds of what it returned
 --
 -- Read returns no record: the panel keeps the one that it has.
 use Prim.Native.Nat.{ℕ}

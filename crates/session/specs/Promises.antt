@@ -1,6 +1,7 @@
--- What the five calls promise, on every record and whatever the inputs.
+-- What the five calls promise, on every record and for any inputs.
 --
--- answerOn s c, recordOn s c, refusalOn s c == the answer of call c on struct s, the struct after it, and its refusal's number, 18 apart.
+-- answerOn s c, recordOn s c, refusalOn s c == the answer of call c on struct s, the struct after it, and its refusal
+--   number, ignoring 18.
 --   A struct that breaks the layout's conditions gets 1; on any other the answer and the whole record are those of `act` (crate model, Model)
 -- CallDone, LoadDone == the promises
 use Prim.Native.Nat.{ℕ}
@@ -24,17 +25,17 @@ answerOn s c = cond (valid s) (act (recordOf s) c .answer) (refused 1)
 unfoldable pub recordOn : Session → Call → Session
 recordOn s c = cond (valid s) (sessionOf (act (recordOf s) c .record′)) s
 
--- the number of the refusal of a call on a struct, 18 apart
+-- the refusal number of a call on a struct, ignoring 18
 unfoldable pub refusalOn : Session → Call → ℕ
 refusalOn s c = cond (valid s) (refusal (stageOf (recordOf s)) c) 1
 
 pub record CallDone (s : Session) (c : Call) (a : Answer) (s′ : Session) : Type 0 where
-  -- what is told and the whole record after
+  -- the answer and the whole record after
   pub tells : a ≡ answerOn s c
   pub leaves : s′ ≡ recordOn s c
   -- "nothing else is returned and nothing is altered"
   pub unchanged : (n : ℕ) → a ≡ refused n → s′ ≡ s
-  -- a struct that keeps the layout's conditions keeps them; the lent numbers have 16 bits
+  -- a struct that keeps the layout's conditions keeps them; the node table's numbers have 16 bits
   pub stays : valid s ≡ true → valid s′ ≡ true
   -- what is left to the program has these properties
   pub properties : valid s ≡ true → LeftOpen (recordOf s) c a (act (recordOf s) c .record′)

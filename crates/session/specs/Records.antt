@@ -151,7 +151,7 @@ listFits s =
     && (allBelow (s .head .sizes .n) (take (s .head .m) (s .nodes)) && (allBelow (s .head .sizes .k) (take (s .head .m) (s .labels))
     && (zeroFrom (s .head .m) (s .nodes) && zeroFrom (s .head .m) (s .labels))))
 
--- document 02, S-7: a climb passes over at least one node for each link, and the lent numbers have 16 bits
+-- document 02, S-7: a climb passes over at least one node for each link, and the node table's numbers have 16 bits
 unfoldable pub partsFit : Session → Bool
 partsFit s =
     within 1 254 (s .head .parts)

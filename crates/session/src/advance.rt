@@ -116,7 +116,8 @@ fn answer_of(h: Head, q: u8, links: u32, passed: u32, yes: bool) -> Last
     }
 }
 
-// One more part, of state q: more, or finished at the last part, with its yes or no by the rules lent now; that alone is a new answer.
+// One more part, of state q: more, or finished at the last part, with its yes or no by the rules given now. Only the
+// last part makes a new answer.
 fn handled(h: Head, rules: &[u8], q: u8, links: u32, passed: u32) -> AdvanceStep
     requires { ⌜ HandleArgs h (now rules) q links passed ⌝ }
     ensures { λ r. ⌜ r ≡ stepBy h (now (rules .entry)) q links passed ⌝ }
@@ -155,7 +156,7 @@ fn refused_step(h: Head, number: u8) -> AdvanceStep
     }
 }
 
-// What an advance does to a record that is given as its head and its four arrays, lent.
+// What an advance does to a record that is given as its head and references to its four arrays.
 fn next_step<'a>(
     h: Head,
     plan: &[u8],

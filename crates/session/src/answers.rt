@@ -21,8 +21,8 @@ pub enum AdvanceAnswer {
     Refused(u8),
 }
 
-// What Read tells of a finished question: the root's state, the yes or no, how many parts, and the links of all climbs and the nodes
-// that they passed over.
+// What Read returns of a finished question: the root's state, the yes or no, the number of parts, the links of all
+// climbs and the nodes that they passed over.
 pub struct Outcome {
     pub state: u8,
     pub yes: bool,

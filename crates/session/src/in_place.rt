@@ -1,6 +1,6 @@
 // The session in place: "the session record is lent by the panel and altered where it is" (document 01).
-// Each call is thin: it makes the call by value (crate session) on a copy, stores the record that this returns where the old one was and
-// tells its answer. So it promises what that call promises, of the record at entry and at exit.
+// Each call is thin: it makes the call by value (crate session) on a copy, stores the returned record where the old one
+// was, and returns the answer. So it promises what that call promises, of the record at entry and at exit.
 use crate::answers::AdvanceAnswer;
 use crate::answers::CallAnswer;
 use crate::answers::ReadAnswer;
@@ -12,7 +12,7 @@ ghost use Rattle.session.specs.Answers.{callAnswer, startAnswer, advance
 ghost use Rattle.session.specs.Promises.{CallDone, LoadDone, answerOn};
 ghost use Rattle.formats.specs.Inputs.{inputsOf};
 
-// Builds the tables of a plan and rules into the lent buffers.
+// Builds the tables of a plan and rules into the caller's buffers.
 pub fn load(
     s: &mut Session,
     plan: &[u8],
@@ -31,7 +31,7 @@ pub fn load(
     out.answer
 }
 
-// Puts a question: tells the number of its parts.
+// Asks a question: returns the number of its parts.
 pub fn start(
     s: &mut Session,
     plan: &[u8],
@@ -82,7 +82,7 @@ pub fn cancel(s: &mut Session) -> CallAnswer
     out.answer
 }
 
-// Tells the last finished answer: the root's state, the yes or no, the parts, the links and the nodes passed over.
+// Returns the last finished answer: the root's state, the yes or no, the parts, the links and the nodes passed over.
 pub fn read(s: &Session) -> ReadAnswer
     ensures { λ r. ⌜ readAnswer r ≡ answerOn (now (s .entry)) calls.read ⌝ }
 {

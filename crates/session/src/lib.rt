@@ -7,7 +7,7 @@
 //     loaded   the record after a first Load
 //     fill     lists in the record's arrays
 //     load     Load
-//     soundness  whether what Start is lent is sound: its 18
+//     soundness  whether the inputs of Start are sound: its 18
 //     start    Start
 //     advance  advance
 //     cancel   Cancel

@@ -1,5 +1,5 @@
 // Tests of lists of numbers. There is no early exit: the loops can be done many numbers at a time.
-// Whether all are 0 is told by one number, all of them or-ed: a test of each would take more at the ends of a list.
+// Whether all are 0 is decided by one number, the bitwise or of all: testing each would cost more at the ends of lists.
 //     below                           all below a bound
 //     zeros, zero_bytes, zero_pairs   all 0: numbers, bytes, and both of two lists in one loop
 //     rises_to                        rising, up to the last

@@ -12,7 +12,7 @@ ghost use Rattle.session.specs.Promises.{LoadDone};
 ghost use Rattle.formats.specs.Inputs.{inputsOf};
 
 impl Session {
-    // Builds the tables of a plan and rules into the lent buffers.
+    // Builds the tables of a plan and rules into the caller's buffers.
     pub fn load(
         self,
         plan: &[u8],

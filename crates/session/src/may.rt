@@ -1,5 +1,5 @@
 // Check 1: which calls may be made.
-//     may_load, may_start, may_advance   the states that allow a call; Read goes by whether an answer is there
+//     may_load, may_start, may_advance   the states that allow a call; Read depends on whether there is an answer
 //     allowed                            and the record can be a session's
 use crate::state::Head;
 use crate::state::Phase;
@@ -45,8 +45,8 @@ pub fn may_advance(phase: Phase) -> bool
     }
 }
 
-// Check 1 of a call that the record's state, or for Read its last finished answer, allows or not. The record is given as its head and its
-// four arrays, lent; it is tested only where the call is allowed.
+// Check 1 of a call that the record's state, or for Read its last finished answer, allows or not. The record is given
+// as its head and references to its four arrays; it is tested only where the call is allowed.
 pub fn allowed<'a>(
     may: bool,
     h: Head,

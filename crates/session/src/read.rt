@@ -8,7 +8,7 @@ ghost use Rattle.session.specs.Answers.{readAnswer};
 ghost use Rattle.session.specs.Promises.{answerOn};
 
 impl Session {
-    // Tells the last finished answer: the root's state, the yes or no, the parts, the links and the nodes passed over.
+    // Returns the last finished answer: the root's state, the yes or no, the parts, the links, the nodes passed over.
     pub fn read(self) -> ReadAnswer
         ensures { λ r. ⌜ readAnswer r ≡ answerOn self calls.read ⌝ }
     {

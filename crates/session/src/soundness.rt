@@ -1,5 +1,5 @@
-// Start's 18: whether what is lent is sound for the record's N, S and K. The full check takes N, S and K from the headers, so the headers
-// are asked first.
+// Start's 18: whether its inputs are sound for the record's N, S and K. The full check takes N, S and K from the
+// headers, so the headers are compared first.
 use formats::bytes::read32;
 use table_checks::check::check_tables;
 use tables::answers::Checking;

@@ -69,7 +69,7 @@ fn refused(session: Session, number: u8) -> Started
 }
 
 impl Session {
-    // Puts a question: tells the number of its parts.
+    // Asks a question: returns the number of its parts.
     pub fn start(
         self,
         plan: &[u8],

@@ -2,7 +2,7 @@
 //     Phase     which of the four states a session is in
 //     Sizes     N, S and K
 //     Last      the last finished answer
-//     Head      the record without its arrays. What a later version adds to the record stands here
+//     Head      the record without its arrays. Fields that a later version adds to the record go here
 //     Session   the record
 use crate::answers::Outcome;
 use formats::limits;
@@ -32,7 +32,7 @@ pub struct Last {
 
 // The record without its arrays: the state, the yes or no once answered, N, S and K, how many changes are listed, how
 // many parts there are, how many are handled, the links and the nodes passed over so far, and the last finished answer.
-// Tests take it beside the lent arrays, so that the record is not copied for them.
+// Tests take it beside references to the arrays, so that the record is not copied for them.
 pub struct Head {
     pub phase: Phase,
     pub yes: bool,

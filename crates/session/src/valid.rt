@@ -1,5 +1,5 @@
 // Whether a struct can be a session's: the conditions of docs/LAYOUT.md, by the state that it is in.
-// The record is given as its head and its four arrays, lent: as arrays, so that their lengths are constants.
+// The record is given as its head and references to its four arrays: arrays, so that their lengths are constants.
 // `list_fits` and `parts_fit` test parts of them, and take slices.
 //     sizes_fit, no_question, list_fits, parts_fit, question_fits   parts of the conditions
 //     is_none, last_fits, last_is_own                               those of the last finished answer
@@ -51,7 +51,7 @@ fn no_question(
     none & zero_pairs(nodes, labels) & zeros(roots) & zero_bytes(states)
 }
 
-// The changes: at most as many as may be listed, inside N and K, and zeros behind them.
+// The changes: at most the limit, inside N and K, and zeros behind them.
 fn list_fits(h: Head, nodes: &[u16], labels: &[u8]) -> bool
     requires { ⌜ ListShaped (now nodes) (now labels) ⌝ }
     ensures { λ r. ⌜ ((rs qs : List ℕ) → r ≡ listFits (whole h (now (nodes .entry)) (now (labels .entry)) rs qs)) ⌝ }

@@ -2,7 +2,7 @@
 --     every-step                     one number more
 --     listed-start, listed-step      a list of nodes, one node more
 --     both-start, both-step          the lists of inner nodes and of leaves, one node more
---     leaves-told                    what the test of the listed leaves tells
+--     leaves-told                    what the test of the listed leaves means
 use Prim.Native.Nat.{ℕ, _+_, _-_, _≤_, _<_}
 use mathlib.Core.Path.{_≡_, refl, sym, ap, _∙_, subst}
 use mathlib.Core.Bool.{Bool, true, _&&_}

@@ -3,7 +3,7 @@
 --     block-no, block-told             a block, from its leaves and its listed pairs
 --     nodes-none .. nodes-all          one block more
 --     row-bytes-below, below-row-bytes every byte of the rows is a state; so it is in a built table
---     below-no, root-node-is-no, root-row-no, nodes-tell   what the comparison of both tables tells, by its ways out
+--     below-no, root-node-is-no, root-row-no, nodes-tell   what each exit of the comparison of both tables means
 --     room-of                          what the tests of all nodes need
 use Prim.Native.Nat.{ℕ, _+_, _-_, _*_, _≤_, _<_}
 use mathlib.Core.Path.{_≡_, refl, sym, ap, _∙_, subst}
@@ -262,7 +262,7 @@ pub below-row-bytes : (s m : ℕ) (b : List ℕ) → m ≤ length b → allBelow
 below-row-bytes s m b room e j h =
     omega (arith, allBelow-at s (take m b) j e (omega (arith, length-take m b)), getD-take m b j 0 h)
 
--- ---- what the check of both tables tells
+-- ---- what the check of both tables means
 
 module _ (ks ls nodeTable lv inn : List ℕ) (s k : ℕ) (stateTable : List ℕ)
     (B : MatchArgs ks ls nodeTable lv inn s k (length stateTable)) where

@@ -21,7 +21,7 @@ use Rattle.table_checks.specs.inner.PairNodes.{packed, linksCell, number
 use Rattle.table_checks.proofs.DifferenceLaws.{or-none, or-left, or-right, xor-zero, xor-none}
 use Rattle.table_checks.proofs.PairNodeLaws.{Pair, pair-told, tells-pair}
 
--- a number below 2 ^ 16 in each place but the last
+-- a number below 2 ^ 16 at each position but the last
 pub packed-same : (p j d x y z : ℕ) → p < 65536 → j < 65536 → x < 65536 → y < 65536 → packed p j d ≡ packed x y z
     → (p ≡ x) × (j ≡ y) × (d ≡ z)
 packed-same p j d x y z hp hj hx hy e = (omega arith, omega arith, omega arith)

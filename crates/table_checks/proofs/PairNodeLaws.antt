@@ -1,8 +1,8 @@
 -- The node table by pairs: the tests at the parents, all of them, are the test for the tree's own table.
---     within-in                     a place inside is left alone
+--     within-in                     an index in range is unchanged
 --     jump-far, jump-near           the two ways out of pair_by_distances; pair-by-table, pair-past-table: of pair_jump
 --     pair-jump                     on a right table the jump by pairs is childJump of the node table's passes
---     pair-told, tells-pair         what the test of a pair tells, as seven equations
+--     pair-told, tells-pair         what the test of a pair means, as seven equations
 --     pairs-cells, cells-pairs      every leaf, pair and the root pass exactly where the table is the tree's
 use Prim.Native.Nat.{ℕ, zero, suc, _+_, _-_, _≤_, _<_}
 use mathlib.Core.Path.{_≡_, sym, ap, ap₂, _∙_, subst}
@@ -44,7 +44,7 @@ distances d e f g h = elim (ℕ-discrete (d - e) (e - f)) [
   | no z ↦ ne-eqb (d + f) (e + e) (omega arith) ∙ sym (ne-eqb (d - e) (e - f) z)
 ]
 
--- ---- the jump by pairs, as the code goes
+-- ---- the jump by pairs, as the code computes it
 
 module _ (n : ℕ) (b : List ℕ) (v j far : ℕ) (e : j ≡ within n (jumpCell b v)) (f : far ≡ within n (jumpCell b j)) where
   by-places : pairByDistances n b v
@@ -119,7 +119,7 @@ module _ (t : Tree) (i : ℕ) (b : List ℕ) (d : DownFrom t i b) (p : ℕ) (hp 
             falls-again,
       )
 
--- ---- what the test of a pair tells
+-- ---- what the test of a pair means
 pub record Pair (n : ℕ) (b : List ℕ) (v : ℕ) : Type 0 where
   pub size-is : sizeCell b v ≡ innerSize b v
   pub right-parent : parentCell b (v - 1) ≡ v

@@ -1,10 +1,10 @@
--- The states and maps of a pair: places, and what the test tells.
---     within-below .. left-less      places and values of the tables lie inside
+-- The states and maps of a pair: indices, and what the test means.
+--     within-below .. left-less      indices and values of the tables are in range
 --     rows-args, rows-args-of        what the tests at one node read lies inside
 --     small-of, rule-place           the same of the rules
---     placed, pair-is                the places of a pair, and the test at its node, as the code goes
---     rows-near, rows-far            the test of both maps, as the code goes; rows-joined: through the joined map
---     Rows, rows-told, tells-rows    what the test of both children's maps tells
+--     placed, pair-is                the indices of a pair, and the test at its node, as the code computes them
+--     rows-near, rows-far            the test of both maps, as the code makes it; rows-joined: through the joined map
+--     Rows, rows-told, tells-rows    what the test of both children's maps means
 use Prim.Native.Nat.{ℕ, _+_, _-_, _*_, _≤_, _<_}
 use mathlib.Core.Path.{_≡_, refl, _∙_}
 use mathlib.Core.Bool.{Bool, true, false, cond, _&&_}
@@ -41,7 +41,7 @@ within-below n x h = go (ltb x n) refl
     go true e = ltb-true x n e
     go false e = h
 
--- ---- places
+-- ---- indices
 
 module _ (ls nodeTable lv inn : List ℕ) (s k n : ℕ) (b : List ℕ) (T : TableRoom ls nodeTable lv inn s k n b) where
   pub row-room : (u : ℕ) → u < n → RowIn (length b) s u
@@ -141,7 +141,7 @@ module _ (ls nodeTable lv inn : List ℕ) (s k n : ℕ) (b : List ℕ) (T : Tabl
   pub step-small : k * s ≤ 1024
   step-small = omega (arith, mul-le-mul-right s (T .rules .labels), T .rules .few)
 
--- ---- the test of both maps, as the code goes
+-- ---- the test of both maps, as the code makes it
 
 module _ (nodeTable inn : List ℕ) (s n : ℕ) (b : List ℕ) (v l row col step : ℕ) where
   pub rows-near : jumpCell nodeTable (v - 1) ≡ v → (x y : Bool) → x ≡ rowIs s b (v - 1) (nearEntry inn row 1)
@@ -191,7 +191,7 @@ module _ (nodeTable inn : List ℕ) (s n : ℕ) (b : List ℕ) (v l row col step
         rows-far h j z x y (e ∙ through-far (v - 1) v j row 1 m J (A .right-below))
         (f ∙ through-far l v j col step m J (A .left-below))
 
--- ---- what it tells
+-- ---- what it means
 
 pub record Rows (nodeTable inn : List ℕ) (s n : ℕ) (b : List ℕ) (v l row col step : ℕ) : Type 0 where
   pub near-right : jumpCell nodeTable (v - 1) ≡ v → (q : ℕ) → q < s → mapCell s b (v - 1) q ≡ nearEntry inn row 1 q

@@ -1,6 +1,6 @@
 -- Both tables of a plan and a rule table that pass their checks, with the parts that are handed on.
 --     both-args-of    what the check of both tables needs
---     both-tells      what it tells is the test of both tables
+--     both-tells      what it returns is the test of both tables
 use Prim.Native.Nat.{ℕ, _+_, _-_, _*_}
 use mathlib.Core.Path.{_≡_}
 use mathlib.Core.Bool.{Bool}

@@ -1,8 +1,8 @@
 -- Two states by arithmetic on 0 and 1.
 --     bit-cases                      a number below 2 is 0 or 1
 --     two-entry                      the entry of a map of two states, without a choice
---     bit-most, two-mapped           the map that both children's steps are taken on by, as the code makes it
---     near-at, rows-two              the test of both maps, as the code goes
+--     bit-most, two-mapped           the map that both children's steps are composed with, as the code makes it
+--     near-at, rows-two              the test of both maps, as the code makes it
 use Prim.Native.Nat.{ℕ, zero, suc, _+_, _-_, _*_, _≤_, _<_}
 use mathlib.Core.Path.{_≡_, refl, sym, ap, ap₂, _∙_}
 use mathlib.Core.Bool.{Bool, true, false, cond, _&&_}

@@ -12,8 +12,8 @@ ghost use Rattle.table_checks.specs.inner.PairStates.{pairIs};
 ghost use Rattle.table_checks.specs.inner.Blocks.{Means, BothListed, Nodes};
 ghost use Rattle.table_checks.specs.inner.Blocks.{ListingArgs, PairsArgs, BlockArgs, BlocksArgs};
 
-// Lists the inner nodes of b, .. e - 1 and its leaves, and tells how many inner nodes they are. Each node is listed in
-// both, and the next node over it in one, so that nothing hangs on the kind.
+// Lists the inner nodes of b, .. e - 1 and the leaves, and returns the number of inner nodes. Each node is written to
+// both lists, and the next node overwrites it in one of them, so that there is no branch on the kind.
 fn list_block(kinds: &[u8], b: usize, e: usize, list: &mut [u16], leaf_list: &mut [u16]) -> usize
     requires { ⌜ ListingArgs (now kinds) b e (length (now list)) (length (now «leaf_list»)) ⌝ }
     ensures { λ r. ⌜ BothListed (now (kinds .entry)) b e r (now (list .exit)) (now («leaf_list» .exit)) ⌝ }

@@ -40,7 +40,7 @@ fn both_match(
     )
 }
 
-// The full check: 2 to 11, then whether the lent tables are what the build writes. Nothing is written.
+// The full check: 2 to 11, then whether the tables are what the build writes. Nothing is written.
 pub fn check_tables(plan: &[u8], rules: &[u8], node_table: &[u16], state_table: &[u8]) -> Checking
     ensures { λ a. ⌜ CheckDone (firstNo
         (buildChecks (now (plan .entry)) (now (rules .entry)) (length (now («node_table» .entry)))

@@ -1,5 +1,5 @@
 // Rows of a table of states compared with what they have to be: the differences or-ed into one byte, 0 where there is
-// none. Small enough to be laid out where they are called: with a literal s the compiler knows the number of turns.
+// none. Small enough to be inlined: with a literal s the compiler knows the number of iterations.
 ghost use mathlib.Core.Path.{_≡_};
 ghost use lib.Dec.{eqb};
 ghost use lib.ListN.{length};
@@ -32,7 +32,7 @@ pub fn near_differences(
     bad
 }
 
-// Where node v's map differs from those values taken on by the maps of nodes p and j.
+// Where node v's map differs from those values composed with the maps of nodes p and j.
 pub fn far_differences(
     state_table: &[u8],
     s: usize,
@@ -63,7 +63,7 @@ pub fn far_differences(
     bad
 }
 
-// The map of node p taken on by the map of node j.
+// The map of node p composed with the map of node j.
 pub fn join_maps(state_table: &[u8], s: usize, p: usize, j: usize, joined: &mut [u8])
     requires { ⌜ JoinArgs s (now «state_table») p j (length (now joined)) ⌝ }
     ensures { λ r. ⌜ Joined s (now («state_table» .entry)) p j s (now (joined .exit)) ⌝ }
@@ -78,7 +78,7 @@ pub fn join_maps(state_table: &[u8], s: usize, p: usize, j: usize, joined: &mut 
     }
 }
 
-// Where node v's map differs from the rule's values taken on by a joined map.
+// Where node v's map differs from the rule's values composed with a joined map.
 pub fn joined_differences(
     state_table: &[u8],
     s: usize,

@@ -22,7 +22,7 @@ fn state_at(state_table: &[u8], s: usize, u: usize) -> usize
     state_table[u * (s + 1)] as usize
 }
 
-// The places of inner node v's children.
+// The pair of inner node v's children.
 pub fn pair_at(
     labels: &[u8],
     node_table: &[u16],

@@ -7,8 +7,8 @@ ghost use mathlib.Core.Path.{_≡_};
 ghost use lib.Dec.{eqb};
 ghost use Rattle.table_checks.specs.inner.PairStates.{rowsMatch, pairStates, RowsArgs, NodeRoom};
 
-// Where both children's maps differ from their steps to node v, taken on by the maps of v and its jump where the right
-// child's jump is not v.
+// Where both children's maps differ from their steps to node v, composed with the maps of v and its jump where the
+// right child's jump is not v.
 fn row_differences(
     node_table: &[u16],
     inner: &[u8],

@@ -1,5 +1,5 @@
-// The states and maps of a node's two children where there are 16 states: as in rows, with a number of turns that is
-// known to the compiler.
+// The states and maps of a node's two children where there are 16 states: as in rows, but the compiler knows the number
+// of iterations.
 use crate::differences::join_maps;
 use crate::differences::joined_differences;
 use crate::differences::near_differences;

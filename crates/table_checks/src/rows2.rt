@@ -1,5 +1,5 @@
-// The states and maps of a node's two children where there are two states: by arithmetic on 0 and 1, with nothing that
-// hangs on near or far.
+// The states and maps of a node's two children where there are two states: by arithmetic on 0 and 1, with no branch on
+// near or far.
 use crate::places::pair_at;
 use crate::siblings::inside;
 ghost use mathlib.Core.Path.{_≡_};
@@ -30,7 +30,7 @@ fn far_bit(node_table: &[u16], n: usize, v: usize) -> u8
     }
 }
 
-// The map that both children's steps are taken on by.
+// The map that both children's steps are composed with.
 fn two_maps(node_table: &[u16], n: usize, state_table: &[u8], v: usize) -> Two
     requires { ⌜ TwoArgs (now «node_table») n (now «state_table») v ⌝ }
     ensures { λ r. ⌜ TwoMapped (now («node_table» .entry)) n (now («state_table» .entry)) v (r .zero) (r .one) ⌝ }

@@ -1,5 +1,5 @@
-// The node table's numbers of a node's two children, tested at their parent. Nothing that is lent leads outside, so
-// that the nodes may be looked at in any order and no test has to end the pass.
+// The node table's numbers of a node's two children, tested at their parent. No table value can lead to a read out of
+// range, so the nodes may be tested in any order and no test has to end the pass.
 use tables::node_tables::jump_lengths::by_length;
 use tables::node_tables::jump_lengths::jump_length;
 ghost use mathlib.Core.Path.{_≡_};
@@ -18,7 +18,7 @@ pub fn inside(x: usize, n: usize) -> usize
     if x < n { x } else { 0 }
 }
 
-// The left child of inner node v by the lent sizes; node 0 where they lead outside.
+// The left child of inner node v by the table's sizes; node 0 where they are out of range.
 pub fn left_in(node_table: &[u16], n: usize, v: usize) -> usize
     requires { ⌜ PairArgs n (now «node_table») v ⌝ }
     ensures { λ r. ⌜ r ≡ leftOf (now («node_table» .entry)) v ⌝ }

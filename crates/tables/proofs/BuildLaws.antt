@@ -5,7 +5,7 @@
 --     build-args .. both-written-of  the same of the parts that are handed on
 --     build-refused, build-done  a build's two answers
 --     built-lists              what an accepted build leaves
---     written-as-built, built-as-built  the buffers afterwards are as built, whatever their excess is
+--     written-as-built, built-as-built  the buffers afterwards are as built, for any excess
 use Prim.Native.Nat.{ℕ, zero, suc, _+_, _-_, _*_, _≤_}
 use mathlib.Core.Path.{_≡_, refl, sym, ap, _∙_}
 use mathlib.Core.Bool.{true}
@@ -188,7 +188,7 @@ module _ (links states nodeTable stateTable : List ℕ) where
   refused zero e = absurd (e refl)
   refused (suc n) e = record { result = refl; number = refl; node-table-written = refl; state-table-written = refl }
 
-  -- x is the number that a check told
+  -- x is the number that a check returned
   pub build-refused : (n x : ℕ) → x ≡ n → (x ≡ 0 → ⊥) → BuildDone n links states nodeTable stateTable (Refused x) nodeTable stateTable
   build-refused n x e z = rw (← e) (refused x z)
 
@@ -224,7 +224,7 @@ module _ (p r : List ℕ) where
         states = take-at (builtStateTable p r) y (stateTableLength (nodeCount p) (stateCount r)) (length-builtStates p P r);
       }
 
-  -- whatever the buffers were, an accepted build leaves them as built
+  -- an accepted build leaves any buffers as built
   pub built-as-built : (nodeTable stateTable nodeTable′ stateTable′ : List ℕ) (answer : Building)
       → BuildDone (firstNo (buildChecks p r (length nodeTable) (length stateTable))) (builtNodeTable p) (builtStateTable p r) nodeTable stateTable
       answer nodeTable′ stateTable′

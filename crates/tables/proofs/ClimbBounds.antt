@@ -3,7 +3,7 @@
 --     climb-few                         a climb has no more moves than the forest has nodes: it meets none twice
 --     rule-state, move-state            what a rule or a move gives is a state
 --     Bounded, climb-bounded            the climb of a part gives a state, by no more links than there are nodes, and passes over no
---                                       fewer nodes than it has links and no more than the lent depths allow
+--                                       fewer nodes than it has links and no more than the table's depths allow
 use Prim.Native.Nat.{ℕ, zero, suc, _+_, _*_, _≤_, _<_}
 use mathlib.Core.Path.{_≡_, refl, sym, ap, _∙_, subst}
 use mathlib.Core.Bool.{Bool, true, false, cond}
@@ -142,7 +142,7 @@ module _ (X : View) where
     pub state : x .state < X .s
     pub links : x .links ≤ X .n
     pub links-passed : x .links ≤ x .passed
-    -- whatever bounds the lent depths: 65,535 in 16-bit numbers
+    -- any bound m on the table's depths: 65,535 in 16-bit numbers
     pub passed : (m : ℕ) → ((v : ℕ) → depthCell (X .nodeTable) v ≤ m) → x .passed ≤ m
 
   pub climb-bounded : (h t q : ℕ) (x : Reached) → q < X .s → climbOn X h t q ≡ some x → Bounded x

@@ -1,4 +1,4 @@
--- The turns of the loop that climbs with a state.
+-- The iterations of the loop that climbs with a state.
 --     countedMove                        a move on a state that counts its links, and what they pass over from a start
 --     climb-carried                      the climb is what its counted moves make of the state
 --     Climbing                           the loop's state: that of the moves so far, and the same answer from here

@@ -1,7 +1,7 @@
 -- The lookups of a climb, by what is read.
 --     below-yes, below-no, below-state     a number is a state, or is not; what `below` gives is one
---     stride, rule-place, rule-small       rows of equal length: the place of a rule is inside the rules, and small
---     map-place, state-place               the place of a node's map entry, and of its state, is inside the bytes
+--     stride, rule-place, rule-small       rows of equal length: the index of a rule is inside the rules, and small
+--     map-place, state-place               the index of a node's map entry, and of its state, is inside the bytes
 --     rule-outside, rule-at                a rule for a number that is no label, and for a label
 --     sibling-left .. sibling-none         the other child, by the tests of the code
 use Prim.Native.Nat.{ℕ, _+_, _-_, _*_, _≤_, _<_}

@@ -1,4 +1,4 @@
--- The turns of the loop that writes the maps, from the root down, both children of an inner node at its turn.
+-- The iterations of the loop that writes the maps, from the root down: each inner node writes both children's maps.
 --     right-is, left-is       the values written are the children's maps
 --     pairs-start, pairs-turn, pairs-lower, pairs-all   the root's map, one more inner node, leaves passed by, all of
 --   them
@@ -51,7 +51,7 @@ module _ (s k : ℕ) (lv inn mk : List ℕ) (t : Tree) (ks ls b e : List ℕ) (P
   pub count : size t ≡ length ls
   count = sym (length-labels t) ∙ ap length (P .labels)
 
-  -- ---- an inner node's turn, where the later ones have had theirs
+  -- ---- the iteration of an inner node, after those of the later ones
   module _ (st : List ℕ) (v : ℕ) (h : v < size t) (kind : getD ks v 0 ≡ 0 → ⊥)
       (W : PairsWritten s t (stateMap (treeAutomaton s k lv inn mk) t) (v + 1) e st) where
     I : Inner t v
@@ -118,7 +118,7 @@ module _ (s k : ℕ) (lv inn mk : List ℕ) (t : Tree) (ks ls b e : List ℕ) (P
         ∙ sym (stepUp-left (treeAutomaton s k lv inn mk) t u (omega (arith, left-more)) q
         (λ z. omega (arith, left-up, left-more)))
 
-    -- both children's jumps go by their parent alone
+    -- both children's jumps depend on their parent alone
     same-jump : jumpCell b (v - 1) ≡ jump t (leftOf b v)
     same-jump =
         let F : ℕ → ℕ = λ p. twoDistances (depth t p) (depth t (jump t p)) (depth t (jump t (jump t p)))

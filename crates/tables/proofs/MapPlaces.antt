@@ -1,5 +1,5 @@
--- A rule's place in the making is small enough for the machine's numbers.
---     Small, small           the numbers on the way
+-- The index of a rule, while it is computed, is small enough for the machine's numbers.
+--     Small, small           the intermediate numbers
 use Prim.Native.Nat.{ℕ, _+_, _*_, _≤_, _<_}
 use native.Mathlib.Nat.{mul-le-mul-right}
 use native.Mathlib.Omega.{arith}

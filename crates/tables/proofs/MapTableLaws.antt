@@ -1,5 +1,5 @@
--- Maps of a whole table, for any maps f: the turns of a loop that writes them node by node, and the table that is
--- written.
+-- Maps of a whole table, for any maps f: the iterations of a loop that writes them node by node, and the table that
+-- is written.
 --     written-start, written-iteration  no map written, and one more
 --     row-ext                  a written map, by equal entries; kept-row: one that was there already
 --     state-no-map             a state byte is in no map; excess-no-map: nor is the excess

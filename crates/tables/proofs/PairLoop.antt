@@ -1,7 +1,7 @@
 -- Both children's maps written byte by byte, and the 16 states that are read first.
 --     pair-start, pair-iteration   no byte of either map written, and one more of each
 --     pair-other, cell-other       other maps are as they were, after both and after one store
---     FarTurn, far-turn            what a turn of `far_pair` reads and writes
+--     FarTurn, far-turn            what an iteration of `far_pair` reads and writes
 --     line-iteration, line-entry   one more state read, and a state read as an entry of a row
 use Prim.Native.Nat.{ℕ, _+_, _*_, _≤_, _<_}
 use mathlib.Core.Path.{_≡_, refl, ap, _∙_}
@@ -73,7 +73,7 @@ module _ (s : ℕ) (f g : ℕ → ℕ) (r l i : ℕ) (b₀ b : List ℕ) (P : Pa
           ∙ P .kept j (λ q m. a q (omega arith)) (λ q m. c q (omega arith));
     }
 
--- ---- a turn of `far_pair`: the right row's entry, stored, then the left row's
+-- ---- an iteration of `far_pair`: the right row's entry, stored, then the left row's
 
 abbrev pub rightStored : ℕ → ℕ → ℕ → ℕ → ℕ → List ℕ → ℕ → List ℕ → List ℕ
 rightStored s v j r i table row b =
@@ -133,7 +133,7 @@ line-iteration line table base q F room x h = elim (ℕ-discrete x q) [
   | no p ↦ getD-set-other line q x (getD table (base + q) 0) 0 (omega arith) ∙ F x (omega arith)
 ]
 
--- an entry of the states read, by the places as the two rows have them
+-- an entry of the states read, by the indices as the two rows have them
 pub line-entry : (line table : List ℕ) (row q : ℕ) → getD line q 0 ≡ getD table (row + q) 0
     → getD line (0 + q * 1) 0 ≡ getD table (row + q * 1) 0
 line-entry line table row q e =

@@ -1,4 +1,4 @@
--- Both children's maps, written at their parent's turn.
+-- Both children's maps, written in their parent's iteration.
 --     pair-rowed .. pair-ext          two rows written one after the other
 --     near-pair-args, far-pair-args   what the writers of both rows need; near-values, far-values: what they write
 use Prim.Native.Nat.{ℕ, _+_, _-_, _*_, _<_}

@@ -1,5 +1,5 @@
--- What a turn of `far_pair` reads, to write a map by a table and two maps.
---     placed                     a byte of a map, by its place as the code has it
+-- What an iteration of `far_pair` reads, to write a map by a table and two maps.
+--     placed                     a byte of a map, by its index as the code computes it
 --     far-here-below .. far-is   the byte read in the table and in each of the two maps; the last is the byte to write
 use Prim.Native.Nat.{ℕ, _+_, _*_, _<_}
 use mathlib.Core.Path.{_≡_, ap, _∙_}
@@ -9,14 +9,14 @@ use lib.ListN.{getD}
 use Rattle.tables.specs.StateCells.{mapCell}
 use Rattle.tables.specs.inner.Rows.{FarArgs, farCell}
 
--- the places as the code has them
+-- the indices as the code computes them
 abbrev pub placed : ℕ → List ℕ → ℕ → ℕ → ℕ
 placed s b v q = getD b (v * (s + 1) + 1 + q) 0
 
 placed-is : (s : ℕ) (b : List ℕ) (v q : ℕ) → placed s b v q ≡ mapCell s b v q
 placed-is s b v q = let e : v * (s + 1) + 1 + q ≡ v * (s + 1) + (1 + q) = omega arith in ap (λ (j : ℕ). getD b j 0) e
 
--- the maps of p and of j are as they were; `at` is the place of entry i, as the code has it
+-- the maps of p and of j are as they were; `at` is the index of entry i, as the code computes it
 module _ (s v p j i : ℕ) (table : List ℕ) (base stride : ℕ) (b₀ b : List ℕ)
     (near-same : (q : ℕ) → q < s → mapCell s b p q ≡ mapCell s b₀ p q)
     (far-same : (q : ℕ) → q < s → mapCell s b j q ≡ mapCell s b₀ j q)

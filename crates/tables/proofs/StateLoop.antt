@@ -1,4 +1,4 @@
--- The turns of the loop that writes the run's states.
+-- The iterations of the loop that writes the run's states.
 --     rule-args                   what reading a rule needs
 --     rules-below                 the states of a run are below S
 --     leaves-start, leaves-step   all as leaves, one node more
@@ -81,7 +81,7 @@ module _ (A : Automaton) (t : Tree) (i e : ℕ) (b₀ b : List ℕ) (ran : RanTo
     kept = λ j a. getD-set-other b (i * (A .states + 1)) j x 0 (a i h) ∙ ran .kept j a;
   }
 
-  -- the children's states, where they stand
+  -- the children's states, where they are
   module _ (nodeTable : List ℕ) (sizes : (v : ℕ) → v < size t → sizeCell nodeTable v ≡ size (sub t v))
       (c : kindAt t i ≡ 0 → ⊥) (he : i < e)
     where

@@ -1,4 +1,4 @@
--- One move of a climb on whatever is lent, by what its lookups told.
+-- One move of a climb on any inputs, by what its lookups returned.
 --     parent-alone, parent-lost, parent-right, parent-left   what a move to the parent makes of a state
 --     step-jump, step-parent, step-stuck                     the node that the move leads to, with the state there
 --     Went, step-on, step-lost                               a step that was made, and one that was not

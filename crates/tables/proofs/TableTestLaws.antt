@@ -1,4 +1,4 @@
--- The tests of a lent table of states and maps, for any states g and maps f.
+-- The tests of a table of states and maps, for any states g and maps f.
 --     states-same-yes, -no, -told   all state bytes are g's; maps-same-yes, -no, -told  all maps are f's
 --     cells-table, table-states, table-maps   a buffer that begins with the table, by its cells
 --     table-test                    it begins with the table exactly where both tests say so
@@ -52,7 +52,7 @@ module _ (s n : ℕ) (g : ℕ → ℕ) (f : ℕ → ℕ → ℕ) (b : List ℕ) 
   wide : (v : ℕ) → v < n → length (g v ∷ tabulate s (f v)) ≡ s + 1
   wide v h = omega (arith, length-tabulate s (f v))
 
-  -- the place of a map's entry as the rows' laws have it
+  -- the index of a map's entry as the rows' laws have it
   place-is : (v q : ℕ) → getD b (v * (s + 1) + 1 + q) 0 ≡ mapCell s b v q
   place-is v q = let e : v * (s + 1) + 1 + q ≡ v * (s + 1) + (1 + q) = omega arith in ap (λ (i : ℕ). getD b i 0) e
 

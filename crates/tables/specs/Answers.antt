@@ -1,8 +1,8 @@
--- What the builds and the full checks answer, and what they leave in the lent buffers.
+-- What the builds and the full checks answer, and what they leave in the caller's buffers.
 --
 -- buildingNumber a, checkNumber a == document 01's number of an answer: 0 accepted, else the refusal's
 -- buildAnswer n, checkAnswer n same == the answer of a build, or of a full check, whose first failing check is n (0: none)
--- written n table entry == what a lent buffer holds afterwards: the table and the entry's excess, or the entry where refused
+-- written n table entry == what a buffer holds afterwards: the table and the entry's excess, or the entry where refused
 -- BuildDone == a build's promise: the answer, its number and both buffers, on every input
 -- CheckDone == a full check's promise
 use Prim.Native.Nat.{ℕ, zero, suc}

@@ -1,13 +1,13 @@
--- The climb of a part, on whatever is lent.
+-- The climb of a part, on any inputs.
 --
--- View == what is lent, cut into its runs by N, S and K; viewOf n s k plan rules nodeTable bytes == that of the lent slices
+-- View == the inputs, cut into runs by N, S and K; viewOf n s k plan rules nodeTable bytes == that of these slices
 -- below s q == q where it is a state, none where it is not below s
--- runOn X v == the run state of node v in the lent bytes
+-- runOn X v == the run state of node v in the state table
 -- ruleOn X p a q == the rule for left p, label a, right q; none where a is no label or the result no state
--- siblingOn X v p == the other child of v's parent p, by the lent size of v; none where it would lie outside the plan
+-- siblingOn X v p == the other child of v's parent p, by the table's size of v; none where it would be outside the plan
 -- moveOn X m q == what one move makes of state q; none where a value read leads outside the plan, the states or the labels
--- climbOn X h t q == the climb from node h with state q to depth t: the state reached, the links and the nodes passed over, by the lent
---   depths; none as for a move, or where it does not rise
+-- climbOn X h t q == the climb from node h with state q to depth t: the state reached, the links and, by the table's
+--   depths, the nodes passed over; none as for a move, or where it does not rise
 -- climbedOf o == that as an answer, OutOfRange for none; climbedNumber a == document 01's number of an answer: 18 for OutOfRange
 --
 -- Not here: which climbs a part makes (crate questions, Part). N, S and K are the caller's (in the session the record's); no header is read.

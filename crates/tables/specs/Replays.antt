@@ -1,11 +1,11 @@
--- The climb of a branch question, on whatever is lent: on runs of labels and steps.
+-- The climb of a branch question, on any inputs: on runs of labels and steps.
 --
 -- stateMove s k ls st stateTable m q == what the move m makes of state q, downwards: a jump applies its node's map, a
 --   move to the parent its node's own label; none where a value read leads outside the states or the labels
 -- carryDown act ms q == what the moves ms of a climb make of state q downwards, from the last to the first
 -- replayOn .. l to q == the climb from node l to depth `to`, and what its moves make of q downwards: the state at l, with
---   the links and, by the lent depths, the nodes passed over; none where a value read leads outside, or the climb does
---   not rise
+--   the links and, by the table's depths, the nodes passed over; none where a value read is out of range, or the climb
+--   does not rise
 use Prim.Native.Nat.{ℕ, _+_, _*_}
 use mathlib.Core.Bool.{cond}
 use mathlib.Core.List.{List, [], _∷_}

@@ -41,7 +41,7 @@ fn write_tables(
     );
 }
 
-// Builds the tables of a plan and a rule table into the lent buffers, or refuses and alters nothing.
+// Builds the tables of a plan and a rule table into the caller's buffers, or refuses and alters nothing.
 pub fn build_tables(
     plan: &[u8],
     rules: &[u8],

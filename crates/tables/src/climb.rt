@@ -1,4 +1,4 @@
-// The climb with a state over a rule table: from a node with its state to a depth, on whatever is lent.
+// The climb with a state over a rule table: from a node with its state to a depth, on any inputs.
 use crate::answers::Climbed;
 use crate::answers::Reached;
 use crate::lookups::rule_on;
@@ -19,7 +19,7 @@ pub struct Landed {
 }
 
 // What a move from node v to its parent p makes of state q: the parent's label and the other child's run state are
-// applied. No state where the number told is not below S.
+// applied. A returned number that is not below S means no state.
 fn parent_on(
     labels: &[u8],
     inner: &[u8],

@@ -1,5 +1,5 @@
-// Lookups in what is lent, whatever it holds: a rule, a run state, a sibling. Each tells a number that names a state
-// where it is below S, or a node where it is below N; any other number means that the value led outside.
+// Lookups of a rule, a run state or a sibling, on any inputs. The number returned names a state if it is below S, or a
+// node if it is below N; any other number means that a value was out of range.
 use crate::node_tables::moves::size_at;
 ghost use mathlib.Core.Path.{_≡_};
 ghost use Rattle.tables.specs.Climbs.{below, runOn, ruleOn, siblingOn};

@@ -1,4 +1,4 @@
-// The maps of a rule table's nodes, from the root down: both children of an inner node at its turn.
+// The maps of a rule table's nodes, from the root down. The iteration of an inner node writes both children's maps.
 use crate::node_tables::blocks::empty_list;
 use crate::node_tables::blocks::list_inner;
 use crate::pair_rows::far_pair;
@@ -112,7 +112,7 @@ fn fill_block(
 }
 
 // Writes each node's map: by the nodes after the last whole block, then block by block. As there are two calls, the
-// compiler keeps fill_block a function of its own, the same wherever a build stands.
+// compiler does not inline fill_block, so its code is the same wherever a build is called.
 pub fn fill_maps(
     kinds: &[u8],
     labels: &[u8],

@@ -1,7 +1,7 @@
 // The climb of a branch question: the word runs downward while the climb goes up. So the climb remembers its moves, and
 // one state is carried down through them, from the last to the first: one entry of each move's map is read. On tables as
-// built a climb has at most 45 moves, fewer than are remembered at a time. A longer one on other tables goes by parts,
-// with a map from the part's top to the start of the climb.
+// built a climb has at most 45 moves, fewer than are remembered at a time. A longer one, on other tables, is made in
+// parts, with a map from the part's top to the start of the climb.
 use crate::answers::Climbed;
 use crate::answers::Reached;
 use crate::node_tables::moves::NextMove;

@@ -1,8 +1,8 @@
 -- Climbs, in any forest.
 --     climb-done, climb-move, climb-stuck   the equations without a count
---     climb-nil, climb-cons                 what a climb of no moves is, and one of m and more: inductions go by these
+--     climb-nil, climb-cons                 what a climb of no moves is, and one of m and more: used in inductions
 --     climb-short, climb-low                at most depth-many moves; the end is not below the target depth
---     climb-most                            at most as many moves as the depths are apart
+--     climb-most                            no more moves than the difference of the depths
 --     Agree, same-next, same-climb-of       forests that agree on their nodes climb alike
 --     same-climb, same-end                  so does a table that says what a tree says
 use Prim.Native.Nat.{ℕ, zero, suc, _+_, _-_, _≤_, _<_}
@@ -79,7 +79,7 @@ module _ (F : Forest) where
   climb-stuck v t h e =
       climb-onward v t h ∙ ap (λ (o : Option Move). andThen o (λ m. before m (climb F (target F m) t))) e
 
-  -- ---- a climb taken apart
+  -- ---- a climb split into its moves
 
   pub climb-nil : (v t : ℕ) → climb F v t ≡ some [] → F .depth v ≤ t
   climb-nil v t e =

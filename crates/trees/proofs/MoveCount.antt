@@ -66,7 +66,7 @@ moveCount-move (suc d) t h =
     (λ _. ap suc (same d (nextDepth (suc d) t) (nextDepth (suc d) t) t (omega arith) (le-refl _)))
     (λ q. absurd (omega arith))
 
--- ---- one move, as a bound, whatever the count
+-- ---- one move, as a bound, for any count
 
 in-step : (f d t : ℕ) → moveCountIn f d t ≤ suc (moveCountIn (pred f) (nextDepth d t) t)
 unfolding moveCountIn

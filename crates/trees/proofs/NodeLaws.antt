@@ -1,4 +1,4 @@
--- The laws of a tree's nodes by number: what stands at node v, its children and its parent.
+-- The laws of a tree's nodes by number: what is at node v, its children and its parent.
 use Prim.Native.Nat.{ℕ, zero, suc, _+_, _-_, _≤_, _<_}
 use mathlib.Core.Path.{_≡_, refl, sym, ap, _∙_, subst}
 use mathlib.Core.List.{[], _∷_, _++_}
@@ -11,7 +11,7 @@ use Rattle.list_laws.proofs.AppendLaws.{at-left, at-middle, at-right}
 use Rattle.trees.specs.Tree.{Tree, leaf, node, kindsOf, labelsOf, size}
 use Rattle.trees.specs.Numbering.{split, sub, parent, depth}
 
--- ---- a node's place
+-- ---- where a node is: in the left part, in the right part, or at the root
 
 pub data Place (l r : Tree) (v : ℕ) : Type 0 where
   inL : v < size l → Place l r v
@@ -172,7 +172,7 @@ sub-leaf (node l a r) v h e = go (place l a r v h) (sub-leaf l v) (λ j. sub-lea
     go (inR j q p) il ir = sub-right l a r v j q p ∙ ir j p (sym (kind-right l a r v j q p) ∙ e) ∙ ap leaf (sym (label-right l a r v j q p))
     go (top q) il ir = absurd (omega (arith, kind-top l a r v q))
 
--- ---- an inner node: its right child is v - 1, and its left child u stands before the right child's subtree
+-- ---- an inner node: its right child is v - 1, and its left child u comes just before the right child's subtree
 pub record Inner (t : Tree) (v : ℕ) : Type 0 where
   pub left : ℕ
   pub at : left + size (sub t (v - 1)) + 1 ≡ v

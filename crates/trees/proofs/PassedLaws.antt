@@ -1,10 +1,10 @@
 -- Nodes passed over by a climb.
 --     climb-falls                 each move rises, in any forest
---     links-passed, passed-most   at least as many as the links, at most the depth of the start
+--     links-passed, passed-most   no fewer than the links, at most the depth of the start
 --     climb-passed, passed-height in a tree: the depths' difference, at most the height
 --     same-passed                 so in a table that says what a tree says
---     ended-carry, ended-climb    moves that count themselves and tell their end: the count is that of the moves, the
---                                 end the climb's
+--     ended-carry, ended-climb    moves that count themselves and report their end: the count is that of the moves,
+--                                 the end the climb's
 use Prim.Native.Nat.{ℕ, _+_, _-_, _≤_, _<_}
 use mathlib.Core.Path.{_≡_, refl, sym, ap, ap₂, _∙_}
 use mathlib.Core.List.{List, [], _∷_}
@@ -21,7 +21,7 @@ use Rattle.trees.proofs.ClimbLaws.{climb-short, climb-inside, Tells, sa
 use Rattle.trees.proofs.TreeClimbs.{climb-ends}
 use Rattle.trees.proofs.CarryLaws.{carried}
 
--- ---- in any forest, so on any lent numbers
+-- ---- in any forest, so on any table of links
 
 module _ (F : Forest) (w to : ℕ) (ms : List Move) (e : climb F w to ≡ some ms) where
   pub climb-falls : F .depth (climbEnd F w ms) + length ms ≤ F .depth w
@@ -60,9 +60,9 @@ module _ (F : Forest) (t : Tree) (n : F .nodes ≡ size t) (tells : Tells F t) w
       (ap (F .depth) (same-end F t n tells w to ms h e) ∙ tells (climbEnd (forestOf t) w ms) i .2)
       ∙ climb-passed t w to ms h l c
 
--- ---- moves that count themselves and tell their end
+-- ---- moves that count themselves and report their end
 
--- told x c v is x after c moves that led to node v; a move of `counted` is one of act that counts itself and tells
+-- told x c v is x after c moves that led to node v; a move of `counted` is one of act that counts itself and reports
 -- where it leads
 module _ {X C : Type 0} (F : Forest) (told : X → ℕ → ℕ → C) (act : Move → X → Option X) (counted : Move → C → Option C)
     (one : (m : Move) (x : X) (c v : ℕ)

@@ -30,7 +30,7 @@ pub kinds-run : (A : Automaton) (t : Tree) → kindsOf (run A t) ≡ kindsOf t
 kinds-run A (leaf a) = refl
 kinds-run A (node l a r) = rw (kinds-run A l, kinds-run A r)
 
--- a function goes through a choice by place
+-- a function commutes with a choice by where a node is
 through : {X Y : Type 0} (g : X → Y) (m n v : ℕ) (x : X) (f : ℕ → X) (y : X) (x' : Y) (f' : ℕ → Y) → x' ≡ g x
     → ((j : ℕ) → f' j ≡ g (f j)) → split m n v x' f' (g y) ≡ g (split m n v x f y)
 unfolding split

@@ -1,6 +1,6 @@
--- Skew-binary numbers, and that jump depths go by them.
+-- Skew-binary numbers, and that jump depths follow them.
 --     jumpDepth-lt     a jump leads to a smaller depth
---     weight, value    a block of exponent k weighs 2 ^ k - 1; a list of exponents stands for the sum
+--     weight, value    a block of exponent k weighs 2 ^ k - 1; the value of a list of exponents is the sum
 --     inc, rep         the list one higher, and the list of a number
 --     Block, blocks    the history of a block: at depth weight k + value ks the list is k ∷ ks, and so for the two
 --                      blocks that it was merged from; every block of rep n has one

@@ -1,7 +1,7 @@
 -- A tree's parents and depths ascend, and its ancestors and jumps are theirs: the laws of jumps and climbs in a tree are
 -- an instance of those of proofs/AscentLaws and proofs/AscentClimbs.
 --     tree-ascends     a tree's parents and depths ascend
---     ancestor-rise    an ancestor is the node so many parents above; jump-tree: a jump is that of these parents
+--     ancestor-rise    the ancestor n above is the node n parents above; jump-tree: a jump is that of these parents
 --     tree-forest      so is the forest of a tree
 use Prim.Native.Nat.{ℕ, zero, suc, _+_, _<_}
 use mathlib.Core.Path.{_≡_, refl, ap, fun-ext}

@@ -1,13 +1,13 @@
 -- Climbs, over any table of parents, jumps and depths.
 --
--- Forest == for each of the nodes below `nodes` a parent, a jump and a depth: a tree's (forestOf) or what a lent table says
+-- Forest == for each of the nodes below `nodes` a parent, a jump and a depth: a tree's (forestOf) or those of any table
 -- Move == one link of a climb, by the jump of its node or to the parent of its node
 -- climb F w t == the moves of a climb from node w to depth t, in order; none where a move would lead outside the forest or
 --   not to a smaller depth (never in a tree)
 -- climbEnd F w ms == the node that the moves ms lead to from w
 -- carry act ms x == what the moves ms make of x, one after the other; none where one of them makes nothing
 -- walk step t v n x == what n steps to the parent make of x, from node v of t up
--- moveCount d t == the number of moves from depth d to depth t in a tree: it goes by depths alone
+-- moveCount d t == the number of moves from depth d to depth t in a tree: it depends on depths alone
 -- digits n == the number of binary digits; 0 has none
 --
 -- climb, moveCount and digits count down a number that is large enough; their equations without it are in proofs/ClimbLaws.

@@ -2,7 +2,7 @@
 --
 -- twoDistances d j k far near == far where d - j equals j - k, else near
 -- jump t v == document 01's jump of node v; the root's is the root
--- jumpDepth d == the depth to which a node at depth d jumps: by the same rule, since it goes by depths alone
+-- jumpDepth d == the depth to which a node at depth d jumps: by the same rule, which depends on depths alone
 --
 -- Both count down a number that is large enough; the equations without it are jump-root, jump-rule, jumpDepth-zero and
 -- jumpDepth-suc (proofs/JumpLaws), and nothing later looks at the count.

@@ -2,14 +2,14 @@
 --
 -- sub t v == the subtree rooted at node v (the tree itself for its root, number size t - 1)
 -- parent t v == the number of the node above v; the root's is the root
--- depth t v == how many nodes stand above v
+-- depth t v == the number of nodes above v
 -- ancestor t v n == the node n parents above v
 -- labelsDown t v n == the labels of the n nodes that end at v, from above down to v
 -- word t u v == the labels from u down to v, both included, where u is v or above it
 -- wordBelow t u v == the same without u's: the labels from below u down to v (document 02, S-9)
--- InSubtree t c v == node v stands in the subtree rooted at node c, c included; isInSubtree c z v == the same as a test, for a node c
---   whose subtree has z nodes: in post-order they are the run of z numbers that ends at c
--- AtOrBelow t u l == node l is u or stands below it: some number of parents above l is u
+-- InSubtree t c v == node v is in the subtree rooted at node c, c included; isInSubtree c z v == the same as a test,
+--   for a node c whose subtree has z nodes: in post-order they are the run of z numbers that ends at c
+-- AtOrBelow t u l == node l is u or below it: some number of parents above l is u
 --
 -- Out of range (v not below size t) the values mean nothing.
 use Prim.Native.Nat.{ℕ, zero, suc, _+_, _-_, _≤_, _<_}
@@ -19,7 +19,7 @@ use mathlib.Core.List.{List, [], _∷_, _++_}
 use lib.Dec.{leb, ltb, eqb}
 use Rattle.trees.specs.Tree.{Tree, leaf, node, size, labelAt}
 
--- by the place of node v in a tree whose left part has m nodes and whose right part has n:
+-- by where node v is in a tree whose left part has m nodes and whose right part has n:
 -- in the left part, in the right part as its node v - m, or the root
 unfoldable pub split : {X : Type 0} → ℕ → ℕ → ℕ → X → (ℕ → X) → X → X
 split m n v x f y = cond (ltb v m) x (cond (ltb v (m + n)) (f (v - m)) y)

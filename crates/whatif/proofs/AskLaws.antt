@@ -1,4 +1,4 @@
--- The turns of a question: what each answer of a call comes to.
+-- The iterations of a question: what follows from each answer of a call.
 --     more-iteration, finished-iteration, refused-iteration      an advance
 --     started-on, start-refused                   a Start
 use Prim.Native.Nat.{ℕ, suc}
@@ -17,7 +17,7 @@ use Rattle.session.specs.Promises.{CallDone, answerOn}
 use Rattle.whatif.specs.Asked.{afterAdvance, finishedIn, mostParts, afterStart, askedOn}
 
 module _ (f : ℕ) (s s′ : Session) (x : Inputs) (result : AdvanceAnswer) (done : CallDone s (advance x) (advanceAnswer result) s′) where
-  -- what the definition makes of the answer that was told
+  -- what the definition makes of the answer that was returned
   unfolded : finishedIn (suc f) s x ≡ afterAdvance (advanceAnswer result) (answerOn s′ read) (finishedIn f s′ x)
   unfolding finishedIn
   unfolded = rw (done .tells, done .leaves) refl

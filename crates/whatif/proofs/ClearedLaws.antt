@@ -1,8 +1,9 @@
--- The program's calls tell the definition's answer.
+-- The program's calls return the definition's answer.
 --     load-cleared        a fresh session that accepted a Load is cleared
 --     load-number         a refusal of its Load is that of the first check that fails
---     cleared-answer      on the session and the tables that an accepted Load left, what is told of a question is answerTo
--- From the theorem over every list of calls: each call is answered as the reference model says, and that of a clean question says this.
+--     cleared-answer      on the session and the tables that an accepted Load left, a question's answer is answerTo
+-- From the theorem over every list of calls: each call is answered as the reference model says, and that of a clean
+-- question says this.
 use Prim.Native.Nat.{ℕ, zero, suc, _+_, _≤_, _<_}
 use mathlib.Core.Path.{_≡_, refl, sym, ap, _∙_, subst}
 use mathlib.Core.Bool.{Bool, true, false, cond}
@@ -109,7 +110,7 @@ module _ (z : Sizes) (x : Inputs) (long : fits z x ≡ true) (asBuilt : nodeTabl
       ∙ ap (λ (b : Bool). cond b (goesOn (going z none q c tr) (at q (suc c) (longer z (at q c tr) x))) (advancingByRule (going z none q c tr) x (at q c tr)))
       (subst (λ (y : Inputs). sameInputs z y x ≡ true) (sym e) same)
 
-  -- a Read tells the fresh run's answer
+  -- a Read returns the fresh run's answer
   read-step : (q : Question) (c : ℕ) (tr : List Part) → step (over z q c tr) read ≡ settled (freshAnswer q) (over z q c tr)
   unfolding step decided phase proceed reading readingLast refusal firstNo freshAnswer
   read-step q c tr = refl

@@ -1,5 +1,5 @@
 -- What the program says, from the bytes that came.
---     le32-head          the stated lengths stand in the first twelve bytes
+--     le32-head          the stated lengths are in the first twelve bytes
 --     said-too-large     what is said to an input that is too large, by its lengths alone
 --     too-large-said, in-limits-said      what is said to the parts of one
 --     asked-none, asked-stated      how many bytes of the plan and the rules are asked for

@@ -1,7 +1,7 @@
 -- The buffer of a question that is not yet whole, and the lines of the questions that become so.
 --     held-empty      nothing is held at the start
 --     held-more       one more byte, kept if there is room
---     whole-answer      whether the question is whole is told by the buffer
+--     whole-answer      whether the question is whole can be read from the buffer
 --     list-kept       and so is the list of a whole question
 --     kept-line       the line of a whole question
 --     open-chunks, lines-chunks       one chunk after another

@@ -1,5 +1,6 @@
 -- The crate's theorems.
---     calls-tell      the calls that the program makes for a question tell the definition's answer, on what an accepted Load left
+--     calls-tell      the calls that the program makes for a question return the definition's answer, on what an
+--                     accepted Load left
 --     chunks-alike    the lines do not depend on how the input is cut into chunks
 --     said-of-parts   what the program says to an input is what it says to the parts that came of it
 --     said-of-whole   which, where all of it came, are what it is made of

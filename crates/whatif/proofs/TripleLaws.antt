@@ -1,5 +1,5 @@
--- Lists of three bytes each: what one turn, and the end, of the loops that take a list of changes apart keep.
---     ByThree f g    f takes a list apart three by three, and makes g of each three
+-- Lists of three bytes each: what one iteration, and the end, of the loops that split a list of changes keep.
+--     ByThree f g    f splits a list into threes, and makes g of each three
 --     nodes-by-three, labels-by-three
 --     nodes-count    how many nodes a list has
 --     taken-iteration     one more three taken: what is done and what is left to do make the whole

@@ -1,7 +1,7 @@
--- The questions from turn to turn.
---     Going f stated kept have left sent      where they stand: some bytes of them came, the buffer holds what is not yet
+-- The questions from iteration to iteration.
+--     Going f stated kept have left sent      their progress: some bytes of them came, the buffer holds what is not yet
 --                                             whole, and their lines were handed over
---     going-start, going-on, going-progress   at the start, after one more chunk, and what is told of it
+--     going-start, going-on, going-progress   at the start, after one more chunk, and what is promised of it
 --     lines-sent                              what is handed over for a chunk
 use Prim.Native.Nat.{ℕ, _+_, _-_, _*_, _≤_}
 use mathlib.Core.Path.{_≡_, refl, sym, ap, _∙_, subst}

@@ -1,8 +1,9 @@
--- A question put to a session: the calls that the program makes, and what they tell in the end.
+-- A question asked of a session: the calls that the program makes, and what they return in the end.
 --
--- finishedIn f s x == what the session s tells after it is advanced until finished, at most f times, on the inputs x, and read
--- askedOn s x vs bs == what it tells of the changes vs to bs: Start's refusal, or the above
--- mostParts == no question has more parts, so as many advances are enough
+-- finishedIn f s x == what the session s answers after it is advanced until finished, at most f times, on the inputs x,
+--   and read
+-- askedOn s x vs bs == what it answers to the changes vs to bs: Start's refusal, or the above
+-- mostParts == no question has more parts, so that number of advances is enough
 --
 -- By the promises of the session's calls (crate session, Promises). What they come to on tables as built is answerTo (Cleared).
 use Prim.Native.Nat.{ℕ, zero, suc}
@@ -12,7 +13,7 @@ use Rattle.model.specs.Calls.{Answer, refused, start, onRefused, onAdvance, adv
 use Rattle.session.specs.declared.state.Session.{Session}
 use Rattle.session.specs.Promises.{answerOn, recordOn}
 
--- after an advance that told a: r where it finished, m where there is more
+-- after an advance that answered a: r where it finished, m where there is more
 unfoldable pub afterAdvance : Answer → Answer → Answer → Answer
 afterAdvance a r m = onRefused refused (onAdvance m r m a) a
 
@@ -24,7 +25,7 @@ finishedIn (suc f) s x =
 abbrev pub mostParts : ℕ
 mostParts = 254
 
--- after a Start that told a: r where it is accepted
+-- after a Start that answered a: r where it is accepted
 unfoldable pub afterStart : Answer → Answer → Answer
 afterStart a r = onRefused refused r a
 

@@ -5,7 +5,7 @@
 --   over; W is the nodes whose label changes
 -- Cleared s x == the session s is the one that an accepted Load left, and x is what it was given, with the tables that it wrote
 --
--- That the program's calls tell this answer is proofs/Theorems.
+-- That the program's calls return this answer is proved in proofs/Theorems.
 use Prim.Native.Nat.{ℕ, zero, suc}
 use mathlib.Core.Path.{_≡_}
 use mathlib.Core.List.{List}

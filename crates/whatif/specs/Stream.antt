@@ -1,8 +1,8 @@
 -- The questions as their bytes come, in chunks of any length.
 --
 -- questionLine p r q == the line of a question q on the plan p and the rules r
--- keptList b, keptLine p r b == the list of changes that a buffer holds, or the first 65 of them, as many as it takes to refuse it; and its
---   line
+-- keptList b, keptLine p r b == the list of changes that a buffer holds, or the first 65 of them, which are enough to
+--   refuse it; and its line
 -- isWhole q == whether q is all of a question
 -- openAfter q b, openBy q c == what is there of the question that is not yet whole: q, and then one more byte b or a chunk c
 -- lineAfter f q b, linesBy f q c == the lines that the byte or the chunk completes, f the line of a question

@@ -1,20 +1,20 @@
 -- What the program's reads and writes come to, from the first length byte to the last question.
 --
 -- Came w h p r == of the input w these bytes came: h the lengths, p the plan, r the rules
--- Answered h p r came sent == `sent` bytes were handed to the system, as many as are said to these parts of an input (h the
---   lengths, p the plan, r the rules) and `came` bytes of questions; no more came of any than is stated
--- AskedFor h n m == n bytes of the plan and m of the rules were asked for: as many as the lengths h state, none where they
---   are too large
+-- Answered h p r came sent == `sent` bytes were handed to the system, the length of what is said to these parts of an
+--   input (h the lengths, p the plan, r the rules) and `came` bytes of questions; no more came of any than is stated
+-- AskedFor h n m == n bytes of the plan and m of the rules were asked for: the numbers that the lengths h state, none
+--   where they are too large
 -- AnsweredOn p r came sent == as Answered, after the lengths
 -- Progress f came have sent == `came` bytes of the questions came, of which `have` are of the one that is not yet whole, and
 --   the lines of the others, f the line of a question, are `sent` bytes
--- Lines f c kept had kept′ have t == whatever question the buffer kept held: t are the lines that the chunk c completes
---   after it, and the buffer kept′ holds the question that is not yet whole then
+-- Lines f c kept had kept′ have t == for any question that the buffer kept held: t are the lines that the chunk c
+--   completes after it, and the buffer kept′ holds the question that is not yet whole then
 -- joined cs, linesOver f q cs == chunks as one list, and their lines, one chunk after another
 --
 -- A contract can't name what a system call reads or writes. What came is what the buffers hold after the read; what is
--- written meets the `requires` of the functions that write (src/send.rt). The bytes of earlier chunks are gone when the next
--- one comes: the contracts above one turn know that they were there, and their number.
+-- written meets the `requires` of the functions that write (src/send.rt). The bytes of earlier chunks are gone when the
+-- next one comes: the contracts above one iteration know that they were there, and their number.
 use Prim.Native.Nat.{ℕ, _≤_}
 use mathlib.Core.Path.{_≡_}
 use mathlib.Core.Bool.{cond}

@@ -1,4 +1,4 @@
-// A question put to the session: Start, advances until finished, Read.
+// A question asked of the session: Start, advances until finished, Read.
 use session::answers::AdvanceAnswer;
 use session::answers::ReadAnswer;
 use session::answers::StartAnswer;

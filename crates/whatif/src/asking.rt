@@ -14,9 +14,9 @@ ghost use Rattle.whatif.specs.Cleared.{Cleared};
 ghost use Rattle.whatif.specs.Stream.{questionLine, Keeps, Advances};
 ghost use Rattle.whatif.specs.Turns.{Progress};
 
-// Where the questions stand after a read: how many bytes came with it, how many the lines that they completed have, how many
-// came of the question that is not yet whole, how many are still to come, how many were handed to the system in all, and
-// whether the last were written.
+// The progress of the questions after a read: how many bytes came with it, how many the lines that they completed have,
+// how many came of the question that is not yet whole, how many are still to come, how many were handed to the system
+// in all, and whether the last were written.
 pub struct Turn {
     pub came: usize,
     pub end: usize,
@@ -88,7 +88,7 @@ fn some_questions(
     }
 }
 
-// The questions, as many bytes as are stated or come, until a write fails.
+// Answers the questions until the stated bytes are read, no more come, or a write fails.
 pub fn put_questions(
     loaded: Session,
     plan: &[u8],

@@ -2,7 +2,7 @@
 // writes is `said` of what it reads (specs/Said.antt).
 //     input      the three lengths, and the space for what they announce
 //     question   the bytes of a question, and its list of changes
-//     ask        a question put to the session
+//     ask        a question asked of the session
 //     text       words and numbers appended to a buffer
 //     line       the line of an answer
 //     chunk      the lines of the questions that a chunk of the input completes

@@ -1,6 +1,6 @@
 // The bytes of a question: a 16-bit m, and m times a 16-bit node and an 8-bit label.
 //
-// Of a question with more changes than may be listed, the first 65 are kept: as many as Start needs to refuse it.
+// Of a question with more changes than may be listed, the first 65 are kept: enough for Start to refuse it.
 use crate::input::byte_at;
 ghost use mathlib.Core.Path.{_≡_};
 ghost use Prim.Native.Nat.{_+_, _*_, _/_, _≤_, _<_, min};

@@ -24,7 +24,7 @@ pub fn send_too_large(head: &[u8], text: &[u8]) -> usize
     text.len()
 }
 
-// All that is said where Load refuses, whatever questions come: "that refusal only". Tells the text's length.
+// All that is said where Load refuses, for any questions: "that refusal only". Returns the text's length.
 pub fn send_refusal(plan: &[u8], rules: &[u8], text: &[u8]) -> usize
     requires { ⌜ ((qs : List ℕ) → saidOn (now plan) (now rules) qs ≡ now text) ⌝ }
     ensures { λ r. ⌜ r ≡ length (now (text .entry)) ⌝ }

@@ -1,12 +1,12 @@
--- What the loops over a branch table's bytes are lent, and what they leave.
+-- The inputs of the loops over a branch table's bytes, and what the loops leave.
 --
 -- BranchGiven B t ls nodeTable st s k n == the tree t of n nodes has the labels ls and the links nodeTable; the automaton B of s
 --   states and k labels has the steps st
--- BranchArgs .. m == some tree and automaton are so lent, within the limits, with labels below k, states below s and
+-- BranchArgs .. m == some tree and automaton are so given, within the limits, with labels below k, states below s and
 --   m bytes of room
 -- StatesFrom s f n i before after == the state bytes of the nodes i, .. n - 1 are f's, and no byte but the n state
 --   bytes is changed
--- Stepped .. == those of the automaton on the words from the root, for every tree and automaton so lent
+-- Stepped .. == those of the automaton on the words from the root, for every tree and automaton so given
 use Prim.Native.Nat.{ℕ, _+_, _*_, _≤_, _<_}
 use mathlib.Core.Path.{_≡_}
 use mathlib.Core.List.{List}

@@ -1,9 +1,9 @@
--- What the comparisons of a lent table with a branch table's build tell.
+-- What the comparisons of the caller's table with a branch table's build return.
 --
--- StepsTested .. r == r tells whether the state bytes are the automaton's, for every tree and automaton so lent
+-- StepsTested .. r == r is whether the state bytes are the automaton's, for every tree and automaton so given
 -- MapsTested .. r == the same of the maps
--- TablesTested .. r == r tells whether both buffers begin with the tables of the tree of these labels and kinds,
---   whatever the marks are
+-- TablesTested .. r == r is whether both buffers begin with the tables of the tree of these labels and kinds, for any
+--   marks
 use Prim.Native.Nat.{ℕ}
 use mathlib.Core.Path.{_≡_}
 use mathlib.Core.Bool.{Bool}

@@ -2,8 +2,7 @@
 --
 -- FillArgs ls ks st s k n l m == labels and kinds of a tree of n nodes, steps of s states and k labels, within the
 --   limits; room for the tables in buffers of l numbers and m bytes
--- BranchFilled .. == the two tables and the excess as it was, for the tree of these kinds and labels, whatever the
---   marks are
+-- BranchFilled .. == the two tables and the excess as it was, for the tree of these kinds and labels and any marks
 -- PartArgs p r n s k l m == plan and branch table pass 2 to 11 for buffers of l numbers and m bytes; n, s and k are
 --   their N, S and K, with the lengths that follow, for the parts handed on
 -- BranchWritten p r nodeTable bytes nodeTable′ bytes′ == both buffers begin with the tables built from p and r, and their

@@ -2,9 +2,9 @@
 --
 -- firstOf reading s k ls st u == firstState on runs
 -- numbered s r == the state that the number r names, none where it is no state of s
--- toldOf mk a == what is told of the end a of a climb, with the marks mk; StateIn n a == its state is below n
+-- toldOf mk a == the answer for the end a of a climb, with the marks mk; StateIn n a == its state is below n
 -- FirstArgs .. == what the first state reads is inside its runs
--- AnswerArgs p r nodeTable bytes u l == what the lent headers and lengths say where 17 and 13 pass
+-- AnswerArgs p r nodeTable bytes u l == what the given headers and lengths say where 17 and 13 pass
 use Prim.Native.Nat.{ℕ, _+_, _*_, _≤_, _<_}
 use mathlib.Core.Path.{_≡_}
 use mathlib.Core.Bool.{true, cond, _&&_}

@@ -4,7 +4,7 @@
 -- nodeMap .. v q == node v's map at q: a step by its own label where its jump is its parent; else the map of the
 --   parent's jump, the parent's map, and then that step, since a word is read from above
 -- StepRowArgs, NodeArgs == what writing or comparing one map needs
--- Mapped .. == the maps of the nodes i, .. n - 1 are the automaton's, for every tree and automaton so lent
+-- Mapped .. == the maps of the nodes i, .. n - 1 are the automaton's, for every tree and automaton so given
 use Prim.Native.Nat.{ℕ, _+_, _*_, _≤_, _<_}
 use mathlib.Core.Path.{_≡_}
 use mathlib.Core.Bool.{cond}

@@ -1,13 +1,18 @@
 -- The tables layer's main theorems by name, each cited from where it is proved.
---     plans              plans decode to exactly one tree exactly when 2 to 5 pass; N 1 is accepted with 14 bytes, N 2 gets 5
---     builds, branch-builds   what a build that answers 0 leaves in the buffers is "as built", whatever they were, longer ones too
---     full-checks        yes exactly when the lent tables are what the build writes: local equations leave one table only
---     climbs             a climb carries what the walk by parents does, for any value (where it ends, its moves: claims/proofs/ProvedToo)
+--     plans              plans decode to exactly one tree exactly when 2 to 5 pass; N 1 is accepted with 14 bytes, N 2
+--                        gets 5
+--     builds, branch-builds   what a build that answers 0 leaves in the buffers is as built, for any contents before,
+--                             longer buffers too
+--     full-checks        yes exactly when the tables passed in are what the build writes: local equations leave one
+--                        table only
+--     climbs             a climb carries what the walk by parents does, for any value (where it ends, its moves:
+--                        claims/proofs/ProvedToo)
 --     branch-answers     on tables as built a branch answer is the word automaton's, in each reading on its own word
---     two-words, empty-word   the two words differ by the upper node's label; the same node twice, from below it: state 0, its mark, no links,
---                             no node passed over
---     branch-in-range   18 only where a value leads outside the plan, the states or the labels, or a link does not rise
---     each-state         each node's state in source document 002's run is that of its subtree; the fresh run tells the root's (its contract)
+--     two-words, empty-word   the two words differ by the upper node's label; the same node twice, from below it: state
+--                             0, its mark, no links, no node passed over
+--     branch-in-range   18 only where a value is outside the plan, the states or the labels, or a link does not rise
+--     each-state         each node's state in source document 002's run is that of its subtree; the fresh run returns
+--                        the root's (its contract)
 --     jump-samples, climb-samples         jumps of depths 1 to 7; climbs from depth 6 to 1 and to 0
 -- The promises of the calls themselves, on every input, are the contracts in src/ (this crate's and those below).
 use Prim.Native.Nat.{ℕ, _+_, _-_, _≤_, _<_}
@@ -62,7 +67,7 @@ one-node = plan-theorems.one-node
 two-nodes : (p : List ℕ) → length p ≡ 16 → nodeCount p ≡ 2 → le32 p 4 ≡ 12 → le32 p 8 ≡ 14 → firstNo (planChecks p) ≡ 5
 two-nodes = plan-theorems.two-nodes
 
--- whatever the buffers were: what a build that answers 0 leaves in them
+-- for any contents of the buffers: what a build that answers 0 leaves in them
 builds : (p r nodeTable stateTable nodeTable′ stateTable′ : List ℕ) (a : Building)
     → BuildDone (firstNo (buildChecks p r (length nodeTable) (length stateTable))) (builtNodeTable p) (builtStateTable p r) nodeTable stateTable
     a nodeTable′ stateTable′

@@ -4,13 +4,15 @@
 --     branch-build-tied, branch-check-tied, branch-tied   the contracts are BuildExported and CheckExported, of the
 --                         checks 2 to 11 and the tables of the definitions, and AskExported from below the upper node
 --     branch-build-number, branch-check-number   the first check of 2 to 11 that fails
---     branch-build-kept, branch-check-kept       refused: both buffers, or the place, are as they were
---     branch-build-as-built   accepted: both buffers are as built, whatever their excess is
---     branch-check-exactly    accepted with yes exactly where the lent tables are what the build writes
+--     branch-build-kept, branch-check-kept       refused: both buffers, or the output parameter, are unchanged
+--     branch-build-as-built   accepted: both buffers are as built, for any excess
+--     branch-check-exactly    accepted with yes exactly where the tables passed in are what the build writes
 -- and for either reading of the question, so of `whatif_branch_with_upper` too:
---     branch-number, branch-kept    the first check of 17, 13, 16, 18 that fails; refused: the four places are as they were
---     branch-told, branch-apart     on tables as built: the word automaton's state and mark, the links of the climb from
---                         the lower node to the upper's depth, the nodes passed over; 16 where it is not at or below
+--     branch-number, branch-kept    the first check of 17, 13, 16, 18 that fails; refused: the four output parameters
+--                         are unchanged
+--     branch-told, branch-apart     on tables as built: the word automaton's state and mark, the links of the climb
+--                         from the lower node to the upper's depth, the nodes passed over; 16 where it is not at or
+--                         below
 use Prim.Native.Nat.{ℕ, zero, suc, _-_, _<_}
 use mathlib.Core.Path.{_≡_, refl, sym, ap, _∙_, subst}
 use mathlib.Core.Bool.{Bool, true, false}

@@ -1,5 +1,5 @@
 -- The ways out of `whatif_count`.
---     header-there, copy-args    what an accepted reply's rest asks
+--     header-there, copy-args    what the code after an accepted reply requires
 --     refused-exported, short-exported, counted-exported   one for each way out
 use Prim.Native.Nat.{ℕ, _+_, _≤_, _<_}
 use mathlib.Core.Path.{_≡_, refl, sym, ap, _∙_, subst}

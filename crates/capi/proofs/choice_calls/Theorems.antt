@@ -1,4 +1,4 @@
--- How many choices clear the plan, as C and Rust are told it (document 02, S-10), from the promise of `whatif_count`.
+-- How many choices clear the plan, as C and Rust receive it (document 02, S-10), from the promise of `whatif_count`.
 --     count-tried       "On tables as the build wrote them from the plan and rules lent, the counts are those of the
 --                       definition by trying all"
 --     count-sum         "and their sum is K to the power m"

@@ -2,9 +2,9 @@
 -- the theorems take (`CountExported`). A contract that promises less is refused here.
 --     count-tied      the contract is CountExported
 --     count-number    the first check that fails: 17, 12, 13, 15, 26, 18, then 11
---     count-kept      refused: the buffer and both places are as they were
---     count-promised    the named result that is told has the by-value promise (`CountDone`): its cause of 18, its
---                       properties on whatever is lent
+--     count-kept      refused: the buffer and both output parameters are unchanged
+--     count-promised    the named result that is returned has the by-value promise (`CountDone`): its cause of 18, its
+--                       properties for any inputs
 --     count-none-open   accepted with no open node, on tables as built: one part, no links, the run's own state has
 --                       count 1
 use Prim.Native.Nat.{ℕ, _+_, _-_, _<_}

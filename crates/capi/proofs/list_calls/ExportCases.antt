@@ -1,5 +1,5 @@
 -- The ways out of `whatif_lay_over`.
---     accepted-is, count-most, nodes-args, labels-args   what an accepted reply holds, and what its copies ask
+--     accepted-is, count-most, nodes-args, labels-args   what an accepted reply holds, and what its copies require
 --     refused-exported, nodes-short, labels-short, laid-exported   one for each way out
 use Prim.Native.Nat.{ℕ, _≤_, _<_}
 use mathlib.Core.Path.{_≡_, refl, sym, ap, ap₂, _∙_, subst}

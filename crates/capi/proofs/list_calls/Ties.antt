@@ -1,7 +1,8 @@
--- What the contract of the exported call claims, as the prover itself reads it off the source (`Reads.Post`), is what the laws below take.
+-- What the contract of the exported call claims, as the prover itself reads it off the source (`Reads.Post`), is what
+-- the laws below take.
 --     lay-tied           the contract is LayExported
 --     told-lists         an accepted call hands back the laid list: the first `count` nodes and labels
---     refused-keeps      a refused one leaves both buffers and the count
+--     refused-keeps      a refused one leaves both buffers and the count unchanged
 --     told-associative   "laying over is associative", of what four accepted calls hand back
 use Prim.Native.Nat.{ℕ}
 use mathlib.Core.Path.{_≡_, refl, sym, ap, ap₂, _∙_, subst}

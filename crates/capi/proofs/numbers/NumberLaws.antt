@@ -1,4 +1,4 @@
--- A build's or a full check's answer of a known case, told as its number and values.
+-- A build's or a full check's answer in a known case, as its number and values.
 use Prim.Native.Nat.{ℕ}
 use mathlib.Core.Path.{_≡_, sym, ap}
 use Rattle.tables.specs.declared.answers.Building.{Building}

@@ -1,7 +1,7 @@
 -- The lines of a reply, written out.
 --     line-written                     four numbers, one behind the other
 --     LinesLoop                        the invariant of put_lines: i lines are written
---     lines-start, lines-call, lines-next, lines-done    its start, what a line asks, one line more, its end
+--     lines-start, lines-call, lines-next, lines-done    its start, what a line requires, one line more, its end
 use Prim.Native.Nat.{ℕ, suc, _+_, _*_, _≤_, _<_}
 use mathlib.Core.Path.{_≡_, refl, sym, ap, ap₂, _∙_, subst}
 use mathlib.Core.List.{List, [], _∷_, _++_}

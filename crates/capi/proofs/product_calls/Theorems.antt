@@ -1,5 +1,6 @@
 -- What the exported functions mean (document 02, S-6 and S-13), each by citing what is below.
---     merge-clears       accepted, the bytes at the front of the output are a rule table that clears exactly the plans that both clear
+--     merge-clears       accepted, the bytes at the front of the output are a rule table that clears exactly the plans
+--                        that both clear
 --     agree-exactly      accepted, 1 is replied exactly where every plan gets the same answer from both tables
 --     agree-separates    accepted with lines, they are a separating plan of at most 256 lines, of least height
 --     agree-untouched    where 1 is replied the lines are as they were

@@ -3,9 +3,9 @@
 -- refused here.
 --     merge-tied, agree-tied    the contracts are MergeExported and AgreeExported
 --     merge-number              the first check that fails: 6 to 9 of the first, 6 to 9 of the second, 23, 24, 11
---     agree-number              the first check that fails: 6 to 9 of the first, 6 to 9 of the second, 23, then 11 where
---                               the lines do not fit (agreeRoomChecks)
---     merge-kept, agree-kept    refused: every buffer and place is as it was
+--     agree-number              the first check that fails: 6 to 9 of the first, 6 to 9 of the second, 23, then 11
+--                               where the lines do not fit (agreeRoomChecks)
+--     merge-kept, agree-kept    refused: every buffer and output parameter is unchanged
 use Prim.Native.Nat.{ℕ, _*_}
 use mathlib.Core.Path.{_≡_, refl, sym, ap, _∙_}
 use mathlib.Core.Bool.{Bool, true, false, cond}

@@ -1,10 +1,10 @@
--- Build, full check and fresh run as C and Rust are answered them, from the promises of the exported functions.
---     build-number, build-as-built, build-kept   the first check of 2 to 11 that fails; accepted, both buffers are as built,
---                            whatever their excess is; refused, they are as they were
---     check-number, check-exactly, check-kept   the first check of 2 to 11 that fails; accepted with yes exactly where the
---                            lent tables are what the build writes; refused, the place is as it was
+-- What build, full check and fresh run answer C and Rust, from the promises of the exported functions.
+--     build-number, build-as-built, build-kept   the first check of 2 to 11 that fails; accepted, both buffers are as
+--                            built, for any excess; refused, they are unchanged
+--     check-number, check-exactly, check-kept   the first check of 2 to 11 that fails; accepted with yes exactly where
+--                            the tables passed in are what the build writes; refused, the output parameter is unchanged
 --     run-number, run-answers, run-kept   the first check of 2 to 10 and 12 to 14 that fails; accepted, source document
---                            002's run of the changed plan; refused, the places are as they were
+--                            002's run of the changed plan; refused, the output parameters are unchanged
 use Prim.Native.Nat.{ℕ, zero, suc}
 use mathlib.Core.Path.{_≡_, refl, sym, ap, _∙_}
 use mathlib.Core.Bool.{Bool, true, false}

@@ -52,7 +52,7 @@ pub run-tied : (κs : Lfts 6) (a : ArgsD run-fn.signature κs) (r : ResD run-fn.
     (now (a .1 .1 .1 .1 .1 .0)) (now (s .1 .1 .1 .1 .0)) (now (s .1 .1 .1 .1 .1 .0))
 run-tied κs a r s p = p
 
--- nothing is lent, and nothing refused
+-- it takes no arguments, and refuses nothing
 pub version-tied : (κs : Lfts 0) (a : ArgsD version-fn.signature κs) (r : ResD version-fn.signature κs)
     (s : AtExit (endedOf 0 version-kinds.ps version-kinds.r) κs) → version-reads.Post κs a r s
     → r ≡ versionNumber

@@ -1,7 +1,9 @@
--- What the exported branch question promises: the promise of the call below for its answer, and that answer's number and values.
+-- What the exported branch question promises: the promise of the call below for its answer, and that answer's number
+-- and values.
 --
--- endOf a old, acceptedOf a old, linksOf a old, passedOf a old == what a place holds afterwards: the answer's value, or what it held where it is refused
--- AskNumber == an answer told as a number and values
+-- endOf a old, acceptedOf a old, linksOf a old, passedOf a old == an output parameter afterwards: the answer's value,
+--   or old where the call is refused
+-- AskNumber == an answer as a number and values
 -- AskExported reading .. == the promise of the exported function of that reading
 use Prim.Native.Nat.{ℕ}
 use mathlib.Core.Path.{_≡_}

@@ -1,10 +1,9 @@
 -- What the exported function promises (document 02, S-10).
 --
--- exportedChecks .. room == the checks of a count, then 11: whether a buffer of that many numbers has one for each
---   state
+-- exportedChecks .. room == the checks of a count, then 11: whether a buffer of room numbers has one for each state
 -- CountExported .. == the promise of whatif_count: its number, and counts, parts and links afterwards
 --
--- In C a counts buffer shorter than S gets 11: it is asked last, so no number of the count is hidden by it.
+-- In C a counts buffer shorter than S gets 11: it is checked last, so it hides no number of the count.
 use Prim.Native.Nat.{ℕ}
 use mathlib.Core.Path.{_≡_}
 use mathlib.Core.List.{List, [], _∷_, _++_}
@@ -20,7 +19,7 @@ unfoldable pub exportedChecks : List ℕ → List ℕ → List ℕ → List ℕ 
 exportedChecks p r nodeTable stateTable vs room =
     countChecks p r nodeTable stateTable vs ++ (check 11 (leb (stateCount r) room) ∷ [])
 
--- `countResult`, what the count tells on whatever is lent, and what it is on tables as built: choices/specs/Promise
+-- `countResult`, what the count returns for any inputs, and what it is on tables as built: choices/specs/Promise
 pub record CountExported (p r nodeTable stateTable vs counts : List ℕ) (parts links n : ℕ) (counts′ : List ℕ)
     (parts′ links′ : ℕ) : Type 0 where
   -- the first check that fails, or 0

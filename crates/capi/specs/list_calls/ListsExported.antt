@@ -1,9 +1,10 @@
 -- What the exported function promises (document 02, S-4).
 --
--- exportedChecks .. nodes labels == the checks of laying over, then 11: whether the buffers of that many nodes and labels are long enough
+-- exportedChecks .. nodes labels == the checks of laying over, then 11: whether the two buffers, of those lengths, are
+--   long enough
 -- LayExported .. == the promise of whatif_lay_over: its number, and nodes, labels and count afterwards
 --
--- "11 after 22": it is asked last, so no number of laying over is hidden by it.
+-- 11 is checked last, after 22, so it hides no number of laying over.
 use Prim.Native.Nat.{ℕ}
 use mathlib.Core.Path.{_≡_}
 use mathlib.Core.Bool.{_&&_}

@@ -1,9 +1,10 @@
--- Answers as numbers: a yes or no, and what an exported build and full check promise: the promise of the call below for its answer,
--- and that answer's number and values.
+-- Answers as numbers: a yes or no, and what an exported build and full check promise: the promise of the call below for
+-- its answer, and that answer's number and values.
 --
 -- bitOf b == 1 for yes, 0 for no
--- yesOf a old == what the place of a full check's yes holds afterwards: the answer's value, or what it held where it is refused
--- BuildNumber, CheckNumber == an answer told as a number and values
+-- yesOf a old == the output parameter of a full check's yes afterwards: the answer's value, or old where the call is
+--   refused
+-- BuildNumber, CheckNumber == an answer as a number and values
 -- BuildExported, CheckExported == the promises of the exported functions
 use Prim.Native.Nat.{ℕ}
 use mathlib.Core.Path.{_≡_}

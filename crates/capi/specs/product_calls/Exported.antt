@@ -7,7 +7,7 @@
 -- agreeNumber r room == the number of whatif_agree: the reply's, or 11 where the lines do not fit in `room` numbers
 -- AgreeExported .. == the promise of whatif_agree: its number, and lines, `agreed` and count afterwards
 --
--- "11 only where the lines do not fit": it is decided after the search, so no number of the checks is hidden by it.
+-- 11 is given only where the lines do not fit: it is decided after the search, so it hides no number of the checks.
 use Prim.Native.Nat.{ℕ, _+_, _*_, _≤_}
 use mathlib.Core.Path.{_≡_}
 use mathlib.Core.Bool.{Bool, cond}
@@ -31,7 +31,7 @@ pub record MergeExported (first second out : List ℕ) (r : ℕ) (out′ : List 
   -- refused: nothing is written
   pub refused : (r ≡ 0 → ⊥) → out′ ≡ out
 
--- "four numbers each: 0 leaf or 1 inner, label, left line, right line (both 0 for a leaf)"
+-- four numbers each: 0 leaf or 1 inner, label, left line, right line (both 0 for a leaf)
 abbrev pub lineRow : List ℕ → List ℕ → List ℕ → List ℕ → ℕ → List ℕ
 lineRow ks bs ls rs i = getD ks i 0 ∷ getD bs i 0 ∷ getD ls i 0 ∷ getD rs i 0 ∷ []
 
@@ -58,7 +58,7 @@ pub record AgreeExported (first second lines : List ℕ) (agreed count r : ℕ) 
   pub agreed-kept : (r ≡ 0 → ⊥) → agreed′ ≡ agreed
   pub count-kept : (r ≡ 0 → ⊥) → count′ ≡ count
 
--- ---- what the parts ask
+-- ---- what the functions that write the lines require
 
 pub record LineArgs (at : ℕ) (l : List ℕ) : Type 0 where
   pub inside : at + 4 ≤ length l

@@ -1,7 +1,8 @@
--- What the exported fresh run promises: the promise of the call below for its answer, and that answer's number and values.
+-- What the exported fresh run promises: the promise of the call below for its answer, and that answer's number and
+-- values.
 --
--- stateOf a old, markedOf a old == what a place holds afterwards: the answer's value, or what it held where it is refused
--- RunNumber == an answer told as a number and values
+-- stateOf a old, markedOf a old == an output parameter afterwards: the answer's value, or old where the call is refused
+-- RunNumber == an answer as a number and values
 -- RunExported == the promise of the exported function
 use Prim.Native.Nat.{ℕ}
 use mathlib.Core.Path.{_≡_}

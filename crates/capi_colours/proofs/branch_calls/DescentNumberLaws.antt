@@ -9,7 +9,7 @@ use Rattle.capi.specs.numbers.Numbers.{bitOf}
 use Rattle.capi_colours.specs.branch_calls.DescentExported.{DescentNumber, endOf, acceptedOf, dropsOf, linksOf}
 
 module _ (a : Descending) (q₀ y₀ d₀ l₀ : ℕ) where
-  -- what the places hold where the answer is b and they hold what is b's
+  -- where the answer is b, the number and the outputs are b's
   of-answer : (b : Descending) → a ≡ b
       → DescentNumber a q₀ y₀ d₀ l₀ (descendingNumber b) (endOf b q₀) (acceptedOf b y₀) (dropsOf b d₀) (linksOf b l₀)
   of-answer b e = record {

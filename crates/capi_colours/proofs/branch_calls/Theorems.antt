@@ -1,16 +1,15 @@
--- Branch questions by colours as C and Rust are answered them (document 02, S-14), from the promises of the exported
--- functions.
+-- Branch questions by colours as C and Rust call them (document 02, S-14), from the promises of the exported functions.
 --     branch-build-writes    what a build that answers 0 leaves is the definition's, number for number and byte for
 --                            byte, and behind it what was there
---     branch-build-coloured  so the buffers are as built, whatever their excess is
+--     branch-build-coloured  so the buffers are as built, with any excess
 --     branch-build-refused   a build that answers another number leaves both as they were
 --     branch-descent-answers on tables as built: the word automaton's state and mark, for either reading; the drops
 --                            are the places on the path where the colour falls, at most S - 1, the links at most 45
 --                            for each
 --     branch-descent-apart   16 where the lower node is not at or below the upper
 --     branch-descent-usable, branch-descent-built  18 never comes where the numbers are as built, the states below S
---                            and state 0 in each copy; so on tables as built, whatever the two nodes' numbers are
---     branch-descent-kept    refused: the places are as they were
+--                            and state 0 in each copy; so on tables as built, for any two node numbers
+--     branch-descent-kept    refused: the outputs are unchanged
 use Prim.Native.Nat.{ℕ, _-_, _*_, _≤_, _<_}
 use mathlib.Core.Path.{_≡_, refl, sym, ap, _∙_}
 use mathlib.Core.List.{List, _++_}

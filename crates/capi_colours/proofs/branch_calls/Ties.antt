@@ -6,7 +6,7 @@
 --     colour-branch-build-number, colour-branch-build-kept   the first check that fails; refused: both buffers are as
 --                                 they were
 --     colour-branch-number, colour-branch-kept   for either reading: the first check of 17, 13, 16, 18 that fails;
---                                 refused: the four places are as they were
+--                                 refused: the four outputs are unchanged
 use Prim.Native.Nat.{ℕ}
 use mathlib.Core.Path.{_≡_, _∙_}
 use mathlib.Core.List.{List}

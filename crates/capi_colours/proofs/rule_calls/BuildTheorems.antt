@@ -3,7 +3,7 @@
 --     rule-build-number      the first check that fails: 2 to 9, 27, 10, 11
 --     rule-build-writes      what a build that answers 0 leaves is the definition's, number for number and byte for
 --                            byte, and behind it what was there
---     rule-build-coloured    so the buffers are as built, whatever their excess is
+--     rule-build-coloured    so the buffers are as built, with any excess
 --     rule-build-refused     a build that answers another number leaves both as they were
 use Prim.Native.Nat.{ℕ}
 use mathlib.Core.Path.{_≡_, sym, _∙_}

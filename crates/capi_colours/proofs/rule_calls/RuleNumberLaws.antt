@@ -9,7 +9,7 @@ use Rattle.capi.specs.numbers.Numbers.{bitOf}
 use Rattle.capi_colours.specs.rule_calls.RuleExported.{RuleNumber, endOf, acceptedOf, dropsOf, linksOf, partsOf}
 
 module _ (a : RuleDescending) (q₀ y₀ d₀ l₀ p₀ : ℕ) where
-  -- what the places hold where the answer is b and they hold what is b's
+  -- where the answer is b, the number and the outputs are b's
   of-answer : (b : RuleDescending) → a ≡ b
       → RuleNumber a q₀ y₀ d₀ l₀ p₀ (ruleDescendingNumber b) (endOf b q₀) (acceptedOf b y₀) (dropsOf b d₀)
       (linksOf b l₀) (partsOf b p₀)

@@ -1,10 +1,9 @@
--- Rule questions by colours as C and Rust are answered them (document 02, S-14), from the promise of the exported
--- function.
+-- Rule questions by colours as C and Rust call them (document 02, S-14), from the promise of the exported function.
 --     rule-descent-answers   on tables as built and a list that passes 12 to 14: the fresh run's state and mark of the
 --                            changed plan, the session's parts, at most 60 drops for each part with members below one
 --                            child only, at most 45 links for each drop
---     rule-descent-built     18 never comes on tables as built, whatever the list is
---     rule-descent-kept      refused: the places are as they were
+--     rule-descent-built     18 never comes on tables as built, for any list
+--     rule-descent-kept      refused: the outputs are unchanged
 use Prim.Native.Nat.{ℕ, _*_, _≤_}
 use mathlib.Core.Path.{_≡_, refl, sym, ap, _∙_}
 use mathlib.Core.Bool.{Bool, true, false}

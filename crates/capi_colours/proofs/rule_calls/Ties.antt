@@ -6,7 +6,7 @@
 --     colour-ask-tied      the contract is RuleExported
 --     colour-build-number, colour-build-kept   the first check that fails; refused: both buffers are as they were
 --     colour-ask-number, colour-ask-kept   the first check of 17, 27, 12, 13, 14, 18 that fails; refused: the five
---                          places are as they were
+--                          outputs are unchanged
 use Prim.Native.Nat.{ℕ}
 use mathlib.Core.Path.{_≡_, _∙_}
 use mathlib.Core.List.{List}

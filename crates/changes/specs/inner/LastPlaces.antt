@@ -1,8 +1,8 @@
 -- A list's last places: one for all nodes with the same remainder by 256, so that a node whose own place it is has no
 -- later entry.
 --
--- LastPlaces n vs last == `last` has a place for every remainder, and none of the first n nodes of vs stands behind the
---   one of its remainder
+-- LastPlaces n vs last == `last` has a place for every remainder, and none of the first n nodes of vs is behind the one
+--   of its remainder
 -- PlaceArgs vs last i == so it is for the whole list, of at most 64, and place i is inside
 use Prim.Native.Nat.{ℕ, _%_, _≤_, _<_}
 use mathlib.Core.Path.{_≡_}

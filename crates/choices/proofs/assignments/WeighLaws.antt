@@ -1,4 +1,4 @@
--- The laws of weights: they go by the letters of their own nodes, and they are linear.
+-- The laws of weights: they depend on the letters of their own nodes only, and they are linear.
 --     weighed-same       letters that agree on the nodes of a tree weigh it alike
 --     weighed-sum        a sum of weights is weighed term by term
 --     weighed-times      so is a multiple

@@ -25,7 +25,7 @@ use Rattle.choices.proofs.node_counts.PourLoop.{added-count, added-kept
 use Rattle.choices.specs.declared.part_steps.carry.Carried.{Carried}
 use Rattle.choices.specs.part_steps.Carry.{stateIn, linksIn, isReached, arrivesAt, allArrive, CarryArgs, CarriedUp}
 
--- what a climb told
+-- what a climb returned
 told-some : (o : Option Reached) (x : Reached) → To x ≡ climbedOf o → o ≡ some x
 unfolding climbedOf
 told-some none x e = absurd (let z : _≡_ {A = ℕ} 0 1 = cc in omega arith)

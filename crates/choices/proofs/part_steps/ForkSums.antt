@@ -1,5 +1,5 @@
--- The counts of an inner node in the four kinds of part: the sums of choices/assignments' `innerCount`, in the lent
--- buffers' terms.
+-- The counts of an inner node in the four kinds of part: the sums of choices/assignments' `innerCount`, in terms of the
+-- caller's buffers.
 --     fork-both            roots below both children: the sum over both states of the products
 --     fork-left, fork-right   below one child only: each count at the state that its climb ends in
 --     fork-none            below none: the run's states

@@ -1,7 +1,7 @@
 -- The whole count on tables as built.
 --     givenBuilt       what the rule reads there: the plan's tree, the rules' automaton, the plan's own labels, the
---                      lent bytes
---     built-reads, built-run   what is lent is so, and these bytes are the run's
+--                      given bytes
+--     built-reads, built-run   the inputs are so, and these bytes are the run's
 --     built-fits       the list is one that has roots
 --     built-counts     the counts are those of the definition by trying all: nothing is cut off
 --     built-sum        their sum is K to the power m

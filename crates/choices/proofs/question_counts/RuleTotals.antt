@@ -1,8 +1,8 @@
 -- On bytes below S, too, the counts of the root add up to K to the power m, so that none is cut off.
---     total-parts    the counts of a part add up to what they would be with a single state, whatever run states and
---                    maps hold: its total goes by the labels alone
+--     total-parts    the counts of a part add up to what they would be with a single state, for any run states and
+--                    maps: its total depends on the labels alone
 --     rule-sum       at the plan's root that is K to the power m
---     rule-exact     so the counts told are those of the rule, and nothing is cut off
+--     rule-exact     so the counts returned are those of the rule, and nothing is cut off
 use Prim.Native.Nat.{ℕ, zero, suc, _+_, _-_, _*_, _^_, _≤_, _<_, min}
 use mathlib.Core.Path.{_≡_, refl, sym, ap, ap₂, _∙_, subst}
 use mathlib.Core.Bool.{Bool, true, false, cond}
@@ -119,7 +119,7 @@ module _ (G : Given) (S : StaysInside (G .automaton)) (k : ℕ) (w : ℕ → Boo
         ∙ ap (λ (z : ℕ). countAt us l 0 * z) (one-term (λ q. countAt us r q * sole 0 q)
         ∙ ap (λ (z : ℕ). countAt us r 0 * z) (alone-applied v 0 0)))
 
-    -- x and y tell the two states that are applied, of the climbed child and of the other
+    -- x and y give the two states that are applied, of the climbed child and of the other
     side-total : (h : ℕ) (x y : ℕ → ℕ) (x′ y′ : ℕ → ℕ)
         → sumTo n (λ s. sumTo n (λ q. countAt ts h q * app s (x q) (y q)))
         ≡ sumTo 1 (λ q. countAt us h q * sole (x′ q) (y′ q))

@@ -7,7 +7,7 @@
 --   before
 -- tallies G k w ms == all parts, in rising node number
 --
--- w tells the open nodes, ms are the roots of a question whose W is these nodes and the root, G .labels are the
+-- w holds of the open nodes, ms are the roots of a question whose W is these nodes and the root, G .labels are the
 -- plan's own labels.
 -- "They are reckoned part by part, and the parts and links by-part are those of a question": `roots` and
 -- `questionLinks` of ready's specs.

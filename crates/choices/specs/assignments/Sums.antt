@@ -3,7 +3,7 @@
 -- sumTo n f == f 0 + f 1 + .. + f (n - 1)
 -- one s c == 1 where c is s, else 0: summed over states c, a count of those that are s
 -- LabelSum == for each node, how a weight of its label is summed over the labels that it may have
--- openSum k w ls == any label below k at the nodes that w tells (the open ones), the label of ls at the others
+-- openSum k w ls == any label below k at the nodes that w holds of (the open ones), the label of ls at the others
 use Prim.Native.Nat.{ℕ, zero, suc, _+_}
 use mathlib.Core.Bool.{Bool, cond}
 use mathlib.Core.List.{List}

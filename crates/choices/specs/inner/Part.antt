@@ -4,8 +4,8 @@
 -- noPlaces ok == no child, no places
 -- PlaceArgs, PlacesAre ks nodeTable es v q == q has the left child of v and the places of the last of es below its
 --   children; not ok: v is no leaf, and its children would lie outside the plan
--- Runs n s k ls ks lv inn nodeTable stateTable == the runs of what is lent are as long as N, S and K need, and every
---   leaf and inner state is below S
+-- Runs n s k ls ks lv inn nodeTable stateTable == the runs of the inputs are as long as N, S and K need, and every leaf
+--   and inner state is below S
 -- PartNeeds == besides, v is a node, there are at most 254 earlier roots, and cs has 16 counts for each, none above the
 --   limit
 -- PartCounted X w es cs v a m == answer a and counts m are those of part v

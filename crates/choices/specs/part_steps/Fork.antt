@@ -2,9 +2,7 @@
 --
 -- forkOk, forkLinks, forkCount X es cs t l r i j b e == whether both children come to counts at depth t, by how many
 --   links, and how many choices end in state c; i and j are the places from 1, among the earlier roots es with the
---   counts
--- cs, of
---   the last roots below the children l and r, 0 for none; the node's labels are those from b to before e
+--   counts cs, of the last roots below the children l and r, 0 for none; the node's labels are those from b to before e
 -- ForkArgs, ForkDone == needs and promise of the function
 use Prim.Native.Nat.{ℕ, _+_, _-_, _*_, _≤_, _<_}
 use mathlib.Core.Path.{_≡_}

@@ -3,8 +3,7 @@
 -- countIn cs i q == the count of state q of part i, where cs has 16 for each part
 -- sideOk, sideLinks, sideCount X es cs t c own other == whether the child c comes to counts at depth t, by how many
 --   links, and how many choices below end in state p there; `own` and `other` are the places from 1, among the earlier
--- roots es
---   with the counts cs, of the last root below c and below its sibling, 0 for none
+--   roots es with the counts cs, of the last root below c and below its sibling, 0 for none
 -- RowArgs, RowCopied, SideArgs, SideDone == needs and promises of the functions
 --
 -- "A member with no member below takes its children's states from the run. With members below both children it takes

@@ -1,9 +1,9 @@
--- The whole count, on whatever is lent (document 02, S-10).
+-- The whole count, for any inputs (document 02, S-10).
 --
 -- openIn vs == the test of the open nodes vs
--- countView p r nodeTable stateTable == what is lent, cut by N, S and K of the headers, without the excess of longer
+-- countView p r nodeTable stateTable == the inputs, cut by N, S and K of the headers, without the excess of longer
 --   tables
--- rootsIn X vs == the roots of a question that lists vs, on the lent numbers; none where one leads outside
+-- rootsIn X vs == the roots of a question that lists vs, on the given numbers; none where one leads outside
 -- statesInside X == whether every leaf and inner state of the rules is below S
 -- isCountable X vs == check 18
 -- countOf X vs ms c == how many choices end in state c at the last of the roots ms, the plan's root

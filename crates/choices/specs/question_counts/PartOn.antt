@@ -1,11 +1,11 @@
--- The counts of one part, on whatever is lent.
+-- The counts of one part, for any inputs.
 --
--- w tells the open nodes, es are the roots before v, cs their counts, 16 for each
+-- w holds of the open nodes, es are the roots before v, cs their counts, 16 for each
 -- firstLabel, endLabel X w v == v's labels are those from the first to before the end: all K where v is open, else its
 --   own
--- leftOn X v == the left child of v, by the lent size of the right one, v - 1
+-- leftOn X v == the left child of v, by the given size of the right one, v - 1
 -- childrenOn X v == whether both children are nodes before v
--- placeOn X es c == the place from 1 of the last of es that is c or below it, by the lent size of c; 0 for none
+-- placeOn X es c == the place from 1 of the last of es that is c or below it, by the given size of c; 0 for none
 -- partOkOn X w es v == whether part v comes to counts: its label is one, and no value read leads outside the plan or
 --   the states
 -- partLinksOn X es v == the links of its climb, if it has one

@@ -1,4 +1,4 @@
--- The counts of all parts, in rising node number, on whatever is lent.
+-- The counts of all parts, in rising node number, for any inputs.
 --
 -- partsOk X w es ms == whether every part of the roots ms comes to counts, after those of es
 -- linksFrom X es ms == the links of the parts of ms

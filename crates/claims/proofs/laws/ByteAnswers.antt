@@ -2,7 +2,7 @@
 --     bytes-answer        the decoded answer is the one that the contract names
 --     bytes-refused       where that is a refusal the bytes are as they were
 --     refused-only        a number other than 0 is a refusal's
---     start-kept, advance-kept, read-kept   and then each output parameter holds what it held
+--     start-kept, advance-kept, read-kept   and then each output parameter is unchanged
 use Prim.Native.Nat.{ℕ}
 use mathlib.Core.Path.{_≡_, refl, ap, ap₂, _∙_}
 use mathlib.Core.Bool.{Bool, true, false, cond}

@@ -59,7 +59,7 @@ lay-number lvs lbs uvs ubs nodes labels count r nodes′ labels′ count′ E h 
 
 -- ---- what is handed back
 
--- l is what the accepted call lays, however it is written
+-- l is equal to the list that the accepted call lays
 handed : (lvs lbs uvs ubs nodes labels : List ℕ) (count : ℕ) (nodes′ labels′ : List ℕ) (count′ : ℕ) (l : List Entry)
     → laid lvs lbs uvs ubs ≡ l → LayExported lvs lbs uvs ubs nodes labels count 0 nodes′ labels′ count′
     → HandsBack l nodes′ labels′ count′

@@ -1,4 +1,4 @@
--- The record after an accepted Load and after an accepted Cancel, whatever it was before.
+-- The record after an accepted Load and after an accepted Cancel, for any record before the call.
 --     value-after-load, value-after-cancel    by value
 --     place-after-load, place-after-cancel    in place
 --     after-load, after-cancel                as bytes
@@ -45,7 +45,7 @@ module _ (s : Session) (c : Call) (new : Record) (accepts : proceeds (recordOf s
   done-after s′ a d h =
       struct-after s′ (valid s) (refusal (stageOf (recordOf s)) c) (sym h ∙ d .tells) (d .leaves)
 
-  -- and l whether the bytes b of s are laid out
+  -- and l whether the bytes b of s have the record's layout
   bytes-after : (b b′ : List ℕ) (l v : Bool) (m : ℕ)
       → Answer.accepted ≡ cond l (cond v (unless m (recordOf s) c .answer) (refused 1)) (refused 1)
       → b′ ≡ unlessRefused (cond l (cond v (unless m (recordOf s) c .answer) (refused 1)) (refused 1))

@@ -70,7 +70,7 @@ on-call r (advance x) h e = (x, refl, on-advance r x _ e)
 on-call r cancel h e = absurd (true-false (sym e))
 on-call r read h e = absurd (on-read (r .last) h e)
 
--- ---- l is whether the bytes are laid out, v whether the struct is valid, m the number of the first failing check
+-- ---- l: whether the bytes have the record's layout; v: whether the struct is valid; m: the first failing check
 
 abbrev answered : Bool → Bool → Answer → Answer
 answered l v a = cond l (cond v a (refused 1)) (refused 1)

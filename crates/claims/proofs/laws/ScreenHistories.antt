@@ -1,5 +1,5 @@
--- What a screen is answered is a history of a single session, in both forms of the screens' calls.
---     screen-on-structs, screen-on-bytes    so it is
+-- A screen's calls and answers are a history of a single session, in both forms of the screens' calls.
+--     screen-on-structs, screen-on-bytes    the two forms
 --     screen-finishes    so a question of a screen that is carried to its end is answered as one of a single session
 use mathlib.Core.Path.{subst}
 use mathlib.Core.List.{List, [], _∷_, _++_}

@@ -1,5 +1,5 @@
 -- Start against the reference model.
---     start-settled         its answer is settled: the number of parts, or the first no's number
+--     start-settled         its answer is settled: the number of parts, or the number of the first failing check
 --     after-load            an accepted Load leaves the reference model loaded, with the sizes of what it was given
 --     starts-after-load     so a Start given what that Load left is accepted, in any form that has demand 3
 --     left-is               what that is, by the tables after the Load (specs/Lent)

@@ -2,7 +2,7 @@
 --     on-cause where there is no answer, a value leads outside the plan or the states, does not rise or leads to no
 --       fall
 --     ask-out-of-range   so it is where 18 is answered
---     ask-kept           an answer's state is below S, and yes is its mark, whatever is lent
+--     ask-kept           an answer's state is below S, and yes is its mark, for any inputs
 use Prim.Native.Nat.{ℕ, zero, suc, _+_, _*_, _≤_, _<_}
 use mathlib.Core.Path.{_≡_, refl, sym, ap, _∙_}
 use mathlib.Core.Bool.{Bool, true, false, cond, _&&_}

@@ -1,7 +1,7 @@
 -- The promise of a branch question by colours.
 --     ask-built   on tables as built: the word automaton's answer where the lower node is at or below the upper
 --     ask-apart   16 where it is not, so 18 never
---     ask-done    the whole promise, for whatever answers as colourAskAnswer does
+--     ask-done    the whole promise, for any answer equal to colourAskAnswer's
 use Prim.Native.Nat.{ℕ, _+_, _-_, _≤_, _<_}
 use mathlib.Core.Path.{_≡_, refl, sym, ap, _∙_, subst}
 use mathlib.Core.Bool.{Bool, true, false}
@@ -60,7 +60,7 @@ module _ (reading : Reading) (p r nodeTable numbers bytes : List ℕ) (D : Branc
         few = sum-le 45 (W .way .searches) (links-limit t (W .way .searches) small (W .few));
       }
 
-  -- what the lent size says is so
+  -- what the given size says is true
   subtree-above : isInSubtreeOn nodeTable u l ≡ true → AtOrBelow (planTree p) u l
   subtree-above e =
       let w = in-subtree-is nodeTable u l e in

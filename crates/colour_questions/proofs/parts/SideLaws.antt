@@ -19,7 +19,7 @@ use Rattle.colour_questions.specs.parts.Sides.{SideFound}
 
 module _ (G : Given) (u : Tree) (R : RunGiven G u) (S : StaysInside (G .automaton))
     (few : G .automaton .states ≤ 4) where
-  -- h, the highest member below c, stands in the subtree of c and has a state
+  -- h, the highest member below c, is in the subtree of c and has a state
   pub side-found : (ms : List ℕ) (ps : List Part) (c : ℕ) → c < size (G .tree)
       → highestBelow ms (G .tree) c < size (G .tree) → InSubtree (G .tree) c (highestBelow ms (G .tree) c)
       → stateOf ps (highestBelow ms (G .tree) c) < G .automaton .states → SideFound G ms ps c

@@ -1,5 +1,5 @@
 -- On numbers and copies as built the trials are those by the tree's own colours.
---     SidesBuilt    what is lent of the colours is the tree's own
+--     SidesBuilt    the given numbers and copies are those of the tree's own colours
 --     tries-built   so from any node to any node
 use Prim.Native.Nat.{ℕ, zero, suc, _<_}
 use mathlib.Core.Path.{_≡_, refl, ap, ap₂, _∙_}

@@ -1,4 +1,4 @@
--- The turns of a descent.
+-- The iterations of a descent.
 --     part-gives                            what a colour's own table gives the whole gives
 --     Descends                             the loop's state: the searches so far, and the same answer from here
 --     descends-start, -turn                before the first drop, and after one more

@@ -1,9 +1,8 @@
--- What the functions of a drop read, and what they tell of it.
+-- What the functions of a drop read, and what they return.
 --     seen-fell, seen-kept, lowest-fell, lowest-kept   one node's numbers
---     search-inside, search-few a search ends among the nodes, in at most as many links as its start is deep
---     gives-done, gives-outside, gives-stuck, gives-high, gives-fell what is answered of the next drop, by the tests
---       on the
---     way
+--     search-inside, search-few a search ends among the nodes, and its links are at most the depth of its start
+--     gives-done, gives-outside, gives-stuck, gives-high, gives-fell the answer for the next drop, by the tests on
+--       the way
 use Prim.Native.Nat.{ℕ, _+_, _≤_, _<_}
 use mathlib.Core.Path.{_≡_, refl, sym, ap, ap₂, _∙_}
 use mathlib.Core.Bool.{true, false}
@@ -42,7 +41,7 @@ module _ (F : Forest) (lands : ℕ → ℕ) (c v r : ℕ) (e : r ≡ lands v) wh
 
 -- ---- a search
 
--- the next drop by what a search tells
+-- the next drop by what a search returns
 abbrev fellOn : (ℕ → ℕ) → ℕ → Option Searching → Next
 fellOn lands c none = lost
 fellOn lands c (some s) = fellAt c lands (s .node) (s .links)

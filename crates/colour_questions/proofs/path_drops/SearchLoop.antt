@@ -1,6 +1,6 @@
--- The turns of a search.
+-- The iterations of a search.
 --     search-done, search-move, search-stuck   a search, move by move
---     gives-node, gives-none                     what one move tells
+--     gives-node, gives-none                     what one move gives
 --     Searches                                 the loop's state: what is left gives the whole search's answer
 --     searches-start, -turn, -rises, -done, -lost
 use Prim.Native.Nat.{ℕ, suc, _+_, _≤_, _<_}
@@ -62,7 +62,7 @@ module _ (F : Forest) (v t : ℕ) where
 
 -- ---- one move
 
--- a node that a move tells is one of the nodes, and there is the move to it
+-- a node that a move gives is one of the nodes, and there is the move to it
 pub record Moved (F : Forest) (v t u : ℕ) : Type 0 where
   pub move : Move
   pub next : nextMove F v t ≡ some move
@@ -84,7 +84,7 @@ stuck F v t u e h = go (nextMove F v t) refl e
     go none q i = refl
     go (some m) q i = absurd (omega (arith, next-inside F v t m q))
 
--- what a move tells
+-- what a move gives
 pub gives-jump : (F : Forest) (o : Option Move) (j : ℕ) → Jump j ≡ nextMoveOf F o → j ≡ nextNode F o
 unfolding nextMoveOf nextNode
 gives-jump F none j e = let z : _≡_ {A = ℕ} 0 1 = cc in absurd (omega arith)

@@ -1,6 +1,6 @@
 -- The promise of a rule question by colours.
 --     ask-kept   an answer's state is below S
---     ask-done   the whole promise, for whatever answers as ruleAskAnswer does
+--     ask-done   the whole promise, for any answer equal to ruleAskAnswer's
 use Prim.Native.Nat.{ℕ, zero, suc, _<_}
 use mathlib.Core.Path.{_≡_, refl, sym, ap, _∙_, subst}
 use mathlib.Core.List.{List, []}

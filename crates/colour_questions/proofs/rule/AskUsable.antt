@@ -180,7 +180,7 @@ module _ (p r nodeTable stateTable numbers bytes vs bs : List ℕ)
         ≡ 0
     asked-built = sym asked-list ∙ ok
 
-    -- ---- what is lent is as built
+    -- ---- the inputs
 
     abbrev x : Inputs
     x = inputsOf p r nodeTable stateTable

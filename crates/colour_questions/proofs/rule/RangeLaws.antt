@@ -1,4 +1,4 @@
--- Where a rule question by colours gives nothing, on whatever is lent.
+-- Where a rule question by colours gives nothing, for any inputs.
 --     tried-state     a target state that is found is one of those tried
 --     part-none       a part: a value leads outside the plan, the states or the labels, or no target state is found
 --     handled-none    all parts

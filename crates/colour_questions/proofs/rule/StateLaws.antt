@@ -1,4 +1,4 @@
--- On whatever is lent, a part's state is a state.
+-- For any inputs, a part's state is a state.
 --     part-state      of one part
 --     handled-state   of the last of all
 use Prim.Native.Nat.{ℕ, _+_, _-_, _<_}

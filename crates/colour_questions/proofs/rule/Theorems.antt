@@ -1,7 +1,7 @@
 -- What a rule question by colours means (document 02, S-14): each theorem cites the question's promise.
 --     ask-number   on tables as built the number is that of 12 to 14: 17, 27 and 18 never
---     ask-fresh    "the question's answer is the fresh run's of the changed plan"
---     ask-parts    the parts are as many as in the session
+--     ask-fresh    the question's answer is the fresh run's of the changed plan
+--     ask-parts    the number of parts is that of the session
 -- That each one-sided part's state is the climb's: colour_questions/parts, PartBuilt, tried-side.
 use Prim.Native.Nat.{ℕ}
 use mathlib.Core.Path.{_≡_, refl, sym, ap, _∙_}

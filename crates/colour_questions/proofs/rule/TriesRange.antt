@@ -1,4 +1,4 @@
--- Where no target state is found, on whatever tables.
+-- Where no target state is found, on any tables.
 --     TriesFail     a descent stops, a copy has no colour for a target state, or no set holds the state
 --     tries-none    so
 use Prim.Native.Nat.{ℕ, zero, suc, _+_, _≤_, _<_}

@@ -1,5 +1,5 @@
--- How long a descent is on whatever table.
---     fell-few       a search takes no more links than its start is deep
+-- How long a descent is on any table.
+--     fell-few       the links of a search are at most the depth of its start
 --     descend-few    a descent from colour c has at most c drops, each found by few links
 use Prim.Native.Nat.{ℕ, zero, suc, _-_, _≤_, _<_}
 use mathlib.Core.Path.{_≡_, refl, subst}

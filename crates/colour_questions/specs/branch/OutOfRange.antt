@@ -1,6 +1,6 @@
 -- Values that lead outside the plan or the states.
 --
--- BranchColoursOutOfRange p r nodeTable numbers bytes == such a value of what is lent with a branch question by
+-- BranchColoursOutOfRange p r nodeTable numbers bytes == such a value in the inputs of a branch question by
 --   colours: what 18 means
 --
 -- "18 means that a value read leads outside the plan, the states or the labels, or a climb doesn't rise."

@@ -86,7 +86,7 @@ pub record ColourAskDone (reading : Reading) (p r nodeTable numbers bytes : List
   pub number : descendingNumber answer ≡ colourNumber reading p r nodeTable numbers bytes u l
   -- an answer's state is below S, and yes is its mark
   pub properties : stateKept r answer
-  -- where 17 and 13 pass, 16 exactly when the lent size says so
+  -- where 17 and 13 pass, 16 exactly when the given size says so
   pub not-below : colourBuffersFit p r (length nodeTable) (length numbers) (length bytes) ≡ true → u < nodeCount p
       → l < nodeCount p
       → (descendingNumber answer ≡ 16) ↔ (isInSubtreeOn nodeTable u l ≡ false)

@@ -1,8 +1,8 @@
--- The branch question by colours, on whatever is lent.
+-- The branch question by colours, for any inputs.
 --
 -- colourBuffersFit p r nodeTable numbers bytes == check 17 where N, S and K are those of the headers; the last three
 --   are the lengths of the table buffers
--- check 16 goes by the lent size of the upper node u: isInSubtreeOn nodeTable u l (tables/node_tables, Cells)
+-- check 16 depends on the given size of the upper node u: isInSubtreeOn nodeTable u l (tables/node_tables, Cells)
 -- startOn reading n nodeTable u == the copy in which the word begins: node u's own, or with u's label the copy above
 --   it; none where its parent is no node of the plan
 -- colourIn s bytes z == the colour of state 0 in copy z; none where no colour has it. In the top copy it is the lowest
@@ -11,7 +11,7 @@
 -- colourChecks .. == 17, 13, 16 and 18, in this order; colourNumber .. == the first that fails, 0 where none does
 -- colourAskAnswer .. == the answer
 --
--- "Both are put outside the session and tell state, yes or no, drops and links". Both readings ask the same checks;
+-- "Both are put outside the session and tell state, yes or no, drops and links". Both readings make the same checks;
 -- they differ in the copy in which they begin.
 use Prim.Native.Nat.{ℕ, zero, suc, _+_, _*_}
 use mathlib.Core.Bool.{Bool, cond, _&&_}

@@ -1,7 +1,7 @@
--- One part of a rule question by colours, on whatever is lent.
+-- One part of a rule question by colours, for any inputs.
 --
--- ColourView == what is lent: plan, rules and tables cut into their runs, and the numbers and copies of the colours
--- Sides == of these what the children of a root read; sidesOf n s m stateTable numbers copies == that of lent runs,
+-- ColourView == the inputs: plan, rules and tables cut into their runs, and the numbers and copies of the colours
+-- Sides == of these what the children of a root read; sidesOf n s m stateTable numbers copies == that of given runs,
 --   with m sets in each copy
 -- colourFrom Y c f == the state at child c by the trials from the root f found below it
 -- sideTried Y c f g == the state at child c, where f is the root found below it and g the one below its sibling

@@ -9,7 +9,7 @@
 -- questionSearches A t u ms == those of all parts, in rising node number: a question's drops are their number, its links
 --   their sum
 --
--- Nothing of a lent table is in them.
+-- They do not depend on any table passed in.
 use Prim.Native.Nat.{ℕ}
 use mathlib.Core.Bool.{cond}
 use mathlib.Core.List.{List, [], _∷_, _++_}

@@ -1,7 +1,7 @@
 -- The parts of a rule question by colours, on given run states.
 --
 -- triedState G ms ps c == the state at child c that follows from the state of the highest member below it, with the plan's
---   labels and the run's states beside the path: what the trials find, whatever the given run states are
+--   labels and the run's states beside the path: what the trials find, for any given run states
 -- partByTrials G ms ps v == the state of the part of root v, where the other children's states are the given run states
 -- partTrials G ms ps v == the searches of its trials
 -- triedParts G ms ps vs, trialsFrom G ms ps vs == the parts of the roots vs after ps, and the searches of all of them

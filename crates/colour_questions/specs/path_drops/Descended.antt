@@ -1,4 +1,4 @@
--- A descent on the colours' numbers, whatever they hold, as the code gives it.
+-- A descent on any numbers of the colours, as the code gives it.
 --
 -- startPlace top z == where it begins: the copy of node z, or the top copy
 -- DescendArgs n c nums z l == n nodes within the limit, z and l among them, colour c among 16, and room for the tables

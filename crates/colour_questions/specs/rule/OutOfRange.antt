@@ -1,6 +1,6 @@
 -- Values that lead outside the plan, the states or the labels.
 --
--- RuleColoursOutOfRange L vs bs == such a value of what is lent with a rule question by colours: what 18 means
+-- RuleColoursOutOfRange L vs bs == such a value in the inputs of a rule question by colours: what 18 means
 --
 -- "18 means that a value read leads outside the plan, the states or the labels, or a climb doesn't rise."
 use Prim.Native.Nat.{ℕ, _≤_, _<_, _^_}

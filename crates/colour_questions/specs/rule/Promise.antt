@@ -2,8 +2,8 @@
 --
 -- RuleColoursBuilt p r .. == node table, state table and tables of colours are as built from plan and rules
 -- rootsLeft p vs bs == the roots of the parts: those of a question in the session
--- RuleColourAnswer p r vs bs answer == the answer is the fresh run's of the changed plan, with as many parts as in the
---   session, at most 60 drops for each one-sided part, and at most 45 links for each drop
+-- RuleColourAnswer p r vs bs answer == the answer is the fresh run's of the changed plan, with the session's number of
+--   parts, at most 60 drops for each one-sided part, and at most 45 links for each drop
 -- stateKept r answer == an answer's state is below S, and yes is its mark
 -- linksKept answer == its drops and links are few
 -- RuleAskDone .. == the promise of a rule question by colours
@@ -53,7 +53,7 @@ rootsLeft p vs bs = roots (planTree p) (differing (labelsIn p) vs bs)
 abbrev pub searchesLeft : List ℕ → List ℕ → List ℕ → List ℕ → List ℕ
 searchesLeft p r vs bs = questionSearches (ruleAutomaton r) (planTree p) (changedTree p vs bs) (rootsLeft p vs bs)
 
--- what the rule of a part reads of what is lent
+-- what the rule of a part reads of the inputs
 abbrev pub givenLent : List ℕ → List ℕ → List ℕ → List ℕ → List ℕ → List ℕ → Given
 givenLent p r nodeTable stateTable vs bs =
     givenOf (sizesIn (inputsOf p r nodeTable stateTable)) (inputsOf p r nodeTable stateTable)
@@ -71,7 +71,7 @@ stateKept r (Answered state marked drops links parts) =
     (state < stateCount r) × (marked ≡ ruleAutomaton r .accepting state)
 stateKept r (Refused n) = Unit {0}
 
--- whatever is lent: at most 60 drops for each part, and a search takes fewer links than a plan can have nodes
+-- for any inputs: at most 60 drops for each part, and a search takes fewer links than a plan can have nodes
 abbrev pub linksKept : RuleDescending → Type 0
 linksKept (Answered state marked drops links parts) = (drops ≤ parts * 60) × (links ≤ drops * 65535)
 linksKept (Refused n) = Unit {0}
@@ -87,7 +87,7 @@ pub record RuleAskDone (p r nodeTable stateTable numbers bytes vs bs : List ℕ)
   -- 18 only where a value leads outside the plan, the states or the labels, does not rise, or no target state is found
   pub out-of-range : ruleDescendingNumber answer ≡ 18
       → RuleColoursOutOfRange (lentColours p r nodeTable stateTable numbers bytes) vs bs
-  -- on colours as built, whatever the run states below S are: the parts by their trials, never 18
+  -- on colours as built and any run states below S: the parts by their trials, never 18
   pub usable : RuleColoursUsable p r nodeTable stateTable numbers bytes
       → firstNo (listChecks (nodeCount p) (labelCount r) vs bs) ≡ 0
       → answer ≡ answeredWith r (lastState (triedParts (givenLent p r nodeTable stateTable vs bs) (rootsLeft p vs bs) []

@@ -1,16 +1,16 @@
--- A rule question by colours: its checks, and what it answers on whatever is lent.
+-- A rule question by colours: its checks, and its answer for any inputs.
 --
 -- ruleColoursFit p r .. == check 17, with the lengths of the four tables; where S is above 4 no length is defined for
 --   those of the colours
--- lentColours p r nodeTable stateTable numbers bytes == what is lent, cut by N, S and K of the headers
+-- lentColours p r nodeTable stateTable numbers bytes == the inputs, cut by N, S and K of the headers
 -- Handled == the result of all parts, and how many there were
 -- handledOn L left vs bs == the parts of a list vs, bs that leaves the nodes `left` in W; none: 18
 -- ruleAskChecks .. == 17, 27, 12, 13, 14 and 18, in this order; askedChecks == those before 18
 -- ruleAskNumber .. == the first that fails, 0 where none does
--- ruleAskAnswer .. == the answer, on whatever is lent; ruleDescendingNumber == document 01's number of an answer
+-- ruleAskAnswer .. == the answer, for any inputs; ruleDescendingNumber == document 01's number of an answer
 --
--- "(17, 27, 12, 13, 14, 18; superseding and equal labels as in S-4 and S-5)". The nodes left in W are `differing`'s, in
--- the order of their last entries (crate changes).
+-- Superseding and equal labels are as in S-4 and S-5. The nodes left in W are `differing`'s, in the order of their last
+-- entries (crate changes).
 use Prim.Native.Nat.{ℕ, zero, suc}
 use mathlib.Core.Bool.{Bool, _&&_, _||_}
 use mathlib.Core.List.{List, [], _∷_, _++_}
@@ -33,7 +33,7 @@ use Rattle.colour_questions.specs.parts.Part.{ColourView, handledFrom}
 use Rattle.colour_questions.specs.declared.rule.answers.RuleDescending.{RuleDescending}
 use Rattle.colour_questions.specs.declared.rule.answers.RuleDescending.the-variants.{Answered, Refused}
 
--- "with S above 4 no length is defined for them: a rule question asks 17 of all else, then gives 27"
+-- with S above 4 no length is defined for the tables of colours: 17 is checked of all else, and then comes 27
 unfoldable pub ruleColoursFit : List ℕ → List ℕ → ℕ → ℕ → ℕ → ℕ → Bool
 ruleColoursFit p r nodeTable stateTable numbers bytes =
     headedBuffersFit ruleTables p r nodeTable stateTable
@@ -89,7 +89,7 @@ unfoldable pub ruleDescendingNumber : RuleDescending → ℕ
 ruleDescendingNumber (Answered q marked drops links parts) = 0
 ruleDescendingNumber (Refused n) = n
 
--- the answer of state q, searches ls and so many parts
+-- the answer of state q, searches ls and the given number of parts
 abbrev pub answeredWith : List ℕ → ℕ → List ℕ → ℕ → RuleDescending
 answeredWith r q ls parts = Answered q (ruleAutomaton r .accepting q) (length ls) (sum ls) parts
 

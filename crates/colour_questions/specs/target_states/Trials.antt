@@ -1,4 +1,4 @@
--- Trials of target states on lent numbers and copies, as the code has them.
+-- Trials of target states on given numbers and copies, as the code has them.
 --
 -- trialOf o == the answer for what trials found; not ok where there is none
 -- TargetArgs, TargetsArgs == what one trial reads, and what all read, is inside: at most 16 colours, four states

@@ -86,8 +86,8 @@ fn answer_colours(
     )
 }
 
-// A branch question by colours in either reading. It takes N, S and K from the lent headers and asks 17, 13, 16 and 18
-// in this order.
+// A branch question by colours in either reading. It takes N, S and K from the headers passed in and makes the checks
+// 17, 13, 16 and 18 in this order.
 fn ask(
     reading: Reading,
     plan: &[u8],

@@ -1,5 +1,5 @@
 // One part of a rule question by colours: the state of its root, from the parts before it, the drops of its trials and
-// their links, on whatever is lent. Where roots are below one child only, that child's state is found by trials.
+// their links, for any inputs. Where roots are below one child only, that child's state is found by trials.
 use crate::target_states::trials::Trial;
 use crate::target_states::trials::try_targets;
 use questions::part::label_on;

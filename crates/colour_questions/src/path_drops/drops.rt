@@ -18,7 +18,7 @@ pub enum Dropping {
     Fell(usize, usize, u32),
 }
 
-// How many of the nodes where colour c falls stand at node v or above.
+// The number of nodes at node v or above where colour c falls.
 pub fn seen_at(table: &[u16], n: usize, c: usize, v: usize) -> usize
     requires { ⌜ MoveArgs n (now table) v ⌝ }
     ensures { λ r. ⌜ (r ≡ seenAt (cellForest n (now (table .entry))) (sizeCell (now (table .entry))) c v)

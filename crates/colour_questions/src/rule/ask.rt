@@ -100,8 +100,8 @@ fn answer_lent(
     )
 }
 
-// A rule question by colours, outside the session: N, S and K are those of the headers. Asks 17, 27, 12, 13, 14 and 18
-// in this order; of two entries for a node the last holds, and one that changes nothing is none.
+// A rule question by colours, outside the session: N, S and K are those of the headers. Makes the checks 17, 27, 12,
+// 13, 14 and 18 in this order; of two entries for a node the last holds, and one that changes nothing is none.
 pub fn ask_rule_colours(
     plan: &[u8],
     rules: &[u8],

@@ -9,7 +9,7 @@ ghost use Rattle.formats.specs.Checks.{firstNo};
 ghost use Rattle.colour_questions.specs.rule.Question.{ruleColoursFit, askedChecks};
 
 // Check 17: N, S and K are those of the headers; the last four are lengths. Where S is above 4 those of the colours'
-// tables are not asked.
+// tables are not checked.
 fn tables_fit(
     plan: &[u8],
     rules: &[u8],

@@ -1,4 +1,4 @@
-// All parts of a rule question by colours, in rising node number, on whatever is lent.
+// All parts of a rule question by colours, in rising node number, for any inputs.
 use crate::parts::part::lost;
 use crate::parts::part::part_by_colours;
 use crate::target_states::trials::Trial;

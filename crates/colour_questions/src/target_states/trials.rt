@@ -1,4 +1,4 @@
-// Trials of target states at a child, on the numbers and copies that are lent.
+// Trials of target states at a child, on the caller's numbers and copies.
 use crate::path_drops::descend::descend_from;
 use colour_tables::rows::places::place_of;
 use colour_tables::sets::bits::bit_of;

@@ -1,10 +1,10 @@
 -- Plans and branch tables that pass 2 to 11 for tables of colours, and what is handed on of them.
---     fit-numbers, fit-bytes   check 11 as the code asks it
+--     fit-numbers, fit-bytes   check 11 as the code computes it
 --     room-no, room-good       the answer after 2 to 10
 --     accepted                 what the checks say of inputs that pass
 --     part-args, parts-filled  N, S and K as read, and the parts as what the writers need
 --     parts-written            what the writers leave is what the build has to write
---     built-coloured           the buffers afterwards are as built, whatever their excess is
+--     built-coloured           the buffers afterwards are as built, with any excess
 use Prim.Native.Nat.{ℕ, _+_, _-_, _*_, _≤_, _<_}
 use mathlib.Core.Path.{_≡_, sym, ap, ap₂, _∙_}
 use mathlib.Core.Bool.{Bool, true, false, not}
@@ -166,7 +166,7 @@ module _ (p r : List ℕ) (n s k l m : ℕ) (args : PartArgs p r n s k l m) wher
 
 -- ---- as built
 
--- whatever the buffers were, an accepted build leaves them as built
+-- an accepted build leaves any buffers as built
 pub built-coloured : (p r numbers bytes numbers′ bytes′ : List ℕ) (answer : Building)
     → BuildDone (firstNo (branchColourChecks p r (length numbers) (length bytes))) (builtColourNumbers p r)
     (builtCopies p r)

@@ -1,7 +1,7 @@
 -- The cells of a row and of the table it is put into.
 --     below-marked, -none, -same, next-root, next-below   the row of a node, by the tests on the way
 --     part-put, part-length                               a colour's table among all numbers
---     put-up, put-jump, put-depth, put-apart              what stands in a table after a row was put into it
+--     put-up, put-jump, put-depth, put-apart              what is in a table after a row was put into it
 use Prim.Native.Nat.{ℕ, _+_, _-_, _*_, _≤_, _<_}
 use mathlib.Core.Path.{_≡_, refl, ap, _∙_}
 use mathlib.Core.List.{List}

@@ -1,7 +1,7 @@
--- The turns of the pass that writes a colour's rows.
---     rows-start    before the first turn
---     rows-turn     node v's turn
---     rows-args     what node v's turn needs
+-- The iterations of the pass that writes a colour's rows.
+--     rows-start    before the first iteration
+--     rows-turn     node v's iteration
+--     rows-args     what node v's iteration needs
 use Prim.Native.Nat.{ℕ, _+_, _-_, _*_, _≤_, _<_}
 use mathlib.Core.Path.{_≡_, refl, sym, ap, _∙_}
 use mathlib.Core.Bool.{Bool, true, false}
@@ -37,7 +37,7 @@ module _ (t : Tree) (m : ℕ → Bool) (n c : ℕ) (before nums : List ℕ) (G :
   abbrev b : List ℕ
   b = colourPart n c nums
 
-  -- the first table stands below colour c's
+  -- the first table comes before colour c's
   base : n * 4 ≤ c * (n * 4)
   base = let l : 1 ≤ c = low in omega (arith, mul-le-mul-right (n * 4) l)
 
@@ -120,7 +120,7 @@ module _ (t : Tree) (m : ℕ → Bool) (n c : ℕ) (before nums : List ℕ) (G :
               ) (row-same t m v hv e (omega arith))
             ]
 
-    -- ---- what its turn needs
+    -- ---- what its iteration needs
 
     jump-args : n ≤ 65535 → JumpArgs b p
     jump-args most =
@@ -158,7 +158,7 @@ module _ (t : Tree) (m : ℕ → Bool) (n c : ℕ) (before nums : List ℕ) (G :
     below = λ ne. (let l : v + 1 < n = omega arith in rw (parent-is l) (below-args l most));
   }
 
-  -- ---- node v's turn
+  -- ---- node v's iteration
 
   next-is : MarkedRow t m v (nextRow nums n c v .up) (nextRow nums n c v .jump) (nextRow nums n c v .depth)
   next-is = elim (ℕ-discrete (v + 1) n) [

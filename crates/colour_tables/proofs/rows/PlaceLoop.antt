@@ -1,4 +1,4 @@
--- The turns of the loop that looks for a state in a row.
+-- The iterations of the loop that looks for a state in a row.
 --     Seen, seen-..     the place of q
 use Prim.Native.Nat.{ℕ, suc, _+_, _≤_, _<_}
 use mathlib.Core.Path.{_≡_, sym, ap, _∙_}

@@ -1,4 +1,4 @@
--- The turns of the loop over the colours of a row.
+-- The iterations of the loop over the colours of a row.
 --     Turns                        the loop's state: the row of the first c colours, what they land on, what is taken
 --     turns-start, turns-turn      before the first colour, and after one more
 --     bit-own, bit-low             the bit that the next colour takes: its own state's, or the lowest clear one
@@ -61,7 +61,7 @@ module _ (led row landed owners : List ℕ) (t c : ℕ) (T : Turns led row lande
   pub below : t < 65536
   below = rw (T .bits) (setOf-below 16 (λ s. holds s (take c row)))
 
-  -- a shift and a mask tell whether a lower colour has the state led to
+  -- a shift and a mask show whether a lower colour has the state led to
   tells : member t (getD led c 0) ≡ holds (getD led c 0) (take c row)
   tells = ap (λ (x : ℕ). member x (getD led c 0)) (T .bits)
       ∙ member-setOf 16 (λ s. holds s (take c row)) (getD led c 0) (A .small c h)

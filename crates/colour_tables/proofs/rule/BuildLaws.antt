@@ -1,9 +1,9 @@
 -- Plans and rule tables that pass 2 to 9, 27, 10 and 11 for tables of colours, and what is handed on of them.
---     products, fit-numbers, fit-bytes   check 11 as the code asks it
+--     products, fit-numbers, fit-bytes   check 11 as the code computes it
 --     accepted, table-passed             what the checks say of inputs that pass
 --     part-args                          N, S and K as read
 --     length-setNumbers, length-setBytes how long what the build writes is
---     built-coloured                     the buffers afterwards are as built, whatever their excess is
+--     built-coloured                     the buffers afterwards are as built, with any excess
 use Prim.Native.Nat.{ℕ, _+_, _*_, _^_, _≤_, _<_}
 use mathlib.Core.Path.{_≡_, ap, _∙_}
 use mathlib.Core.Bool.{Bool, true, false}
@@ -124,7 +124,7 @@ module _ (p r : List ℕ) (P : PlanPasses p) where
 
 -- ---- as built
 
--- whatever the buffers were, an accepted build leaves them as built
+-- an accepted build leaves any buffers as built
 pub built-coloured : (p r numbers bytes numbers′ bytes′ : List ℕ) (answer : Building)
     → BuildDone (firstNo (ruleColourChecks p r (length numbers) (length bytes))) (builtSetNumbers p r)
     (builtSetBytes p r) numbers bytes answer numbers′ bytes′

@@ -1,4 +1,4 @@
--- Tables of colours as built for a rule table: what stands at each place.
+-- Tables of colours as built for a rule table: what is at each place.
 --     coloured-cells    the cells of the colours' tables
 --     coloured-copies   each node's sets, in the order of their colours, behind the state table
 use Prim.Native.Nat.{ℕ, _+_, _*_, _^_, _<_}

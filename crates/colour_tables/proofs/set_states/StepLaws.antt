@@ -1,6 +1,6 @@
 -- A step down over sets of states, as the code has it, is the tree's own.
 --     near-is   the state at the parent that is read is the one that follows
---     down-is   so the set that is reckoned is the step's
+--     down-is   so the set that is computed is the step's
 use Prim.Native.Nat.{ℕ, _+_, _-_, _*_, _<_}
 use mathlib.Core.Path.{_≡_, sym, ap, _∙_}
 use mathlib.Core.List.{List}

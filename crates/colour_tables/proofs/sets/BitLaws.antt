@@ -1,5 +1,5 @@
 -- Laws of sets in a byte, by those of shifts and masks.
---     bit-is             a shift and a mask tell membership
+--     bit-is             a shift and a mask give membership
 --     joined, bound      a union with one member past all others is a sum
 --     image-next         one state more of a preimage
 --     led-start, -next, -all   the loop over a row

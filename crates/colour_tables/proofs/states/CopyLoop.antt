@@ -1,5 +1,5 @@
 -- The loop over the nodes, from the root down: each node's copy from the one above it.
---     first-elsewhere, past-elsewhere   where no landing stands
+--     first-elsewhere, past-elsewhere   where there is no landing
 --     above-is                   the row above a node is the copy above it
 --     led-is                     the states led to, as a list
 --     copies-start, copies-next  before the root, and one node more

@@ -1,8 +1,8 @@
 -- The loops over one node's copy: a row filled, a row put into a buffer, landings put into the numbers.
 --     row-start, row-next, row-all     the first c of a row are f's
---     put-start, put-next, put-all     the first c of a row stand in the buffer
+--     put-start, put-next, put-all     the first c of a row are in the buffer
 --     land-in                          a landing's place is inside
---     land-start, land-next, land-all  the landings of the colours below c stand in the numbers
+--     land-start, land-next, land-all  the landings of the colours below c are in the numbers
 --     above-top, above-parent          the copy above a node
 --     turned-copy                      the copy of a node, from the colours' turns
 use Prim.Native.Nat.{ℕ, _+_, _*_, _≤_, _<_, max}

@@ -3,13 +3,13 @@
 -- rowBelow b c v p == the row of node v below its parent p, by colour c's table b
 -- nextRow nums n c v == the row of node v; the root's is itself, at depth 0
 -- putRow nums at r == the numbers with row r from `at` on
--- Given t m n c nums == the first table has the parents of t, and the fourth numbers of colour c tell the marked
---   nodes m
+-- Given t m n c nums == the first table has the parents of t, and the fourth numbers of colour c show which nodes m
+--   marks
 -- RowsFrom t m n c i before after == the rows of the nodes i, .. n - 1 are those of the forest of marked nodes, and
 --   no number but the first three of each of colour c's rows is changed
 -- BelowArgs, NextArgs, WriteArgs == what the functions need: every read inside, every sum in 16 bits
 --
--- Any marks m: the pass is about the forest of marked nodes (colours/marks), whatever marks them.
+-- Any marks m: the pass is about the forest of marked nodes (colours/marks), whichever nodes those are.
 use Prim.Native.Nat.{ℕ, _+_, _*_, _≤_, _<_}
 use mathlib.Core.Path.{_≡_}
 use mathlib.Core.Bool.{Bool, cond}

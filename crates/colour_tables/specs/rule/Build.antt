@@ -46,7 +46,8 @@ ruleColourChecks p r numbers bytes =
     ∷ check 11 (setColoursFit (nodeCount p) (stateCount r) numbers bytes)
     ∷ []))
 
--- the colours' numbers, then the states that the steps of sets go by and each node's sets in the order of their colours
+-- the colours' numbers, then the states that the steps of sets depend on and each node's sets in the order of their
+-- colours
 abbrev pub builtSetNumbers : List ℕ → List ℕ → List ℕ
 builtSetNumbers p r =
     colourNumbersOf (2 ^ stateCount r) (setStep (ruleAutomaton r) (planTree p)) (planTree p)

@@ -5,7 +5,7 @@ ghost use Prim.Native.Nat.{ℕ};
 ghost use Rattle.trees.specs.Tree.{Tree, size};
 ghost use Rattle.colour_tables.specs.forests.Colours.{Landed, ColoursTo, ColoursArgs};
 
-// Writes the rows of colours 1 to k - 1, each by the colours landed on that stand in its table already.
+// Writes the rows of colours 1 to k - 1, each from the colours landed on, which are in its table already.
 pub fn write_colours(numbers: &mut [u16], n: usize, k: usize)
     requires { ⌜ ColoursArgs (now numbers) n k ⌝ }
     ensures { λ _. ⌜ ((step : ℕ → ℕ → ℕ) (t : Tree) → size t ≡ n → Landed k step t (now (numbers .entry))

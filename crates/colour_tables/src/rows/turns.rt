@@ -4,13 +4,14 @@ ghost use mathlib.Core.Path.{_≡_};
 ghost use Prim.Native.Nat.{ℕ, _^_, _<_};
 ghost use Rattle.colour_tables.specs.rows.Turns.{TurnArgs, TurnedTo};
 
-// The states taken and the colours landed on; what stands past the number of colours means nothing.
+// The states taken and the colours landed on; entries past the number of colours have no meaning.
 pub struct Turned {
     pub row: [u8; 16],
     pub lands: [u8; 16],
 }
 
-// The four bits from bit 12 on of 2479 times 2 to the power k are another number for each k below 16; there stands k.
+// The four bits from bit 12 on of 2479 times 2 to the power k are a different number for each k below 16: the index of
+// the entry k.
 const PLACES: [u8; 16] = [0, 1, 2, 5, 3, 9, 6, 11, 15, 4, 8, 10, 14, 7, 13, 12];
 
 // The place of the one bit that is set, of sixteen.

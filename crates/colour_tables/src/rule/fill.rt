@@ -8,7 +8,7 @@ use tables::build::build_tables;
 ghost use lib.ListN.{length};
 ghost use Rattle.colour_tables.specs.rule.inner.Filled.{SetFillArgs, AllFilled, PartArgs, SetColoursWritten};
 
-// The sets and the colours' tables, where the node table and the state table stand in front of both buffers.
+// The sets and the colours' tables, where the buffers already begin with the node table and the state table.
 fn fill_set_colours(
     labels: &[u8],
     inner: &[u8],

@@ -18,7 +18,7 @@ pub fn set_count(s: usize) -> usize
 }
 
 // Writes the copy of each node, the root's first, and what its colours land on: `count` sets a node, from byte `base`
-// on. In front of them stand the run's states, and the first table of the numbers is the plan's own.
+// on. In front of them are the run's states, and the first table of the numbers is the plan's own.
 pub fn write_sets(
     labels: &[u8],
     inner: &[u8],

@@ -1,5 +1,5 @@
 // One node's copy: the states of its colours from those of the copy above it, and the colours that they land on. The
-// copies stand in the bytes from `base` on, `k` bytes for each node; colour c's landings are the fourth numbers of its
+// copies are in the bytes from `base` on, `k` bytes for each node; colour c's landings are the fourth numbers of its
 // table.
 use crate::rows::turns::take_in_turn;
 use tables::node_tables::moves::parent_at;

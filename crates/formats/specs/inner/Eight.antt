@@ -2,8 +2,8 @@
 --
 -- eightKinds b at == eight bytes from `at` on as one number, the first lowest; eightFrom b at == the same as a list
 -- onlyKinds w == whether each of eight bytes is 0 or 1
--- twiceOf w == in each byte twice the inner nodes among the kinds up to it: sumsOf adds up bytes, and fits y tells that its sums stay
---   below 2 ^ 64, and itself small
+-- twiceOf w == in each byte twice the inner nodes among the kinds up to it: sumsOf adds up bytes, and fits y says that
+--   its sums stay below 2 ^ 64, and itself small
 -- sufficient x t == whether t trees are enough for eight kinds with these counts: no byte of `spare` is 128 or more
 use Prim.Native.Nat.{ℕ, _+_, _-_, _*_, _%_}
 use mathlib.Core.Bool.{Bool, cond, _&&_}

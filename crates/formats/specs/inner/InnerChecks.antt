@@ -4,7 +4,7 @@
 -- Headed b head s k == besides, the header is there whole; RuleSized b s k, BranchSized b s k == the length is exact
 -- Labelled p k == the plan's labels are there whole, and K is at most its limit
 -- Product n most r == r is the product n, and at most `most`
--- RuleArgs inn s k p a q == the rule for left state p, label a and right state q stands inside the inner states inn
+-- RuleArgs inn s k p a q == the rule for left state p, label a and right state q is inside the inner states inn
 -- countsFit s k == check 7 as a test
 -- ruleShape b s k, branchShape b s k == check 8 as a test
 -- ruleValues b s k, branchValues b s k == check 9 as a test

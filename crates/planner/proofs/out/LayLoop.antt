@@ -1,6 +1,6 @@
 -- One iteration, and the end, of the loops that write the plan.
 --     Filling, filling-start, filling-iteration, filling-end
---     Laying, laying-start, laying-iteration, laying-end     the nodes up to v stand at their places
+--     Laying, laying-start, laying-iteration, laying-end     the nodes up to v are at their places
 --     place-inside                                           a place is a node of the plan
 use Prim.Native.Nat.{ℕ, zero, suc, _+_, _-_, _*_, _≤_, _<_}
 use mathlib.Core.Path.{_≡_, refl, sym, ap, ap₂, _∙_, subst}

@@ -41,7 +41,7 @@ in-runs l n =
     (rest-cut l 12 n (12 + n) refl
     ∙ ap (λ (t : List ℕ). take n (drop 12 l) ++ t) (rest-cut l (12 + n) n (12 + 2 * n) (omega arith)))
 
--- ---- a plan and what stands behind it
+-- ---- a plan and what is behind it
 
 plan-header : (t : Tree) (rest : List ℕ)
     → planHeader (size t) ++ (labelsOf t ++ (kindsOf t ++ rest)) ≡ planBytes t ++ rest

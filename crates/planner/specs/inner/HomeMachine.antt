@@ -11,8 +11,8 @@
 -- homeward xs k st ls cs == the state at the end. xs: our plan's nodes still to read, from the right, none for a leaf
 --   and some a for an inner node of label a; k: how many nodes of the list that is being read are read
 --
--- Entries and what is written are never more than n together, so the stack stands at the low end of the output and what
--- is written at its high end.
+-- Entries and what is written are never more than n together, so the stack is at the low end of the output and what is
+-- written at its high end.
 use Prim.Native.Nat.{ℕ, zero, suc}
 use mathlib.Core.Bool.{Bool, true, false, cond}
 use mathlib.Core.List.{List, [], _∷_}

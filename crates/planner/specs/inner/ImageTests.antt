@@ -1,11 +1,11 @@
 -- Whether a plan goes home, from its labels and kinds only: three tests, one pass each (document 02, S-2).
 --
 -- labelsFit ls ks == label 63 at every leaf, a label below 63 at every inner node
--- runsFit m ks w == no m inner nodes in a row, where w stand in a row before
+-- runsFit m ks w == no m inner nodes in a row, where w are in a row before
 -- passesTests ls ks == the three tests
 -- oneTop ks == the last node is inner and the one before it is a leaf: one tree at the top
 --
--- In the post-order of an image a run of inner nodes is a list of siblings, from the last to the first: a leaf stands
+-- In the post-order of an image a run of inner nodes is a list of siblings, from the last to the first: a leaf comes
 -- before the next.
 use Prim.Native.Nat.{ℕ, zero, suc, _-_}
 use mathlib.Core.Bool.{Bool, true, false, _&&_}

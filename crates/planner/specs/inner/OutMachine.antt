@@ -6,8 +6,7 @@
 -- toCome st == how many siblings come after the top; 0 where the stack is empty
 -- closed k st closing == the items of every list that is at its end, from the top of the stack: a leaf, then its nodes
 --   from the last to the first; then what k gives of the stack that is left. closing: the list of the top is being
---   closed; else the children of the top
---   are written, and its list is closed where no sibling comes after it
+--   closed; else the children of the top are written, and its list is closed where no sibling comes after it
 -- outward cs v n b st == the items still to write. cs: the counts still to read; v: the next node's number; n: how many
 --   of its list are still to come, v included; b: whether v is the first of its list
 -- Written == a count of items and the places written

@@ -1,9 +1,8 @@
 -- The contract of going out: what the call answers, and what it writes (document 02, S-2).
 --
--- OutDone b p ps r q qs == the answer r is the first no of the checks 19, 20, 21 of the file b; where it is 0 the
---   plan's buffer p becomes q
---   and the places' buffer ps becomes qs: the definition's plan and places, with the excess as it was; else both stay
---   as they were
+-- OutDone b p ps r q qs == the answer r is the first check of 19, 20, 21 that fails on the file b; where it is 0 the
+--   plan's buffer p becomes q and the places' buffer ps becomes qs: the definition's plan and places, with the excess
+--   as it was; else both are unchanged
 -- OutArgs, OutWritten == the same for a file that passes
 use Prim.Native.Nat.{ℕ, _+_, _*_}
 use mathlib.Core.Path.{_≡_}

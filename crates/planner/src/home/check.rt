@@ -34,7 +34,7 @@ fn labels_fit(labels: &[u8], kinds: &[u8]) -> bool
     true
 }
 
-// How many inner nodes stand in a row, after one node more.
+// How many inner nodes are in a row, after one node more.
 fn run_after(kind: u8, run: usize) -> usize
     requires { ⌜ run < 256 ⌝ }
     ensures { λ r. ⌜ r ≡ runAfter kind run ⌝ }

@@ -1,6 +1,5 @@
-// The nodes of a plan, read from the right, with a stack. The stack stands at the low end of the file's label run and
-// count run, what is written at their high end; bit 6 of a label on the stack says that the node is the first of its
-// list.
+// The nodes of a plan, read from the right, with a stack. The stack is at the low end of the file's label run and count
+// run, what is written at their high end; bit 6 of a label on the stack says that the node is the first of its list.
 ghost use mathlib.Core.Path.{_≡_};
 ghost use Prim.Native.Nat.{ℕ, _+_, _*_, _<_, _≤_};
 ghost use lib.ListN.{length};
@@ -16,7 +15,7 @@ pub struct Walk {
     pub run: usize,
 }
 
-// A label as it stands on the stack.
+// A label as it is on the stack.
 fn mark(label: u8, run: usize) -> u8
     requires { ⌜ label < 64 ⌝ }
     ensures { λ r. ⌜ r ≡ marked label run ⌝ }

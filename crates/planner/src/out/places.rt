@@ -1,6 +1,6 @@
-// The places of a planner's nodes in our plan, from the child counts: one pass with a stack. The stack stands in the
-// plan's buffer, which is written afterwards, four bytes an entry: the node's number, how many siblings come after it,
-// and 1 for the first of its list.
+// The places of a planner's nodes in our plan, from the child counts: one pass with a stack. The stack is in the plan's
+// buffer, which is written afterwards, four bytes an entry: the node's number, how many siblings come after it, and 1
+// for the first of its list.
 ghost use mathlib.Core.Path.{_≡_};
 ghost use mathlib.Core.List.{_∷_};
 ghost use Prim.Native.Nat.{ℕ, _+_, _-_, _*_, _<_, _≤_};
@@ -35,7 +35,7 @@ fn less_one(x: u8) -> u8
     x - 1
 }
 
-// The number at a place, where there is such a place.
+// Stores x at index `at`, where there is such an index.
 fn put(places: &mut [u16], at: usize, x: u16)
     ensures { λ _. ⌜ now (places .exit) ≡ set (now (places .entry)) at x ⌝ }
 {
@@ -80,7 +80,7 @@ fn goes_on(plan: &[u8], depth: usize, closing: bool) -> bool
     plan[(depth - 1) * 4 + 2] == 0
 }
 
-// The place behind the leaf that stands before the last of a list.
+// The place behind the leaf that comes before the last of a list.
 fn after_leaf(closing: bool, next: usize) -> usize
     requires { ⌜ next ≤ 65535 ⌝ }
     ensures { λ r. ⌜ r ≡ afterLeaf closing next ⌝ }

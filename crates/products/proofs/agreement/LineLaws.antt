@@ -26,7 +26,7 @@ pub length-trees : (xs : List Line) (ts : List Tree) → length (treesFrom ts xs
 length-trees [] ts = omega arith
 length-trees (x ∷ xs) ts = length-trees xs (ts ++ (lineTree ts x ∷ [])) ∙ simp length-append (omega arith)
 
--- what stands in front stays
+-- what is in front stays
 pub trees-front : (xs : List Line) (ts : List Tree) (i : ℕ) → i < length ts
     → getD (treesFrom ts xs) i (leaf 0) ≡ getD ts i (leaf 0)
 trees-front [] ts i h = refl

@@ -2,7 +2,7 @@
 --     marks-most     at most the length
 --     marks-none     0 in a list of zeros
 --     marks-set      one more where a 0 becomes 1
---     zeros-at       a list of zeros has 0 at every place, past its end too
+--     zeros-at       a list of zeros has 0 at every index, past its end too
 -- The number of lines found is the number of states seen, so there are at most 256.
 use Prim.Native.Nat.{ℕ, zero, suc, _+_, _≤_, _<_}
 use mathlib.Core.Path.{_≡_, refl}

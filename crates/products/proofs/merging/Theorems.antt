@@ -2,7 +2,7 @@
 --     merged-table-passes    the merged bytes pass 6 to 9 and have S1 × S2 states and the common K
 --     merged-table-run       on every plan the merged table's run is the pair of runs, at every node
 --     merged-table-clears    it clears exactly the plans that both clear
---     merge-written          accepted, those bytes stand at the front of the output, and behind them what was there
+--     merge-written          accepted, those bytes are at the front of the output, and behind them what was there
 --     merge-refused          refused, nothing is written
 --     merge-accepted         accepted, both tables pass, K is the same and the product of the counts is at most 16
 --     merge-clears           so the bytes written are a table that clears exactly the plans that both clear

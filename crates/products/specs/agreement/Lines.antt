@@ -1,8 +1,8 @@
 -- A plan as lines, each a leaf or an inner node over two earlier lines (document 02, S-13).
 --
 -- Line == a leaf's label, or an inner node's label with the numbers of its left and its right line; lines are numbered from 0
--- GoodLine k n x == label below k, and line numbers below n: "earlier lines" where n lines stand before
--- GoodLines k n xs == so for each line of xs, where n lines stand before
+-- GoodLine k n x == label below k, and line numbers below n: "earlier lines" where n lines come before
+-- GoodLines k n xs == so for each line of xs, where n lines come before
 -- lineTree ts x == the tree of line x, where ts are the trees of the lines before; a line that is not there counts as leaf 0
 -- treesFrom ts xs == ts, then the tree of each line of xs
 -- linesTree xs == the tree of the last line; leaf 0 where there is none

@@ -13,9 +13,9 @@
 -- marks l == how many cells of the list are not 0
 -- firstAccepted A cs i == i and how many of the states cs, up to and with the first that A accepts; none where it accepts none
 --
--- Line n is joined with the lines up to n only: a later line is joined with it when its own time comes. So each pair of lines is tried
--- once in each order, and at most 256 × 257 × K states are looked up; and the lines stand in order of rising height, for what line n
--- adds has one more than line n's height (proofs/FoundLaws).
+-- Line n is joined with the lines up to n only: a later line is joined with it when it is handled itself. So each pair
+-- of lines is tried once in each order, and at most 256 × 257 × K states are looked up; and the lines are in order of
+-- rising height, for what line n adds has one more than line n's height (proofs/FoundLaws).
 use Prim.Native.Nat.{ℕ, zero, suc}
 use mathlib.Core.Bool.{Bool, cond}
 use mathlib.Core.List.{List, [], _∷_, _++_}

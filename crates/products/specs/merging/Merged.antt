@@ -9,7 +9,7 @@
 -- mergedBytes first second == the merged table
 -- mergeChecks first second out == 6 to 9 for the first, 6 to 9 for the second, 23, 24, 11, in that order; out is the output's length
 --
--- The inner run goes by its place i = (p × K + a) × S + q, S being S1 × S2 and K the common count of labels.
+-- The inner run is indexed by i = (p × K + a) × S + q, where S is S1 × S2 and K the common count of labels.
 -- The product is in products, specs/Product; that the bytes are a rule table whose run is the pair of runs is in proofs/MergedTheorem.
 use Prim.Native.Nat.{ℕ, _+_, _*_, _/_, _%_}
 use mathlib.Core.Bool.{Bool, cond, _&&_}

@@ -6,7 +6,7 @@
 -- innerCell f g s1 s2 k i == the merged state at place i of the inner run, from the inner runs f and g
 -- markCell f g s2 c == the merged mark of state c, from the marks f and g
 -- firstRow s1 s2 k r, secondRow s2 k r == where row r = p × K + a of the merged inner run finds its rows in the two inner runs
--- WordArgs, HeadArgs, .. == what a part asks: the machine's facts, in the terms of its places
+-- WordArgs, HeadArgs, .. == what a part asks: the machine's facts, in terms of its indices
 use Prim.Native.Nat.{ℕ, _+_, _*_, _/_, _%_, _≤_, _<_}
 use mathlib.Core.Path.{_≡_}
 use mathlib.Core.List.{List, _++_}

@@ -1,4 +1,4 @@
--- The members of a rising list below a node: what anyBelow and highestBelow tell.
+-- The members of a rising list below a node: what anyBelow and highestBelow return.
 --     under-yes, under-no      the test isInSubtree
 --     none-below               where anyBelow says no, no member is below
 --     some-below               where it says yes, highestBelow is the highest member below

@@ -25,7 +25,7 @@ use Rattle.questions.proofs.ready.HighestLaws.{Highest, is-false, path-
 use Rattle.questions.proofs.ready.HighestWalk.{far, way-proper, way-free, way-left, way-right}
 use Rattle.questions.proofs.ready.SameTrees.{same-count, same-kind, same-size, same-sub}
 
--- t is the tree, u the changed one: the same kinds, and the same label at every node that w does not tell
+-- t is the tree, u the changed one: the same kinds, and the same label at every node that w does not hold of
 pub record Changes (w : ℕ → Bool) (t u : Tree) : Type 0 where
   pub kinds : kindsOf t ≡ kindsOf u
   pub labels : (v : ℕ) → w v ≡ false → labelAt t v ≡ labelAt u v

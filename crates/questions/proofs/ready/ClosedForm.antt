@@ -1,5 +1,5 @@
 -- The ready set node by node.
---     Forks w t v     listed nodes stand below both children of v
+--     Forks w t v     there are listed nodes below both children of v
 --     Member w t v    v is listed, the root, forks, or is a child of a node that does
 --     member-ready    a member is in the ready set
 --     ready-member    and nothing else is: the ready set is closed (ready-closed) and least (ready-least)
@@ -82,7 +82,7 @@ module _ (t : Tree) where
   under-leaf : (v u : ℕ) → v < size t → kindAt t v ≡ 0 → InSubtree t v u → u ≡ v
   under-leaf v u hv e p = let z : size (sub t v) ≡ 1 = ap size (sub-leaf t v hv e) in omega arith
 
-  -- two nodes whose lowest common ancestor is neither of them stand below its two children
+  -- two nodes whose lowest common ancestor is neither of them are below its two children
   abbrev Parted : ℕ → ℕ → ℕ → Type 0
   Parted u v x =
       (kindAt t x ≡ 1)

@@ -2,7 +2,7 @@
 --     member-mono     a node that is a member for W is one for every larger set
 --     ready-mono      so no larger set has a shorter list
 --     roots-mono      the same of lists
---     roots-same      the roots go by which nodes are listed alone
+--     roots-same      the roots depend only on which nodes are listed
 -- Nothing is said of links: they may go either way.
 use Prim.Native.Nat.{ℕ, zero, suc, _+_, _-_, _≤_}
 use mathlib.Core.Path.{_≡_, refl, sym, ap, _∙_, fun-ext}

@@ -70,7 +70,7 @@ state-new [] p x e n = rw (eq-eqb (p .node) x e)
 state-new (q ∷ ps) p x e n =
     rw (ne-eqb (q .node) x (λ z. n (List·Memᴰ·head (sym z)))) (state-new ps p x e (λ m. n (List·Memᴰ·tail m)))
 
--- of a rising list, what is below v stands before it, and v stands there once
+-- in a rising list, what is below v comes before it, and v occurs once
 pub rising-first : (done : List ℕ) (v : ℕ) (rest : List ℕ) (lo x : ℕ) → Rising lo (done ++ (v ∷ rest))
     → List·Memᴰ x (done ++ (v ∷ rest)) → x < v → List·Memᴰ x done
 rising-first [] v rest lo x r m l = elim (List·Memᴰ·cases-cons m) [

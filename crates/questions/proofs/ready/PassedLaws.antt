@@ -101,7 +101,7 @@ module _ (w : ℕ → Bool) (t : Tree) (ms : List ℕ) (M : Members w t ms) wher
       let q = sum-passed vs (λ u m. f u (List·Memᴰ·tail m)) in
       (omega (arith, p .0, q .0), omega (arith, p .1, q .1))
 
--- a question whose listed nodes w tells
+-- a question whose listed nodes are those that w holds of
 pub question-passed : (w : ℕ → Bool) (t : Tree)
     → (questionLinks t (readyList w t) ≤ questionPassed t (readyList w t))
     × (questionPassed t (readyList w t) ≤ length (readyList w t) * height t)

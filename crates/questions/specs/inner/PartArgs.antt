@@ -1,8 +1,8 @@
--- What the functions of a part are lent, as runs, and what they need of it.
+-- The inputs of the functions of a part, as runs, and what these need of them.
 --
 -- partView n s k ls ks lv inn nodeTable bytes == the view of all runs; pathOf X == of these what a climb reads
 -- unmoved o == a state reached by no link
--- reachedIn x == what was told; none for OutOfRange
+-- reachedIn x == what the answer x returns; none for OutOfRange
 -- LastArgs, LabelArgs, LeafArgs, JoinArgs, SideArgs, ForkArgs, PartArgs == every read is inside its run
 use Prim.Native.Nat.{ℕ, _+_, _*_, _≤_, _<_}
 use mathlib.Core.Path.{_≡_}
@@ -57,7 +57,7 @@ pub record LeafArgs (s k : ℕ) (lv : List ℕ) : Type 0 where
   pub few : s ≤ 16
   pub room : k ≤ length lv
 
--- a state that was told, by few links that passed over few nodes
+-- a state that was returned, by few links that passed over few nodes
 pub record Few (s : ℕ) (x : Reached) : Type 0 where
   pub state : x .state < s
   pub links : x .links ≤ 65535

@@ -1,4 +1,4 @@
--- What a search for a lowest common ancestor tells.
+-- What a search for a lowest common ancestor returns.
 --
 -- meetingOf o == the code's answer for the node o; Outside for none
 -- targetOf F m == its answer for a move m of forest F: the node that it leads to

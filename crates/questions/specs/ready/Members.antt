@@ -1,9 +1,9 @@
 -- The ready set as a rising list.
 --
--- someIn w lo n == whether w tells one of the n nodes from lo on
--- someBelow w t c == whether w tells a node in the subtree rooted at c, c included
+-- someIn w lo n == whether w holds of one of the n nodes from lo on
+-- someBelow w t c == whether w holds of a node in the subtree rooted at c, c included
 -- forksAt w t v == whether v is an inner node with such nodes below both children
--- isMember w t v == whether v is told by w, the root, such a node, or a child of one
+-- isMember w t v == whether w holds of v, or v is the root, such a node, or a child of one
 -- readyList w t == the members among the nodes of t, in rising order
 -- roots t vs == the roots of the parts of a question that lists the nodes vs
 -- Rising lo l == l rises strictly, from lo or above
@@ -32,7 +32,7 @@ forksAt w t v = eqb (kindAt t v) 1 && (someBelow w t (leftChild t v) && someBelo
 unfoldable pub isMember : (ℕ → Bool) → Tree → ℕ → Bool
 isMember w t v = w v || (eqb (v + 1) (size t) || (forksAt w t v || forksAt w t (parent t v)))
 
--- those of the nodes below n that p tells, rising
+-- the nodes below n that p holds of, rising
 unfoldable pub keep : (ℕ → Bool) → ℕ → List ℕ
 keep p zero = []
 keep p (suc v) = keep p v ++ cond (p v) (v ∷ []) []

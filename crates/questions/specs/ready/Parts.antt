@@ -1,7 +1,7 @@
 -- The parts of a question, worked out one after the other, on given bytes.
 --
--- Given == what an advance reads: the tree, the automaton, the changed labels, and for each node a run state and a map (the lent
---   bytes; on tables as built those of the run)
+-- Given == what an advance reads: the tree, the automaton, the changed labels, and for each node a run state and a map
+--   (the given bytes; on tables as built those of the run)
 -- highestBelow ms t c == the highest of the members ms below c, c included: the greatest in number; c where there is none
 -- anyBelow ms t c == whether one of ms is below c, c included
 -- moveState G m q == what one move of a climb makes of state q

@@ -2,7 +2,7 @@
 --
 -- leftChild t v, rightChild t v == the children of an inner node v
 -- Meet t u v x == node x is the lowest common ancestor of u and v (of a node and its ancestor: the ancestor)
--- Ready w t v == node v is in the ready set of the nodes that w tells, the root added
+-- Ready w t v == node v is in the ready set of the nodes that w holds of, the root added
 -- Closed w t C == C has what document 01 asks of the ready set; Ready is the least such C (ready-closed, ready-least)
 --
 -- w is any set of nodes, not a list of changes.

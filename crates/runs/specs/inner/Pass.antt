@@ -2,13 +2,16 @@
 --
 -- PassArgs ks ls vs bs lv inn s k == kinds of a tree and labels below k, a list of changes to labels below k, a rule
 --   table's leaf and inner states, all below s
--- PassDone ks ls vs bs lv inn s k q == q is the root's state in the run, whatever the marks
--- stackWith st w == the states of the trees that wait, w, the last completed first: those before it stand in st, from place 1 on
--- readOn .. bs st w == what reading the nodes from w's on, with labels bs, makes of the trees that wait before w's turn
+-- PassDone ks ls vs bs lv inn s k q == q is the root's state in the run, for any marks
+-- stackWith st w == the states of the trees that wait, w, the last completed first: those before it are in st, from
+--   index 1 on
+-- readOn .. bs st w == what reading the nodes from w's on, with labels bs, makes of the trees that wait before the
+--   iteration of w's node
 -- RuleStates ks lv inn s k == a rule table's leaf and inner states, as in PassArgs
--- Stacked ks s st w == the trees that wait before the turn of w's node, with room for those to come
--- StepArgs, StepDone == what the turn of one node asks and promises: reading on after it gives what reading on before it gives
--- StretchArgs, StretchDone == the same of the nodes up to the next mark, with the labels lent
+-- Stacked ks s st w == the trees that wait before the iteration of w's node, with room for those to come
+-- StepArgs, StepDone == what the iteration of one node asks and promises: reading on after it gives what reading on
+--   before it gives
+-- StretchArgs, StretchDone == the same of the nodes up to the next mark, with the plan's labels
 -- SpanArgs, SpanDone == the same of the nodes up to before `to`, with the labels as marked
 -- SpanEnd v n to == these nodes end at `to`
 -- RunArgs p r vs bs n s k == plan, rules and list that pass their checks, with N, S and K of their headers
@@ -67,7 +70,7 @@ stackOf st (suc w) x = x ∷ lowerOf st w
 abbrev pub stackWith : List ℕ → Waiting → List ℕ
 stackWith st w = stackOf st (w .count) (w .last)
 
--- the trees that wait before a node's turn, read on from there over labels bs
+-- the trees that wait before a node's iteration, read on from there over labels bs
 abbrev pub readOn : ℕ → ℕ → List ℕ → List ℕ → List ℕ → List ℕ → List ℕ → Waiting → Option (List ℕ)
 readOn s k lv inn ks bs st w = reads s k lv inn (drop (w .node) ks) (drop (w .node) bs) (stackWith st w)
 

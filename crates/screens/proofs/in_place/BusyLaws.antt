@@ -1,5 +1,5 @@
 -- Whether a screen may not be loaded, as the code asks it.
---     busy-broken, busy-valid    one struct: it is no record, or it is one and its state tells
+--     busy-broken, busy-valid    one struct: it is no record, or it is one and its state decides
 --     at-any, busy-at            an element of the run
 use Prim.Native.Nat.{ℕ, zero, suc, _<_}
 use mathlib.Core.Path.{_≡_, refl, sym, _∙_, ap}
@@ -22,7 +22,7 @@ pub busy-valid : (s : Session) (r q : Bool) → r ≡ valid s → not r ≡ fals
 busy-valid s r q e h w =
     w ∙ sym (ap (λ (b : Bool). not b || isRunning (phaseOf (s .head .phase))) (sym e ∙ not-false r h))
 
--- an element of the run, whatever stands for one out of range
+-- an element of the run, with any default for an index out of range
 pub at-any : (ss : List Session) (i : ℕ) (d : Session) → i < length ss → getD ss i d ≡ at ss i
 at-any [] i d h = absurd (let z : i < 0 = h in omega arith)
 at-any (s ∷ ss) zero d h = refl

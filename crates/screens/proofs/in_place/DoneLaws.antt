@@ -1,6 +1,6 @@
 -- What the walks end in: the promise of a call on a run of eight structs.
 --     not-eight-done, nobody-done    a refusal before any screen: 25, or the target's number
---     screen-done, turn-done         the session's own call on one of the structs, which is stored where it stood
+--     screen-done, turn-done         the session's own call on one of the structs, which is stored where it was
 --     beyond-screen, to-screen, beyond-deal, deal-none, deal-served    the same by the numbers that the code has
 --     no-run-read, no-screen-read, read-done                           Read of one screen
 use Prim.Native.Nat.{ℕ, zero, suc, _<_, _≤_}
@@ -31,7 +31,7 @@ use Rattle.screens.specs.in_place.OnStructs.{structsAll, OwnDone}
 use Rattle.screens.specs.in_place.OnStructs.{ScreenDone}
 use Rattle.screens.proofs.in_place.FoundLaws.{phases, found-phases}
 
--- a struct that is stored where it stood
+-- a struct that is stored where it was
 set-at : (ss : List Session) (i : ℕ) → set ss i (at ss i) ≡ ss
 set-at [] i = refl
 set-at (s ∷ ss) zero = refl

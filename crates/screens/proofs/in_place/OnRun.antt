@@ -1,7 +1,7 @@
--- What the walks over a run of records share: a function that is lent the run, is given a number, and is lent slices to
+-- What the walks over a run of records share: a function that takes the run behind a `&mut`, a number, and slices to
 -- read.
 --     cooked           a part of a cell behind a reference, at its own type
---     onRun ls E       the signature: the run behind a `&mut`, the number, what is lent, and the answer's type E
+--     onRun ls E       the signature: the run behind a `&mut`, the number, the slices, and the answer's type E
 --     Post             what a walk has to end in
 --     exits            it does, with the borrow of the run closed at a list of which P holds
 --     met              a function that is walked to Post meets the promise
@@ -50,7 +50,7 @@ use Rattle.session.proofs.state.Session as T
 use Rattle.session.proofs.in_place.Lendings.{Lending, slots, stays, goes, kinds, spells, tells, Fitting, fitting, Lasts, Said}
 use Rattle.session.proofs.in_place.Lendings.{Had, Fits, backs}
 
--- what the test of the run's length tells
+-- what the test of the run's length shows
 yes-yes : (b : Bool) → Yes (not (not b)) → b ≡ true
 yes-yes true y = refl
 yes-yes false y = absurd y
@@ -61,7 +61,7 @@ is-eight ys y = eqb-true (length ys) 8 (yes-yes (eqb (length ys) 8) y)
 pub not-eight : (ys : List Session) → Yes (not (eqb (length ys) 8)) → length ys ≡ 8 → ⊥
 not-eight ys y e = subst (λ (b : Bool). Yes (not b)) (eq-eqb (length ys) 8 e) y
 
--- the place of a record of the run, in bytes
+-- the offset of a record of the run, in bytes
 pub scaled : (i : ℕ) → i ≤ 7 → FitsIn w64 (i * 992)
 scaled i h = record { fits = omega arith }
 
@@ -132,7 +132,7 @@ module _ {n : ℕ} (ls : List (Lending (suc n))) (E : RattleType) where
       Post = walkOf 𝓤 H A onRun stayed clauses .post ((κs, qs, tt, a, passed κs a), tt)
 
       module _ (r : E .Denot) (ys : List Session) (ws : Lasts κs ls (a .1 .1)) (v : Val) where
-        -- the run's value, its borrow and token, the tokens of what is lent, what is said of that, and the answer
+        -- the run's value, its borrow and token, the tokens of the slices, what is said of these, and the answer
         abbrev pub AtEnd : List (Item 𝓤)
         AtEnd =
             ‵ (fobs (name (a .0)) (codedHoleys T.the-row .code (heres T.the-row ys)))

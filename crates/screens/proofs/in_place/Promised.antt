@@ -86,7 +86,7 @@ pub load-tied : (κs : Lfts 4) (a : ArgsD load-fn.signature κs) (r : ResD load-
     (loadAnswer (r .answer)) (r .all)
 load-tied κs a r s p = does (p .call)
 
--- Read is lent the run to read alone
+-- Read takes the run by `&`, to read only
 abbrev pub readPromised : (κs : Lfts 1) (a : Args read-fn.signature κs) → ReadAnswer → Type 0
 readPromised κs a r = screens.one (readAnswer r) ≡ answerAll (now (a .0)) (screens.readOn (a .1 .0))
 

@@ -1,6 +1,6 @@
 -- What a Load over eight structs promises.
 --
--- loadAnswer r == its answer, as it is compared: an accepted one tells 0, the screen to try first
+-- loadAnswer r == its answer, as it is compared: an accepted one returns 0, the screen to try first
 -- loadNumber ss x == the number of the first failing check; 0 where none fails
 -- LoadAllDone == the promise: that of a call of the screens, and the tables in the buffers given, excess untouched; as
 --   at entry where it is refused

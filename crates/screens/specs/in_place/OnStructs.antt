@@ -3,9 +3,10 @@
 -- at ss i == screen i's struct; runs ss == which screens run, by their states alone
 -- isBusy s, busy ss == whether a screen may not be loaded, and which: it runs, or its struct is no record
 -- runsIn ps == which screens run, by a list of states
--- targetIn ss c == whose call c is: a Load asks for eight records that are at rest, any other call goes by the states
--- answerOf ss t, structsOf ss t == what a call that is t's tells, and the structs after it; answerAll ss c, structsAll
---   ss c == of call c
+-- targetIn ss c == whose call c is: a Load asks for eight records that are at rest, any other call depends on the
+--   states
+-- answerOf ss t, structsOf ss t == the answer of a call that is t's, and the structs after it; answerAll ss c,
+--   structsAll ss c == of call c
 -- dealAnswer r == a deal's answer, as it is compared
 -- ScreenDone == the promise
 use Prim.Native.Nat.{ℕ, _<_}
@@ -86,7 +87,7 @@ OwnDone ss ss′ (screen i c) a = CallDone (at ss i) c a (at ss′ i)
 OwnDone ss ss′ (turn i x) a = CallDone (at ss i) (advance x) a (at ss′ i)
 
 pub record ScreenDone (ss : List Session) (c : ScreenCall) (a : ScreenAnswer) (ss′ : List Session) : Type 0 where
-  -- what is told, and all eight structs after
+  -- the answer, and all eight structs after
   pub tells : a ≡ answerAll ss c
   pub leaves : ss′ ≡ structsAll ss c
   -- "nothing else is returned and nothing is altered"

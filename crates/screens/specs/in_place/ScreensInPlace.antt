@@ -1,7 +1,7 @@
 -- The calls of the screens on a run of structs, as one relation.
 --
--- ScreenInPlace ss c a ss′ == call c on the structs ss told a and left ss′, by its promise: a Load, a Start, a Cancel
---   or a deal; a Read leaves the structs as they are
+-- ScreenInPlace ss c a ss′ == call c on the structs ss returned a and left ss′, by its promise: a Load, a Start, a
+--   Cancel or a deal; a Read leaves the structs as they are
 -- eightSessions == eight fresh sessions
 use Prim.Native.Nat.{ℕ}
 use mathlib.Core.Path.{_≡_}

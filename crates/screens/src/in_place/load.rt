@@ -42,7 +42,7 @@ fn any_busy(all: [Session; 8]) -> bool
     false
 }
 
-// Builds the tables of a plan and rules into the lent buffers, and clears the eight.
+// Builds the tables of a plan and rules into the caller's buffers, and clears the eight.
 pub fn load(
     all: [Session; 8],
     plan: &[u8],

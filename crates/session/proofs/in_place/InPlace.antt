@@ -1,7 +1,7 @@
--- What the walks of the calls in place share: a function that is lent the session's record and slices beside it, and at exit has the
--- record again, at its last value.
+-- What the walks of the calls in place share: a function that takes the session's record behind a `&mut` and slices
+-- beside it, and at exit gives the record back, at its last value.
 --     vals             the machine value of a record.   spelled   the one of a struct that a call returned
---     inPlace ls E     the signature: the record behind a `&mut`, what is lent, and the answer's type E
+--     inPlace ls E     the signature: the record behind a `&mut`, the slices, and the answer's type E
 --     clauses          what is promised: P of the arguments, the answer and the arguments at exit
 --     Post             what a walk has to end in
 --     exits            it does, with the borrow of the record closed at a value of which P holds
@@ -76,7 +76,7 @@ module _ {n : ℕ} (ls : List (Lending (suc n))) (E : RattleType) where
       Post = walkOf 𝓤 H A inPlace stayed clauses .post ((κs, qs, tt, a, passed κs a), tt)
 
       module _ (r : E .Denot) (s : Session) (ws : Lasts κs ls (a .1)) (v : Val) where
-        -- the record's value, its borrow and token, the tokens of what is lent, what is said of that, and the answer
+        -- the record's value, its borrow and token, the tokens of the slices, what is said of these, and the answer
         abbrev pub Ends : List (Item 𝓤)
         Ends =
             ‵ (fobs (name (a .0)) (T.the-row .coded .code s))

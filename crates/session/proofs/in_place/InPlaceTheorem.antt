@@ -1,6 +1,6 @@
--- Demand 3 for the calls in place: every list of calls, from the fresh session, whatever the inputs, is answered as the
+-- Demand 3 for the calls in place: every list of calls, from the fresh session, for any inputs, is answered as the
 -- reference model (document 01's panel book) says.
---     in-place-questions    a question: an accepted Start had sound inputs; undisturbed: what is told of it
+--     in-place-questions    a question: an accepted Start had sound inputs; undisturbed: what is answered to it
 --     in-place-demand-3     the theorem, over the very promises of load, start, advance, cancel and read in place
 --     in-place-history      a history of these calls is one of the calls by value, so what is proved of those holds of it
 use mathlib.Core.Path.{_≡_, refl, subst}

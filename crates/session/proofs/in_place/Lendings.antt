@@ -1,9 +1,11 @@
--- What is lent to a call in place beside the record, and handed on to the call by value for good.
---     Lending          a slice to read (`shared`) or to write (`written`), by its place among the lifetimes and its elements' type.
---                      At exit nothing is had of a `shared` one, and of a `written` one its last elements alone
+-- The slices that a call in place takes beside the record, and hands on to the call by value for good.
+--     Lending          a slice to read (`shared`) or to write (`written`), by the index of its lifetime and its
+--                      elements' type. At exit nothing is had of a `shared` one, and of a `written` one only its last
+--                      elements
 --     back             what the call by value leaves of it is what is had of it at exit
 --     slots, stays, goes, kinds, spells, tells      of a list of them: what a walk's laws ask (denote.Triple.Walked)
---     Passed, Fitting  what a walk knows of what is passed: each stands for its value, and has its machine type.   fitting  the second
+--     Passed, Fitting  what a walk knows of what is passed: each stands for its value, and has its machine type.
+--                      fitting  the second
 --     Said, Had, Fits  of their last values: what the call by value says, what is had at exit, what these fit.   backs    as `back`
 use mathlib.Core.Path.{refl}
 use Prim.Native.Nat.{ℕ}
@@ -81,7 +83,7 @@ module _ {n : ℕ} where
     goes (l ∷ ls) = (l .goes 𝓤 H A W, goes ls)
 
   module _ (κs : Lfts n) where
-    -- their types, their machine values, and that these tell what they stand for
+    -- their types, their machine values, and that these determine what they stand for
     abbrev pub kinds : List (Lending n) → List RattleType
     kinds ls = typesAt (slots ls) κs
 

@@ -1,8 +1,9 @@
 -- The calls in place as one relation, for the statement about every list of calls.
 --
--- CallInPlace s c a s′ == call c was made on the lent record s, told a and left s′ there: its promise, as its function has it, holds
+-- CallInPlace s c a s′ == call c was made on the record s in place, returned a and left s′ there: its promise, as
+--   its function has it, holds
 --
--- Read is lent the record to read alone: it leaves it as it was.
+-- Read takes the record by `&`, so it leaves it as it was.
 use Prim.Native.Nat.{ℕ}
 use mathlib.Core.Path.{_≡_}
 use mathlib.Core.List.{List}

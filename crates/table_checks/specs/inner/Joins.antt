@@ -2,7 +2,7 @@
 --
 -- Joined s b p j i m == the first i entries of m are what the map of node p, then the map of node j, make of a state
 -- JoinArgs s b p j m == what joining two maps needs: both rows inside, the first one's entries below s, room in m bytes
--- throughEntry m table base stride q == nearEntry (tables) taken on by the entries m
+-- throughEntry m table base stride q == nearEntry (tables) composed with the entries m
 -- ThroughArgs s l v m table base stride == what comparing with them needs, l bytes in the state table and m entries
 use Prim.Native.Nat.{ℕ, _+_, _*_, _≤_, _<_}
 use mathlib.Core.Path.{_≡_}

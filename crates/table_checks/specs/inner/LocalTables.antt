@@ -16,8 +16,8 @@ use Rattle.trees.specs.Numbering.{sub, parent}
 use Rattle.trees.specs.Jumps.{jump}
 use Rattle.tables.specs.StateCells.{stateCell, mapCell}
 
--- a right child v stands just before its parent, and its left sibling before v's subtree; a left child's sibling stands
--- just before their parent
+-- a right child v comes just before its parent, and its left sibling just before v's subtree; a left child's sibling
+-- comes just before their parent
 unfoldable pub stepCells : Automaton → Tree → List ℕ → ℕ → ℕ → ℕ
 stepCells A t b v q =
     cond (eqb (v + 1) (parent t v))

@@ -1,5 +1,5 @@
--- The node table's numbers of a node's two children, tested at their parent with every place made safe, so that nodes
--- can be looked at in any order.
+-- The node table's numbers of a node's two children, tested at their parent with every index forced into range, so that
+-- nodes can be tested in any order.
 --
 -- within n x == x where it is below n, else 0
 -- pairByDistances n b v == the jump of a child of node v by the two distances, in a table b of n nodes

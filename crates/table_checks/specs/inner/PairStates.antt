@@ -1,8 +1,8 @@
--- The states and maps of a node's two children, tested at their parent with every place made safe.
+-- The states and maps of a node's two children, tested at their parent with every index forced into range.
 --
--- farEntry s b p j table base stride q == nearEntry (tables) taken on by the maps of node p and then of node j
+-- farEntry s b p j table base stride q == nearEntry (tables) composed with the maps of node p and then of node j
 -- rowsMatch == whether both children's maps are the steps to v (where the right child's jump is v), else the steps
---   taken on by the maps of v and of its jump
+--   composed with the maps of v and of its jump
 -- pairStates == whether inner node v's state and its children's maps follow from their neighbours'
 -- leafIs == whether v's size and state are a leaf's
 -- pairIs == whether pairNodes and pairStates hold

@@ -1,9 +1,9 @@
--- What the comparison of both tables by pairs needs, and what it tells.
+-- What the comparison of both tables by pairs needs, and what it returns.
 --
--- MatchArgs ks ls nodeTable lv inn s k m == parts of a plan and a rule table within the limits, and room in the lent
---   tables, m bytes in the state table
+-- MatchArgs ks ls nodeTable lv inn s k m == parts of a plan and a rule table within the limits, and room in the tables,
+--   m bytes in the state table
 -- TablesTested s k lv inn ks ls nodeTable stateTable r == r is whether both buffers begin with the tables of the tree
---   with kinds ks and labels ls, whatever the marks are
+--   with kinds ks and labels ls, for any marks
 use Prim.Native.Nat.{ℕ, _≤_, _<_}
 use mathlib.Core.Path.{_≡_}
 use mathlib.Core.Bool.{Bool, true, _&&_}

@@ -1,4 +1,4 @@
--- The map that both children's steps are taken on by, of two states.
+-- The map that both children's steps are composed with, for two states.
 --
 -- nearOf nodeTable v == whether the right child's jump is node v
 -- takenEntry nodeTable n b v x == x where it is, else what the maps of v and of its jump make of x

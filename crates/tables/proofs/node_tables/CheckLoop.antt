@@ -1,4 +1,4 @@
--- The turns of the full check.
+-- The iterations of the full check.
 --     up-step, up-right           one node more, where it matches; and it matches where the table is right
 --     up-args .. up-tells         the same of every tree with these kinds, as the loop has it
 --     down-step, down-right       likewise of the pass down

@@ -1,5 +1,5 @@
--- The turns of the pass down that writes depths and jumps.
---     put-other .. put-jump             what a turn leaves and what it writes
+-- The iterations of the pass down that writes depths and jumps.
+--     put-other .. put-jump             what an iteration leaves unchanged and what it writes
 --     parent-depth .. jump-args         the cells of a node's parent, of its jump and of that one's jump
 --     depth-of, jump-of, args-of        a node's depth and jump, by its parent's cells
 --     node-turns, root-turns            one node more, of every tree with these parents, as the loop has it
@@ -21,7 +21,7 @@ use Rattle.list_laws.proofs.Choice.{by-lt}
 use Rattle.tables.proofs.node_tables.JumpLengthLaws.{length-choice}
 use Rattle.tables.specs.node_tables.inner.DownPass.{byDistances, byLength, childJump, put, nodeIteration, JumpArgs, NodeArgs, DownArgs}
 
--- ---- what a turn leaves and what it writes
+-- ---- what an iteration leaves unchanged and what it writes
 
 module _ (b : List ℕ) (v x y : ℕ) where
   put-other : (j : ℕ) → (j ≡ v * 4 + 1 → ⊥) → (j ≡ v * 4 + 2 → ⊥) → getD (put b v x y) j 0 ≡ getD b j 0

@@ -1,8 +1,8 @@
 -- The table of jump lengths agrees with the rule at every entry.
 --     entry-by-rule      each entry follows the two-distances rule from earlier entries: one computed test over all 1,024
---     entry-is-jump      each entry is the length of the jump of the definition that the node tables go by
+--     entry-is-jump      each entry is the length of the jump as the node tables define it
 --     length-choice      so a length of 1 is the parent's, and any other that of the parent's jump
---     by-table, past-table   what child_jump tells below the table's end and past it
+--     by-table, past-table   what child_jump returns below the table's end and past it
 --     sums-equal, sums-differ   the two distances by sums: d - e is e - f where d + f is e + e
 use Prim.Native.Nat.{ℕ, zero, suc, _+_, _-_, _≤_, _<_}
 use mathlib.Core.Path.{_≡_, refl, sym, ap, ap₂, _∙_, subst}

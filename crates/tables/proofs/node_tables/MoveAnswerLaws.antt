@@ -1,6 +1,6 @@
--- Which move was meant, from what next_move tells.
+-- Which move was meant, from what next_move returns.
 --     answer-jump, answer-parent, answer-stuck     the move
---     answer-inside                            a parent that is told is one of the nodes
+--     answer-inside                            a parent that is returned is one of the nodes
 use Prim.Native.Nat.{ℕ, _<_}
 use mathlib.Core.Path.{_≡_, refl, ap, _∙_}
 use mathlib.Core.Option.{Option, none, some}
@@ -48,7 +48,7 @@ module _ (F : Forest) (v to : ℕ) where
           let z : u ≡ v = next-start F v to (toParent u) q in
           (q ∙ ap (λ (x : ℕ). some (toParent x)) z, ap node h ∙ ap (F .parent) z)
 
-  -- a parent that is told is one of the nodes
+  -- a parent that is returned is one of the nodes
   pub answer-inside : (p : ℕ) → Parent p ≡ nextMoveOf F (nextMove F v to) → p < F .nodes
   answer-inside p e =
       let t = answer-parent p e in

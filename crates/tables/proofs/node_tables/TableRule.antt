@@ -1,6 +1,6 @@
 -- A rule of a table of numbers, proved at all of its entries by one test that the prover computes.
---     every f i xs    the test f passes at each entry of xs and its place, counted from i
---     at-every        so it passes at each place
+--     every f i xs    the test f passes at each entry of xs and its index, counted from i
+--     at-every        so it passes at each index
 use Prim.Native.Nat.{ℕ, zero, suc, _+_, _<_}
 use mathlib.Core.Path.{_≡_, _∙_, subst, sym}
 use mathlib.Core.Bool.{Bool, true, false, _&&_}

@@ -1,5 +1,5 @@
--- The turns of the pass up that writes sizes and parents.
---     iteration-other .. iteration-right        what a turn leaves and what it writes
+-- The iterations of the pass up that writes sizes and parents.
+--     iteration-other .. iteration-right        what an iteration leaves unchanged and what it writes
 --     size-beside, right-first        the same where the right child's parent is written first
 --     at-right .. inner-args          an inner node's children and size, from the table so far
 --     cleared-written, leaf-turn, inner-iteration   one node more
@@ -24,7 +24,7 @@ use Rattle.tables.specs.node_tables.inner.UpPass.{leftOf, innerSize, ite
 use Rattle.tables.specs.node_tables.inner.UpPass.{upIteration}
 use Rattle.tables.specs.node_tables.inner.UpPass.{InnerArgs, TurnArgs}
 
--- ---- what a turn leaves and what it writes
+-- ---- what an iteration leaves unchanged and what it writes
 
 module _ (b : List ℕ) (i s r l : ℕ) (room : i * 4 + 4 ≤ length b) (hr : r < i) (hl : l < i) where
   iteration-other : (j : ℕ) → (j ≡ i * 4 + 3 → ⊥) → (j ≡ r * 4 → ⊥) → (j ≡ l * 4 → ⊥)
@@ -101,7 +101,7 @@ module _ (t : Tree) (i : ℕ) (b : List ℕ) (p : UpTo t i b) (h : i < size t) (
     fits = omega (arith, new-size, sub-size t i h);
   }
 
--- what a turn needs: of a leaf, and of an inner node once its size is cleared
+-- what an iteration needs: of a leaf, and of an inner node once its size is cleared
 leaf-args : (b : List ℕ) (i : ℕ) → i ≤ 65535 → i * 4 + 4 ≤ length b → TurnArgs b i 0
 leaf-args b i m room =
     let r : i - 0 ≡ i = omega arith in
@@ -142,7 +142,7 @@ module _ (t : Tree) (i : ℕ) (b₀ b : List ℕ) (p : UpWritten t i b₀ b) (h 
     kept = λ j a. getD-set-other b (i * 4 + 3) j 1 0 (a i h .1) ∙ p .kept j a;
   }
 
-  -- the size of node i may be cleared before its turn, and its parent may be anything after it
+  -- the size of node i may be cleared before its iteration, and its parent may be anything after it
   cleared-written : UpWritten t i b₀ (cleared b i)
   cleared-written = record {
     cells = record {
@@ -274,7 +274,7 @@ module _ (ks : List ℕ) (i : ℕ) (b₀ b : List ℕ) (all : UpsWritten ks i b�
       all-up t b₀ b (subst (λ (n : ℕ). UpWritten t n b₀ b) z (all t e)) (omega (arith, size-of t ks e)) (length ks - 1)
       (omega (arith, size-of t ks e, size-pos t))
 
--- what a node's turn needs, from the kinds
+-- what a node's iteration needs, from the kinds
 pub turn-room : (ks : List ℕ) (i m : ℕ) (b₀ b : List ℕ) → NodeTableArgs ks m → length b ≡ m → i < length ks
     → UpsWritten ks i b₀ b → TurnArgs b i (getD ks i 0)
 turn-room ks i m b₀ b args lb h all =

@@ -2,7 +2,7 @@
 --
 -- every n f == whether f holds of every number below n
 -- rowIs s b v f == whether node v's map in table b of s states is f
--- nearEntry table base stride q == the rule's value for state q, where the values stand `stride` apart from `base` on
+-- nearEntry table base stride q == the rule's value for state q, where the values begin at `base`, `stride` apart
 use Prim.Native.Nat.{ℕ, zero, suc, _+_, _*_}
 use mathlib.Core.Bool.{Bool, true, _&&_}
 use mathlib.Core.List.{List}

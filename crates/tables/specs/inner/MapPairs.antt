@@ -1,4 +1,4 @@
--- The maps of a node's two children, written at the parent's turn.
+-- The maps of a node's two children, written in the parent's iteration.
 --
 -- PairTo s f g r l i before after == the first i bytes of node r's map are f's, of node l's are g's, and no other byte is
 --   changed
@@ -9,11 +9,11 @@
 -- PairsWritten s t f i before after == the root, and the nodes whose parent is i or a later one, have the maps f, and
 --   no byte outside the maps is changed
 -- Pairs ks ls b inn s k i before after == that, for the tree and the rule tables that the table before is prepared for
--- BlockMapped .. b e before after == the inner nodes b, .. e - 1 have had their turns
+-- BlockMapped .. b e before after == the inner nodes b, .. e - 1 are done
 -- NearPairArgs, FarPairArgs, PairArgs, BlockArgs == what the writers need
 --
--- A node's parent stands after it, so a pass from the last inner node down has the maps of a node and of its jump at
--- the node's turn.
+-- A node's parent comes after it, so a pass from the last inner node down has the maps of a node and of its jump when
+-- it comes to the node.
 use Prim.Native.Nat.{ℕ, _+_, _-_, _*_, _≤_, _<_}
 use mathlib.Core.Path.{_≡_}
 use mathlib.Core.Bool.{cond}
@@ -99,7 +99,7 @@ Pairs ks ls b inn s k i before after =
     (lv mk : List ℕ) (t : Tree) → Prepared s k lv inn mk t ks ls b before
     → PairsWritten s t (stateMap (treeAutomaton s k lv inn mk) t) i before after
 
--- whatever buffer the pass began with
+-- for any initial buffer
 abbrev pub BlockMapped : List ℕ → List ℕ → List ℕ → List ℕ → ℕ → ℕ → ℕ → ℕ → List ℕ → List ℕ → Type 0
 BlockMapped ks ls b inn s k from to before after =
     (first : List ℕ) → Pairs ks ls b inn s k to first before → Pairs ks ls b inn s k from first after

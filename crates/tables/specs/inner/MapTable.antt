@@ -1,6 +1,6 @@
 -- The maps of a whole table of states, for any maps f: what a loop from the last node down to the first leaves.
 --
--- NoMap s n j == place j is outside the maps of n nodes
+-- NoMap s n j == index j is outside the maps of n nodes
 -- MapsWritten s n f i before after == the nodes i, .. n - 1 have the maps f, and no byte outside the maps is changed
 use Prim.Native.Nat.{ℕ, _+_, _*_, _≤_, _<_}
 use mathlib.Core.Path.{_≡_}

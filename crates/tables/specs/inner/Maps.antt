@@ -3,14 +3,13 @@
 -- Prepared s k lv inn mk t ks ls b e == kinds ks, labels ls and links b are the tree's, and the state bytes of e are
 --   its run's
 -- Mapped A t i before after == the nodes from i on have their maps, and no byte outside the maps is changed
--- nearBase, nearStep == where node v's step to its parent stands in the inner states: entry q at
---   nearBase + q * nearStep
+-- nearBase, nearStep == where node v's step to its parent is in the inner states: entry q at nearBase + q * nearStep
 -- nearValue == that entry
 -- Maps ks ls b inn s k i before after == Mapped, for the tree and the rule tables that the table before is prepared for
 -- MapArgs == what fill_maps needs
 --
--- A node is its parent's right child exactly where its number is one less. How both children's maps are written at
--- their parent's turn is MapPairs.
+-- A node is its parent's right child exactly where its number is one less. How both children's maps are written in
+-- their parent's iteration is in MapPairs.
 use Prim.Native.Nat.{ℕ, _+_, _-_, _*_, _≤_, _<_}
 use mathlib.Core.Path.{_≡_}
 use mathlib.Core.Bool.{cond}
@@ -42,7 +41,7 @@ Mapped A t i before after = MapsWritten (A .states) (size t) (stateMap A t) i be
 
 -- ---- one node
 
--- of a right child the left sibling's state and the label stand first, of a left child the right sibling's state last
+-- for a right child the left sibling's state and the label come first, for a left child the right sibling's state last
 abbrev pub nearBase : List ℕ → List ℕ → ℕ → ℕ → ℕ → ℕ → ℕ → ℕ
 nearBase b st s k v p a =
     cond (eqb (v + 1) p) ((stateCell s st (v - sizeCell b v) * k + a) * s) (a * s + stateCell s st (p - 1))

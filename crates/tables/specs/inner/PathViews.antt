@@ -1,4 +1,4 @@
--- What the functions of a climb are lent: runs of plan and rules, with the limits that keep every read inside.
+-- The inputs of a climb's functions: runs of plan and rules, with the limits that keep every read inside.
 --
 -- pathView n s k ls inn nodeTable bytes == what a climb reads: labels, inner states and the two tables, no kinds and no leaf
 --   states

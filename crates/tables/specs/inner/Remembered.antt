@@ -3,10 +3,10 @@
 -- moveOf c == the move that the number c remembers: of node c / 2, by the jump where c is odd
 -- remembered codes c == the moves of the first c numbers
 -- prefixed ms o == the moves ms and then those of o
--- Noted F v to x == x is the next move from v to depth `to` and where it leads, or tells that there is none
--- Noticed .. from to codes x == x tells of the climb from node `from` to depth `to`: its first moves, remembered in
---   codes, and the node where they lead, from where it goes on; or that there is no climb
--- entryOf s m x r == r stands for entry x of the map m, no state where x or that entry is none
+-- Noted F v to x == x is the next move from v to depth `to` and where it leads, or says that there is none
+-- Noticed .. from to codes x == x describes the climb from node `from` to depth `to`: its first moves, remembered in
+--   codes, and the node that they lead to, from which the climb goes on; or x says that there is no climb
+-- entryOf s m x r == r is entry x of the map m, no state where x or that entry is none
 -- Folded s m f c out == the first c entries of out are f and then the map m
 -- NoteArgs, StateArgs, RememberArgs, FoldArgs, ReplayArgs == limits, and runs that are long enough
 use Prim.Native.Nat.{ℕ, zero, suc, _+_, _*_, _/_, _%_, _≤_, _<_}

@@ -3,7 +3,7 @@
 -- RowTo s f v i before after == the first i bytes of node v's map are f's, and no other byte is changed
 -- Rowed s f v before after == node v's map is f's, and no other byte is changed
 -- farCell s b p j table base stride q == what the maps of p and then j make of the table's entry at base + q * stride
--- NearArgs, FarArgs, SameArgs == what the three writers of a row need: places inside their lists, values below s
+-- NearArgs, FarArgs, SameArgs == what the three writers of a row need: indices inside their lists, values below s
 use Prim.Native.Nat.{ℕ, _+_, _*_, _≤_, _<_}
 use mathlib.Core.Path.{_≡_}
 use mathlib.Core.List.{List}

@@ -4,12 +4,12 @@
 --   the state is 0
 -- Sizes ks b == the table of links b has the sizes of the tree with kinds ks
 -- Ran A t i before after == the state bytes of the nodes below i are the run's, and no byte but a state byte is changed
--- Runs s k lv inn ks ls i before after == that, for the tree with kinds ks and labels ls, whatever the marks are
+-- Runs s k lv inn ks ls i before after == that, for the tree with kinds ks and labels ls, for any marks
 -- RanTo A t i e before after == the state bytes of the leaves below e are the run's, and of the inner nodes below e
 --   those
 --   below i; RunsTo == that, for the tree with kinds ks and labels ls
 -- Leaves s lv ls b e before after == the state bytes of b, .. e - 1 are those of leaves with their labels
--- BlockRun .. b e before after == the nodes b, .. e - 1 have their states, whatever buffer the pass began with
+-- BlockRun .. b e before after == the nodes b, .. e - 1 have their states, for any initial buffer
 -- StateArgs == what run_states needs; LeafArgs, RunBlockArgs == what its parts need
 -- innerState == the rule at an inner node, from its children's state bytes; RuleArgs, InnerArgs == what it needs
 use Prim.Native.Nat.{ℕ, _+_, _-_, _*_, _≤_, _<_}

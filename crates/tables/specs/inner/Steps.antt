@@ -2,7 +2,7 @@
 --
 -- stepOn X v to q == the node that the next move from v to depth `to` leads to, with what it makes of state q; none
 --   where there is no move, or a value read leads outside the states or the labels
--- landed s x == a node and its state as they are told: none where the number told is not below s
+-- landed s x == a node and its state as they are returned: none where the number returned is not below s
 -- ClimbArgs .. == v is one of the nodes and q a state; ParentArgs .. == so is p one of the nodes
 use Prim.Native.Nat.{ℕ, _<_}
 use mathlib.Core.Bool.{cond}

@@ -1,4 +1,4 @@
--- A table of states and maps, for any states g and maps f, and the tests of a lent one.
+-- A table of states and maps, for any states g and maps f, and the tests whether a buffer has it.
 --
 -- tableOf s n g f == the table: for each of n nodes v the state g v, then the s entries of the map f v
 -- statesSame s n g b == whether the state bytes of b are g's

@@ -3,10 +3,10 @@
 -- TableArgs ks ls b lv inn s k m == what writing a whole table of states needs: the run's needs, and a table of links
 --   as built
 -- StatesOver s k lv inn ks ls before after == the buffer begins with the state table of the tree with kinds ks and
---   labels ls, whatever the marks are, and its excess is as before
+--   labels ls, for any marks, and its excess is as before
 -- Passed p r nodeTable bytes == plan and rule table pass 2 to 10, and the buffers are long enough
--- BuildArgs p r n s k nodeTable bytes == besides, n, s and k are their N, S and K, with the lengths that the parts handed
---   on go by
+-- BuildArgs p r n s k nodeTable bytes == besides, n, s and k are their N, S and K, with the lengths that cut out the
+--   parts handed on
 -- BothWritten p r nodeTable bytes nodeTable′ bytes′ == both buffers begin with the tables built from p and r, and their excess is
 --   as before
 use Prim.Native.Nat.{ℕ, _≤_, _<_}

@@ -1,7 +1,7 @@
 -- The cells of a table of links: four 16-bit numbers for each node in node order.
 --
 -- parentCell b v, jumpCell b v, depthCell b v, sizeCell b v == what table b says of node v; 0 past its end
--- cellForest n b == the parents, jumps and depths of n nodes as table b has them: what a climb on a lent table follows
+-- cellForest n b == the parents, jumps and depths of n nodes as table b has them: what a climb on any table follows
 -- isInSubtreeOn b c v == by table b's size of node c: whether node v is c or below it
 -- NodeTableArgs ks m == kinds of a tree within the limit, and a buffer of m numbers that has room for its table
 use Prim.Native.Nat.{ℕ, _+_, _*_, _≤_}

@@ -5,8 +5,8 @@
 -- UpTo t i b == the sizes of the nodes below i, and the parents of those whose parent is below i
 -- DownFrom t i b == the depths and the jumps of the nodes from i on: what the pass down writes or checks
 -- Parents t n b == t has n nodes and b has their parents
--- Beside k l n j == place j is neither cell k nor cell l of one of the first n nodes
--- UpWritten t i before after, DownWritten t i before after == the same, and no other place changed
+-- Beside k l n j == index j is neither cell k nor cell l of one of the first n nodes
+-- UpWritten t i before after, DownWritten t i before after == the same, and no other cell changed
 --
 -- Not here: the table as one list (trees, Tables); that both say the same is proofs/CellLaws.
 use Prim.Native.Nat.{ℕ, _+_, _*_, _≤_, _<_}

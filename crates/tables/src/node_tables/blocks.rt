@@ -1,5 +1,5 @@
 // Blocks of at most 1,024 nodes, and the list of a block's inner nodes, made without a branch on the kind. Passes over
-// inner nodes go by it.
+// inner nodes use this list.
 ghost use mathlib.Core.Path.{_≡_};
 ghost use Prim.Native.Nat.{_+_, _≤_, _<_};
 ghost use lib.ListN.{length};
@@ -13,8 +13,8 @@ pub fn block_end(b: usize, n: usize) -> usize
     if b + 1024 < n { b + 1024 } else { n }
 }
 
-// Lists the inner nodes of b, .. e - 1 in rising order, and tells how many they are. A leaf is listed too, and the next
-// node over it.
+// Lists the inner nodes of b, .. e - 1 in rising order, and returns their number. A leaf is written too, and the next
+// node overwrites it.
 pub fn list_inner(kinds: &[u8], b: usize, e: usize, list: &mut [u16]) -> usize
     requires { ⌜ ListArgs (now kinds) b e (length (now list)) ⌝ }
     ensures { λ r. ⌜ Listed (now (kinds .entry)) b e r (now (list .exit)) ⌝ }

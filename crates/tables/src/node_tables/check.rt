@@ -1,5 +1,5 @@
 // The full check of a table of links: both passes, comparing where the build writes.
-// The first difference ends it, since what comes after would be read by what is wrong.
+// The first difference ends it, since what comes after would be read by wrong values.
 use crate::node_tables::down::child_jump;
 use crate::node_tables::jump_lengths::jump_lengths;
 use crate::node_tables::up::inner_size;

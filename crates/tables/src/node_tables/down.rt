@@ -35,7 +35,7 @@ pub fn child_jump(node_table: &[u16], lengths: &[u16; 1024], p: usize) -> u16
     by_distances(node_table, p)
 }
 
-// Node v's turn: its jump and its depth, from its parent's.
+// The iteration for node v: its jump and its depth, from its parent's.
 fn write_node(node_table: &mut [u16], lengths: &[u16; 1024], v: usize)
     requires { ⌜ NodeArgs (now «node_table») v × (now lengths ≡ jumpLengths) ⌝ }
     ensures { λ _. ⌜ now («node_table» .exit) ≡ nodeIteration (now («node_table» .entry)) v ⌝ }

@@ -7,7 +7,7 @@ ghost use lib.Dec.{eqb};
 ghost use lib.ListN.{getD};
 ghost use Rattle.tables.specs.node_tables.JumpLengths.{jumpLengths};
 
-// The length of the jump of a node at depth d stands at d.
+// Entry d is the length of the jump of a node at depth d.
 const JUMP_LENGTHS: [u16; 1024] = [
     0,
     1,
@@ -1035,7 +1035,7 @@ const JUMP_LENGTHS: [u16; 1024] = [
     1023,
 ];
 
-// The whole table. A constant is copied where it is named, so a pass calls this once and lends the copy.
+// The whole table. A constant is copied wherever it is named, so a pass calls this once and passes the copy on.
 pub fn jump_lengths() -> [u16; 1024]
     ensures { λ r. ⌜ r ≡ jumpLengths ⌝ }
 {

@@ -1,4 +1,4 @@
-// One move of a climb on lent numbers, whatever they hold, and single cells of a table of links.
+// One move of a climb on a table of links with any values, and single cells of such a table.
 ghost use mathlib.Core.Path.{_≡_};
 ghost use Prim.Native.Nat.{_+_, _*_, _≤_, _<_};
 ghost use lib.ListN.{length};

@@ -6,7 +6,7 @@ ghost use Rattle.tables.specs.node_tables.Cells.{NodeTableArgs};
 ghost use Rattle.tables.specs.node_tables.NodeCells.{AllUpWritten};
 ghost use Rattle.tables.specs.node_tables.inner.UpPass.{leftOf, innerSize, upIteration, InnerArgs, TurnArgs};
 
-// The left child of inner node v: it stands before the subtree of the right child, v - 1.
+// The left child of inner node v: it comes just before the subtree of the right child, v - 1.
 pub fn left_child(node_table: &[u16], v: usize) -> usize
     requires { ⌜ InnerArgs (now «node_table») v ⌝ }
     ensures { λ r. ⌜ r ≡ leftOf (now («node_table» .entry)) v ⌝ }
@@ -25,8 +25,9 @@ pub fn inner_size(node_table: &[u16], v: usize) -> u16
     node_table[left * 4 + 3] + node_table[right * 4 + 3] + 1
 }
 
-// Node v's turn, of kind c: its size, and itself as its children's parent. A leaf is taken for its own two children, of
-// size 0 so far: its size comes out as 1, its parent is written at its parent's turn, and nothing hangs on the kind.
+// The iteration for node v of kind c: its size, and itself as its children's parent. A leaf counts as both of its own
+// children, each of size 0 so far: its size comes out as 1, and its parent is written in its parent's iteration. So
+// there is no branch on the kind.
 fn write_up_node(node_table: &mut [u16], v: usize, c: usize)
     requires { ⌜ TurnArgs (now «node_table») v c ⌝ }
     ensures { λ _. ⌜ now («node_table» .exit) ≡ upIteration (now («node_table» .entry)) v c ⌝ }

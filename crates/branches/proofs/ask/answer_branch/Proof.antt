@@ -19,7 +19,7 @@ use Rattle.branches.proofs.ask.first_state.Reads as first-state-reads
 use Rattle.tables.proofs.replays.replay_climb.Reads as replay-climb-reads
 use Rattle.branches.proofs.AskAnswer.{first-args, replay-args, state-in, answer-first, answer-told}
 
--- what the lent headers and lengths say
+-- what the given headers and lengths say
 fit : (s : tie.Start) → let g = s .args in
     Headed branchTables (g .plan .now) (g .branch .now) (length (g .node-table .now)) (length (g .state-table .now))
 fit s = headed-are _ _ _ _ _ (s .pre .fits)

@@ -28,7 +28,7 @@ entered s = s .pre
 pos : (s : tie.Start Inv-loop μ-loop) → 0 < s .args .n
 pos s = args-pos _ _ _ _ _ _ _ (entered s)
 
--- the maps above the node that a turn looks at
+-- the maps above the node that an iteration looks at
 above : (c : tie.In-loop Inv-loop μ-loop)
     → let g = c .before .before .before .before .before .before .before .before .args in
     Mapped (g .labels .now) (g .node-table .now) (g .steps .now) (g .s) (g .k) (g .n) (c .before .loop .v - 1 + 1)

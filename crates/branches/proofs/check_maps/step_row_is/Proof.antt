@@ -20,7 +20,7 @@ Inv-loop stateTable s v p j steps k a at near far same₀ q₀ same q =
 abbrev μ-loop : tie.MeasureT-loop
 μ-loop stateTable s v p j steps k a at near far same₀ q₀ same q = s - q
 
--- what a turn reads
+-- what an iteration reads
 far-below : (c : tie.In-loop Inv-loop μ-loop) → let g = c .before .before .args in
     mapCell (g .s) (g .state-table .now) (g .j) (c .before .loop .q) < g .s
 far-below c = c .before .before .pre .far-below (c .before .loop .q) (c .loop-test .taken)

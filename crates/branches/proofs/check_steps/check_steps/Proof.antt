@@ -32,7 +32,7 @@ root-in : (s : tie.Start Inv-loop μ-loop) → (s .args .n - 1) * (s .args .s + 
 root-in s = state-in (s .args .s) (s .args .n) (s .args .n - 1) (length (s .args .state-table .now)) (omega (arith, pos s))
     (s .pre .room)
 
--- the state bytes above the node that a turn looks at
+-- the state bytes above the node that an iteration looks at
 above : (c : tie.In-loop Inv-loop μ-loop) → let g = c .before .before .before .before .before .before .args in
     Stepped (g .labels .now) (g .node-table .now) (g .steps .now) (g .s) (g .k) (g .n) (c .before .loop .v - 1 + 1)
     (g .state-table .now)

@@ -9,7 +9,7 @@ use borrow.Author.Needs.{needs}
 use Rattle.branches.proofs.maps.node_map.Statement.{statement}
 use Rattle.branches.proofs.maps.node_map.Tie as tie
 
--- the map of as many states as the test told
+-- the map for the number of states that the test returned
 by-count : {s x : ℕ} → x ≡ s → (ls nodeTable st : List ℕ) (k v : ℕ) (b after : List ℕ)
     → Rowed x (nodeMap ls nodeTable st x k b v) v b after → Rowed s (nodeMap ls nodeTable st s k b v) v b after
 by-count e ls nodeTable st k v b after =

@@ -20,7 +20,7 @@ Inv-loop bytes₀ s v p j steps k a at near far q₀ stateTable q =
 abbrev μ-loop : tie.MeasureT-loop
 μ-loop bytes₀ s v p j steps k a at near far q₀ stateTable q = s - q
 
--- what a turn reads
+-- what an iteration reads
 far-below : (c : tie.In-loop Inv-loop μ-loop) → let g = c .before .before .args in
     mapCell (g .s) (c .before .loop .state-table) (g .j) (c .before .loop .q) < g .s
 far-below c =

@@ -3,7 +3,7 @@
 -- placeAt n z == the copy of that number; numberedPlace n z == the same, none for a number above n
 -- finishOn s mk bytes l c d n == what is answered at the end of a way down to node l: colour c, d drops and n links
 -- StartArgs, RowArgs, WayArgs, EndArgs == what the steps read is inside its lists
--- AnswerArgs p r nodeTable numbers bytes u l == what the lent headers and lengths say where 17 and 13 pass
+-- AnswerArgs p r nodeTable numbers bytes u l == what the given headers and lengths say where 17 and 13 pass
 use Prim.Native.Nat.{ℕ, _+_, _*_, _≤_, _<_}
 use mathlib.Core.Path.{_≡_}
 use mathlib.Core.Bool.{true, cond}

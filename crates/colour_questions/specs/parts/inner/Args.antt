@@ -1,4 +1,4 @@
--- What the functions of a part are lent, and what they promise.
+-- What the functions of a part require, and what they promise.
 --
 -- colourView n s k .. == the view of all runs
 -- SideReads == what a side reads is inside; SideArgs, ForkArgs, LeafArgs, PartArgs == besides, what each function reads

@@ -1,4 +1,4 @@
--- The next drop on lent numbers, as the code gives it.
+-- The next drop on given numbers, as the code gives it.
 --
 -- droppingOf o == the answer for the next drop o
 -- NextDone n table c to l r == r is the next drop by colour c's table; a drop's node is one of the n and its links are

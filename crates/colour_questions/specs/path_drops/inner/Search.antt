@@ -1,9 +1,9 @@
--- A search on a lent table: a climb, given by the node it ends at and the number of its moves.
+-- A search on a given table: a climb, given by the node it ends at and the number of its moves.
 --
 -- nextNode F o == the node that the move o leads to; the number of nodes where there is none
 -- searchOn F v t == the end of the climb from node v to depth t, and its moves; none where it would leave the nodes
 --   or not rise
--- searchedOf o == the same as the code tells it
+-- searchedOf o == the same as the code returns it
 use Prim.Native.Nat.{ℕ}
 use mathlib.Core.Bool.{true, false}
 use mathlib.Core.Option.{Option, none, some}

@@ -1,4 +1,4 @@
--- What the functions of a rule question by colours are lent, and what they promise.
+-- What the functions of a rule question by colours require, and what they promise.
 --
 -- AllArgs == what all parts read is inside, and the roots are nodes, at most 254; AllDone L vs bs ms r == r is what
 --   comes of all parts of the roots ms, with at most 60 drops for each

@@ -2,7 +2,7 @@
 --
 -- RowOf k f row == the first k of a row are f's values
 -- aboveCell .. v c == state of colour c in the copy above node v: its parent's, from `base` on, or the top copy's own
--- PutTo row at k before after == the first k of a row stand from `at` on, and no other byte is changed
+-- PutTo row at k before after == the first k of a row are in `after` from `at` on, and no other byte is changed
 -- LandedTo lands n v k before after == the landings of colours 1, .. k - 1 at node v are those given, and no other
 --   number is changed
 -- Turned led .. v == the copy of node v and its landings, where `led` has the states that those above lead to

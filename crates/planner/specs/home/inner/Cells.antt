@@ -1,4 +1,4 @@
--- The stack of the loop that reads a plan from the right, and what it has written, as they stand in the file's buffer;
+-- The stack of the loop that reads a plan from the right, and what it has written, as they are in the file's buffer;
 -- the contracts of its functions.
 --
 -- heldAt q n i == entry i of the stack: label without bit 6, count, and bit 6; stackOf q n d == the first d entries,
@@ -6,7 +6,7 @@
 -- cellsFrom q base n i == the cells i to n - 1 of the run that begins at base
 -- homeNow xs run q n d left == the state at the end, from the nodes xs still to be read, the buffer q, a stack of d
 --   entries, and `left` inner nodes still to be read: what is written begins at cell d + left
--- marked a run == a label as it stands on the stack: with bit 6 for the first of a list
+-- marked a run == a label as it is on the stack: with bit 6 for the first of a list
 -- Kept n p q == only the two runs differ
 use Prim.Native.Nat.{ℕ, zero, suc, _+_, _-_, _*_, _%_, _≤_, _<_}
 use mathlib.Core.Path.{_≡_}

@@ -1,6 +1,6 @@
--- How many inner nodes stand in a row.
+-- How many inner nodes are in a row.
 --
--- runAfter k run == the run after a node of kind k, where `run` inner nodes stand in a row before it
+-- runAfter k run == the run after a node of kind k, where `run` inner nodes are in a row before it
 use Prim.Native.Nat.{ℕ, zero, suc, _+_}
 
 abbrev pub runAfter : ℕ → ℕ → ℕ

@@ -1,4 +1,4 @@
--- The stack of the loop that writes places, as it stands in the plan's buffer, and the contracts of its functions.
+-- The stack of the loop that writes places, as it is in the plan's buffer, and the contracts of its functions.
 --
 -- entryAt p i == entry i: number in two bytes, siblings to come, 1 for the first of a list
 -- stackOf p d == the first d entries, the last of them on top

@@ -1,5 +1,6 @@
--- `probes::places::read_at` meets its contract: a walk of its MIR, by hand. The record is copied into a local, which is lent by `&` for a
--- new lifetime to the call in place. When that has returned the lifetime is ended, and the local is had again as it was.
+-- `probes::places::read_at` meets its contract: a walk of its MIR, by hand. The record is copied into a local, which
+-- the call in place borrows by `&` for a new lifetime. When that has returned the lifetime is ended, and the local is
+-- owned again as it was.
 use mathlib.Core.Path.{_≡_, refl}
 use Prim.Native.Nat.{ℕ}
 use mathlib.Core.List.{[], _∷_, List}
@@ -120,14 +121,14 @@ module _ {M : Type 1} (𝓤 : URA M) (H : Heap 𝓤) (A : Atoms 𝓤) (W : Given
         assigns ! (of-opd ! (load ! (from ! (stop !)) (look ! 4 refl))) (from ! (stop !))
         (init ! 2 refl (LL.lawful T.the-type T′.the-laws 𝓤 H A W .typed h _ g .0)) $
         assigns ! (addr ! (from ! (stop !))) (from ! (stop !)) (init ! 0 refl (tt, tt)) $
-        -- the local is lent for a new lifetime
+        -- the local is borrowed for a new lifetime
         move ! (2 ∷ []) $ owned ! T.the-row (Is T.the-row) (LL.makes T.the-type T′.the-plain 𝓤 H A) h (vals h) g $
         move ! (1 ∷ 0 ∷ []) $
         use2 W (‵ (partAt T.the-row fullShare h l₂ 0)) (part-in-at 𝓤 H A W T.the-row refl fullShare h l₂ 0 _ refl _) $
         lft-new ! tt (λ α. move ! (1 ∷ []) $
         use1 W (later (some (λ (δ : GName). ‵ (Inputs l₂ α δ) ⊛ ‵ (flent (α ∷ []) (partAt T.the-row fullShare h l₂ 0)))))
         (lends-shr 𝓤 H A W T.the-row (named 0) (α ∷ []) fullShare h l₂ 0) $ await ! tt $ pick ! (λ δ. split ! $
-        -- [the reference; what is lent; the token; 3 the last local; ..]
+        -- [the reference; what is borrowed; the token; 3 the last local; ..]
         move ! (2 ∷ 0 ∷ []) $ use2 W (raw (Step 𝓤 H A at-mem run .pre (to-step l₂ α δ))) (goes-step l₂ α δ) $
         -- the call in place
         calls-at ! fm (Step 𝓤 H A at-mem run) known (to-step l₂ α δ) (and-then ! (load ! (from ! (stop !)) (look ! 2 refl)) (no-more !)) (λ v.
@@ -135,9 +136,9 @@ module _ {M : Type 1} (𝓤 : URA M) (H : Heap 𝓤) (A : Atoms 𝓤) (W : Given
         (id⊢ 𝓤 _) $ await ! tt $
         pick ! (λ r. split ! $ move ! (1 ∷ []) $ use1 W (raw (fact 𝓤 (Holds r))) (said l₂ α δ r) $ heard ! (Holds r) (λ e. split ! $
         move ! (1 ∷ []) $ peeks ! E.the-row (Is E.the-row) (shows 𝓤 H A E.the-row) r (v ∷ []) (λ is.
-        -- [the answer; the tokens; what is lent; 3 the last local; ..; 8 room for _0]
+        -- [the answer; the tokens; what is borrowed; 3 the last local; ..; 8 room for _0]
         land ! (from ! (stop !)) (init ! 8 refl (EL.lawful E.the-type E′.the-laws 𝓤 H A W tt .typed r _ is .0)) $
-        -- the lifetime is ended, and the local is had again
+        -- the lifetime is ended, and the local is owned again
         move ! (1 ∷ []) $ split ! $ lft-end ! tt $ move ! (0 ∷ 3 ∷ []) $ lent-back ! tt $
         use1 W (some (λ (u : Val). ‵ (fat fullShare T′.mir l₂ 0 u) ⊛ ‵ (T.the-row .own h (u ∷ []))))
         (part-out-at 𝓤 H A W T.the-row refl fullShare h l₂ 0 T′.mir refl) $ pick ! (λ u. split ! $

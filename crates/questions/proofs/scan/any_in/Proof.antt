@@ -1,4 +1,4 @@
--- `any_in` meets its contract: at each turn the answer so far or any of the rest.
+-- `any_in` meets its contract: at each iteration the answer so far or any of the rest.
 use Prim.Native.Nat.{_+_, _-_, _≤_}
 use mathlib.Core.Path.{_≡_, refl, sym, ap, _∙_}
 use mathlib.Core.Bool.{Bool, _||_}

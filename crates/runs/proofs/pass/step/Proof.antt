@@ -1,4 +1,4 @@
--- The turn of a node meets its contract: the laws of a leaf and of an inner node are in proofs/PassLoop.
+-- The iteration of a node meets its contract: the laws of a leaf and of an inner node are in proofs/PassLoop.
 use Prim.Native.Nat.{_≤_}
 use native.Mathlib.Omega.{arith}
 use lib.ListN.{length-set}

@@ -1,4 +1,5 @@
--- The turns up to the next mark meet their contract, which holds before each turn. The measure is what is left of the nodes.
+-- The iterations up to the next mark meet their contract, which holds before each of them. The measure is the number
+-- of nodes left.
 use Prim.Native.Nat.{ℕ, _-_, _<_}
 use mathlib.Core.Path.{_≡_, refl, sym, ap, _∙_}
 use native.Mathlib.Omega.{arith}
@@ -18,7 +19,7 @@ abbrev μ-loop : tie.MeasureT-loop
 abbrev entered : tie.At-loop Inv-loop μ-loop → tie.Start Inv-loop μ-loop
 entered l = l .before .before .before .before .before .before .before
 
--- the mark of the turn's node
+-- the mark of the iteration's node
 mark-here : (c : tie.Then1 Inv-loop μ-loop)
     → let l = c .before .before in
     getD (entered l .args .marks .now) (l .loop .waiting .node - entered l .args .from) 0 ≡ 255
@@ -27,7 +28,7 @@ mark-here c =
     let s = entered l in
     ap (λ (u : ℕ). getD (s .args .marks .now) (u - s .args .from) 0) (sym (l .loop .inv .0)) ∙ c .if1 .taken
 
--- the turn's node is one of the plan's
+-- the iteration's node is one of the plan's
 inside : (c : tie.Then1 Inv-loop μ-loop) → let l = c .before .before in l .loop .v < length (entered l .args .kinds .now)
 inside c =
     let l = c .before .before in

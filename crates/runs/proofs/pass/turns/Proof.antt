@@ -1,5 +1,5 @@
--- The turns of the nodes whose changes are marked meet their contract: `Passed` holds before each turn. The measure is what is
--- left of them.
+-- The iterations of the nodes whose changes are marked meet their contract: `Passed` holds before each of them. The
+-- measure is the number of nodes left.
 use Prim.Native.Nat.{ℕ, _-_, _≤_, _<_}
 use mathlib.Core.Path.{_≡_, refl, ap, _∙_}
 use native.Mathlib.Omega.{arith}
@@ -22,7 +22,7 @@ entered l = l .before .before .before .before .before .before .before
 before-end : (c : tie.In-loop Inv-loop μ-loop) → let l = c .before in l .loop .waiting .node < entered l .args .to
 before-end c = omega (arith, c .loop-test .taken, c .before .loop .inv .0)
 
--- the label of the turn, and its bound
+-- the label of the iteration, and its bound
 label-is : (c : tie.After-label-at Inv-loop μ-loop)
     → let l = c .before .before in
     let s = entered l in

@@ -161,7 +161,7 @@ module _ {M : Type 1} (𝓤 : URA M) (H : Heap 𝓤) (A : Atoms 𝓤) (W : Given
   abbrev k : ℕ
   k = a .1 .0
 
-  -- what is owned of what is lent beside it, and the tokens of its lifetimes
+  -- what is owned of the slices passed beside it, and the tokens of their lifetimes
   abbrev Slices : Fml
   Slices = owns (kinds κs lends) (a .1 .1) (passed lends D.the-row κs a .1 .1)
 
@@ -297,7 +297,7 @@ module _ {M : Type 1} (𝓤 : URA M) (H : Heap 𝓤) (A : Atoms 𝓤) (W : Given
       (inputsOf (now (a .1 .1 .0)) (now (a .1 .1 .1 .0)) (now (a .1 .1 .1 .1 .0)) (now (a .1 .1 .1 .1 .1 .0))))
       (advanceAnswer (r .answer)) (r .session)
 
-  -- what is told of it
+  -- the answer of the deal
   abbrev to-tell : Advanced → ℕ → Tell 𝓤 H A at-mem run .Ghost
   to-tell r f = (
     (
@@ -575,7 +575,7 @@ module _ {M : Type 1} (𝓤 : URA M) (H : Heap 𝓤) (A : Atoms 𝓤) (W : Given
         (Is O.the-row) (shows 𝓤 H A O.the-row) r (v ∷ []) (λ is.
         land ! (from ! (stop !)) (init ! 49 refl (LL.lawful O.the-type O′.the-laws 𝓤 H A W .typed r _ is .0)) $
         rewrite ! 49 (λ (u : Val). ‵ (fat fullShare O′.mir l₉ 0 u)) (spelled O.the-type O′.the-laws r v is) refl $
-        -- the record is stored, the answer told
+        -- the record is stored, the answer returned
         assigns ! (bin ! (load ! (from ! (stop !)) (look ! 53 refl)) (lit ! tt) (scaled f inside)) (from ! (stop !))
         (store ! 47 refl (tt, scaled f inside)) $
         assigns ! (bin ! (load ! (from ! (fld ! refl (stop !))) (look-in ! 65 (sub ! 0 refl (whole !))))

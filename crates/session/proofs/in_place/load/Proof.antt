@@ -87,7 +87,7 @@ module _ {M : Type 1} (𝓤 : URA M) (H : Heap 𝓤) (A : Atoms 𝓤) (W : Given
   abbrev o : ℕ
   o = ptr (a .0) .1
 
-  -- what is owned of what is lent beside it, and the tokens of its lifetimes
+  -- what is owned of the slices passed beside it, and the tokens of their lifetimes
   abbrev Slices : Fml
   Slices = owns (kinds κs lends) (a .1) (passed lends E.the-row κs a .1)
 
@@ -132,7 +132,7 @@ module _ {M : Type 1} (𝓤 : URA M) (H : Heap 𝓤) (A : Atoms 𝓤) (W : Given
         -- 29 Slices; Tokens]
         assigns ! (of-opd ! (load ! (from ! (hop ! (look ! 25 refl) (stop !))) (look-raw ! 0 refl))) (from ! (stop !))
         (init ! 15 refl (LL.lawful T.the-type T′.the-laws 𝓤 H A W .typed h _ g .0)) $
-        -- the slices to write are lent on
+        -- the slices to write are reborrowed for the call
         assigns ! (addr ! (from ! (fld ! refl (hop ! (look-in ! 19 (sub ! 0 refl (whole !))) (stop !))))) (from ! (stop !))
         (init ! 11 refl (tt, tt)) $
         assigns ! (agg ! (and-then ! (load ! (from ! (stop !)) (look ! 11 refl))

@@ -1,4 +1,5 @@
--- `climb_state` meets its contract: at each turn the rest of the climb gives the whole climb's answer. The depth falls.
+-- `climb_state` meets its contract: before each iteration the rest of the climb gives the whole climb's answer. The
+-- depth falls.
 use Prim.Native.Nat.{ℕ, _+_, _-_, _*_, _<_}
 use mathlib.Core.Path.{ap₂}
 use native.Mathlib.Omega.{arith}

@@ -1,4 +1,4 @@
--- `step_on` meets its contract, by the move that `next_move` tells.
+-- `step_on` meets its contract, by the move that `next_move` returns.
 use Prim.Native.Nat.{_+_, _*_, _<_}
 use mathlib.Core.Path.{refl, sym, _∙_}
 use native.Mathlib.Omega.{arith}

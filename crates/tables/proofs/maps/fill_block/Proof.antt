@@ -1,5 +1,5 @@
--- `maps::fill_block` meets its contract. The loop's invariant: whatever buffer the pass began with, the inner nodes
--- after the first i listed ones have had their turns.
+-- `maps::fill_block` meets its contract. The loop's invariant, for any initial buffer: the inner nodes after the first
+-- i listed ones are done.
 use Prim.Native.Nat.{ℕ, _+_, _-_, _≤_, _<_}
 use mathlib.Core.Path.{_≡_, refl, ap, _∙_, subst}
 use mathlib.Core.List.{List}

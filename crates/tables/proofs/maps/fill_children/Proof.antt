@@ -9,7 +9,7 @@ use borrow.Author.Needs.{needs}
 use Rattle.tables.proofs.maps.fill_children.Statement.{statement}
 use Rattle.tables.proofs.maps.fill_children.Tie as tie
 
--- the maps of as many states as the test told
+-- the maps for the number of states that the test found
 by-count : {s x : ℕ} → x ≡ s → (ls b inn : List ℕ) (k v : ℕ) (st after : List ℕ)
     → PairRowed x (rightValue ls b inn x k st v) (leftValue ls b inn x k st v) (v - 1) (leftOf b v) st after
     → PairRowed s (rightValue ls b inn s k st v) (leftValue ls b inn s k st v) (v - 1) (leftOf b v) st after

@@ -1,5 +1,5 @@
--- `maps::fill_maps` meets its contract. The loop's invariant: e is a whole number of blocks, and whatever buffer the
--- pass began with, the inner nodes from e on have had their turns.
+-- `maps::fill_maps` meets its contract. The loop's invariant, for any initial buffer: e is a whole number of blocks,
+-- and the inner nodes from e on are done.
 use Prim.Native.Nat.{ℕ, _-_, _≤_, _%_}
 use mathlib.Core.Path.{_≡_, refl, subst}
 use mathlib.Core.List.{List}

@@ -32,7 +32,7 @@ left-in s =
 right-in : (s : tie.Start) → (s .args .v - 1) * (s .args .s + 1) < length (s .args .state-table .now)
 right-in s = state-in s (s .args .v - 1) (omega (arith, s .pre .inside))
 
--- and a rule's place is small
+-- and a rule's index is small
 left-state-below : (s : tie.Start)
     → stateCell (s .args .s) (s .args .state-table .now) (leftOf (s .args .node-table .now) (s .args .v)) < s .args .s
 left-state-below s =

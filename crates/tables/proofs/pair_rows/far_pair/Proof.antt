@@ -19,7 +19,7 @@ Inv-loop bytes₀ s v j right left table row col step a b near far q₀ stateTab
 abbrev μ-loop : tie.MeasureT-loop
 μ-loop bytes₀ s v j right left table row col step a b near far q₀ stateTable q = s - q
 
--- what a turn reads and writes
+-- what an iteration reads and writes
 turn : (c : tie.In-loop Inv-loop μ-loop) → FarTurn (c .before .before .args .s) (c .before .before .args .v)
     (c .before .before .args .j) (c .before .before .args .right) (c .before .before .args .left) (c .before .loop .q)
     (c .before .before .args .table .now) (c .before .before .args .row) (c .before .before .args .col)

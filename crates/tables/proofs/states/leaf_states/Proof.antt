@@ -18,7 +18,7 @@ Inv-loop labels leaves s b e bytes₀ v₀ stateTable v =
 abbrev μ-loop : tie.MeasureT-loop
 μ-loop labels leaves s b e bytes₀ v₀ stateTable v = e - v
 
--- the place of the state byte that a turn writes
+-- the index of the state byte that an iteration writes is inside the table
 place-in : (c : tie.In-loop Inv-loop μ-loop)
     → c .before .loop .v * (c .before .before .args .s + 1) < length (c .before .loop .state-table)
 place-in c =

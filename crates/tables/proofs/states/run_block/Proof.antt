@@ -1,5 +1,5 @@
--- `states::run_block` meets its contract. The loop's invariant: whatever buffer the pass began with, the block's leaves
--- and the first i listed inner nodes have their states.
+-- `states::run_block` meets its contract. The loop's invariant, for any initial buffer: the block's leaves and the
+-- first i listed inner nodes have their states.
 use Prim.Native.Nat.{ℕ, _+_, _-_, _*_, _≤_, _<_}
 use mathlib.Core.Path.{_≡_, refl, sym, ap, subst, _∙_}
 use mathlib.Core.List.{List}
@@ -52,7 +52,7 @@ loop-holds c =
           (lf .leaf-states .last .1 .1 .1 .1 .1 .0)) (sym (from-zero (g .b) (li .list-inner .last .1 .1 .1 .0))) W,
     )
 
--- where a turn's facts stand: the function's start, the list, the states as leaves
+-- where the facts of an iteration are: the function's start, the list, the states as leaves
 abbrev start : tie.At-loop Inv-loop μ-loop → tie.Start Inv-loop μ-loop
 start a = a .before .before .before .before .before .before .before .before .before .before .before .before .before
     .before .before .before
@@ -63,7 +63,7 @@ listing a = a .before .before .before
 abbrev leafing : tie.At-loop Inv-loop μ-loop → tie.After-leaf-states Inv-loop μ-loop
 leafing a = a .before .before .before .before .before .before .before
 
--- the listed node of a turn
+-- the listed node of an iteration
 abbrev node : tie.At-loop Inv-loop μ-loop → ℕ
 node a = getD (listing a .list-inner .last .1 .1 .1 .0) (a .loop .i) 0
 

@@ -6,7 +6,7 @@
 -- UpArgs ks b v == what upMatches needs of the table
 -- Tells r P Q == yes gives P, no denies Q
 --
--- Each looks only at what the turns before have compared, so that no cell leads outside the table.
+-- Each reads only what earlier iterations have compared, so that no cell leads outside the table.
 use Prim.Native.Nat.{ℕ, _+_, _-_, _*_, _≤_, _<_}
 use mathlib.Core.Path.{_≡_}
 use mathlib.Core.Bool.{Bool, true, false, cond, _&&_}

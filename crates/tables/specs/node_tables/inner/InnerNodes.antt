@@ -1,9 +1,9 @@
 -- The inner nodes of a block, as a list.
 --
--- from b l i == where the nodes begin that stand after the first i listed ones: after the last of them, or at b
+-- from b l i == where the nodes after the first i listed ones begin: after the last of these, or at b
 -- Listed ks b e c l == the first c elements of l are the inner nodes of b, .. e - 1 by the kinds ks, in rising order:
 --   between two of them, before the first and after the last there are leaves only
--- ListArgs ks b e m == what listing them into m places needs
+-- ListArgs ks b e m == what listing them into m cells needs
 use Prim.Native.Nat.{ℕ, zero, suc, _+_, _-_, _≤_, _<_}
 use mathlib.Core.Path.{_≡_}
 use mathlib.Core.List.{List}

@@ -1,4 +1,4 @@
--- What one move of a climb tells.
+-- The answer of one move of a climb.
 --
 -- nextMoveOf F m == the code's answer for the move m of forest F: by a jump or to a parent, with the node it leads to;
 --   Stuck for none

@@ -18,7 +18,7 @@ leftOf b v = v - 1 - sizeCell b (v - 1)
 abbrev pub innerSize : List ℕ → ℕ → ℕ
 innerSize b v = sizeCell b (leftOf b v) + sizeCell b (v - 1) + 1
 
--- the turn of node v of size s with right child r and left child l
+-- the iteration of node v of size s with right child r and left child l
 abbrev pub iteration : List ℕ → ℕ → ℕ → ℕ → ℕ → List ℕ
 iteration b v s r l = set (set (set b (v * 4 + 3) s) (r * 4) v) (l * 4) v
 

@@ -38,7 +38,7 @@ fits t =
 abbrev taken : tie.After-send-lines-arg3 → tie.After-take-in
 taken c = c .before .before .before .before .before .before .before
 
--- so that part of it may be lent
+-- so that a slice of it may be passed
 slice-part : (c : tie.After-send-lines-arg2) → c .before .before .before .before .before .before .take-in .result .end
     ≤ length (c .before .before .before .before .before .before .take-in .last .1 .1 .1 .1 .1 .1 .1 .1 .0)
 slice-part c = fits (c .before .before .before .before .before .before)
@@ -52,7 +52,7 @@ send-lines-requires c κs =
     let p = entered (read t) .pre in
     lines-sent (p .1 .0) (t .take-in .ensures .0)
 
--- as many bytes are sent as the text has
+-- the number of bytes sent is the text's length
 bytes-sent : (c : tie.After-send-lines) → c .send-lines .result .bytes ≡ taken (c .before) .take-in .result .end
 bytes-sent c = c .send-lines .ensures ∙ length-take-le _ _ (fits (taken (c .before)))
 

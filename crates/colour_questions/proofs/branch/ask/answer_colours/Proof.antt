@@ -22,7 +22,7 @@ use Rattle.colour_questions.proofs.branch.steps.start_colour.Reads as s
 use Rattle.colour_questions.proofs.branch.steps.start_place.Reads as start-place-reads
 use Rattle.formats.proofs.bytes.read32.Reads as read32-reads
 
--- what the lent headers and lengths say
+-- what the given headers and lengths say
 lent : (s : tie.Start) → let g = s .args in
     Fits (g .plan .now) (g .branch .now) (length (g .node-table .now)) (length (g .numbers .now))
     (length (g .bytes .now))

@@ -1,5 +1,5 @@
--- `descend_from` meets its contract: at each turn the rest of the way gives the whole descent's answer. The colour
--- falls.
+-- `descend_from` meets its contract: at each iteration the rest of the way gives the whole descent's answer. The
+-- colour falls.
 use Prim.Native.Nat.{_*_, _≤_}
 use mathlib.Core.Path.{refl}
 use native.Mathlib.Omega.{arith}

@@ -1,4 +1,4 @@
--- `move_on` meets its contract, by the move that `next_move` tells.
+-- `move_on` meets its contract, by the move that `next_move` returns.
 use mathlib.Core.Path.{sym, _∙_}
 use borrow.Author.Needs.{needs}
 use Rattle.trees.specs.Climb.{Forest, nextMove}

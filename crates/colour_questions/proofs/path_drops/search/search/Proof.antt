@@ -1,4 +1,5 @@
--- `search` meets its contract: at each turn the rest of the search gives the whole search's answer. The depth falls.
+-- `search` meets its contract: at each iteration the rest of the search gives the whole search's answer. The depth
+-- falls.
 use Prim.Native.Nat.{_+_, _*_, _<_}
 use native.Mathlib.Omega.{arith}
 use Rattle.trees.specs.Climb.{Forest}

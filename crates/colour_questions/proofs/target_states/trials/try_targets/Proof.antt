@@ -1,4 +1,4 @@
--- `try_targets` meets its contract: at each turn the trials left give the answer of all.
+-- `try_targets` meets its contract: at each iteration the trials left give the answer of all.
 use Prim.Native.Nat.{_-_, _<_}
 use borrow.Author.Tests.{not-true, not-false}
 use Rattle.colour_tables.specs.ColourCells.{copyRow, cellTable}

@@ -1,4 +1,4 @@
--- `write_colour` meets its contract: the rows stand from v on, for every tree and marks so given.
+-- `write_colour` meets its contract: the rows from v on are written, for every tree and marks so given.
 use Prim.Native.Nat.{ℕ, _+_, _-_, _*_, _≤_}
 use mathlib.Core.Path.{_≡_, refl, ap, _∙_, subst}
 use mathlib.Core.Bool.{Bool}
@@ -25,7 +25,7 @@ Inv-loop nums₀ n c v₀ nums v =
 abbrev μ-loop : tie.MeasureT-loop
 μ-loop nums₀ n c v₀ nums v = v
 
--- the tables' room, at every turn
+-- the tables' room, at every iteration
 room : (a : tie.At-loop Inv-loop μ-loop) → let s = a .before .before in
     s .args .c * (s .args .n * 4) + s .args .n * 4 ≤ length (a .loop .nums)
 room a = omega (arith, a .loop .inv .1, a .before .before .pre .room)

@@ -1,4 +1,4 @@
--- `place_of` meets its contract: the state stands at none of the places passed.
+-- `place_of` meets its contract: the state is at none of the places passed.
 use Prim.Native.Nat.{_-_}
 use lib.ListN.{length}
 use Rattle.colour_tables.proofs.rows.PlaceLoop.{Seen, seen-start, seen-next, seen-found, seen-past}

@@ -1,4 +1,4 @@
--- `take_in_turn` meets its contract: after c turns the row is that of the first c colours.
+-- `take_in_turn` meets its contract: after c iterations the row is that of the first c colours.
 use Prim.Native.Nat.{_-_, _^_, _≤_, _<_}
 use mathlib.Core.Path.{_≡_, refl, _∙_}
 use mathlib.Core.Logic.{⊎-elim}

@@ -1,4 +1,4 @@
--- `bit_of` meets its contract: a shift and a mask tell membership.
+-- `bit_of` meets its contract: a shift and a mask give membership.
 use Rattle.colour_tables.proofs.sets.BitLaws.{bit-is}
 use borrow.Author.Needs.{needs}
 use Rattle.colour_tables.proofs.sets.bits.bit_of.Statement.{statement}

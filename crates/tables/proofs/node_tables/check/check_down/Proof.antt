@@ -22,7 +22,7 @@ pos s = down-pos (s .args .n) (s .args .node-table .now) (s .pre .0)
 abbrev entry : (a : tie.At-loop Inv-loop μ-loop) → tie.Start Inv-loop μ-loop
 entry a = a .before .before .before .before .before .before
 
--- the invariant, of the node that the turn comes to
+-- the invariant, of the node that the iteration comes to
 below : (a : tie.At-loop Inv-loop μ-loop) → 0 < a .loop .v
     → DownsFrom (entry a .args .n) (a .loop .v - 1 + 1) (entry a .args .node-table .now)
 below a h =

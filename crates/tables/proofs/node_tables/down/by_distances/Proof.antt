@@ -7,7 +7,7 @@ use Rattle.tables.proofs.node_tables.JumpLengthLaws.{sums-equal, sums-d
 use Rattle.tables.proofs.node_tables.down.by_distances.Statement.{statement}
 use Rattle.tables.proofs.node_tables.down.by_distances.Tie as tie
 
--- what a lent table holds at a place is a number of 16 bits
+-- what the table holds at an index is a number of 16 bits
 cast-d : tie.Need-cast-d
 cast-d c = omega (arith, c .shared-slice-known3 .given (c .before .before .before .args .p * 4 + 2))
 

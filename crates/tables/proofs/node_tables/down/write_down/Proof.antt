@@ -1,5 +1,5 @@
--- `write_down` meets its contract. The loop's invariant: depths and jumps stand from v on, and no other place has
--- changed, for every table with which the loop may have begun.
+-- `write_down` meets its contract. The loop's invariant, for any initial table: depths and jumps are written from v on,
+-- and no other cell has changed.
 use Prim.Native.Nat.{ℕ, _≤_, _<_, _+_, _-_, _*_}
 use mathlib.Core.Path.{_≡_, refl, _∙_, subst}
 use mathlib.Core.List.{List}

@@ -1,4 +1,4 @@
--- `jump_length` meets its contract: the table lent is the constant.
+-- `jump_length` meets its contract: the table passed in is the constant.
 use Prim.Native.Nat.{ℕ}
 use mathlib.Core.Path.{ap}
 use mathlib.Core.List.{List}

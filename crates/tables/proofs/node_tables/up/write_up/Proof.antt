@@ -1,5 +1,5 @@
--- `write_up` meets its contract. The loop's invariant: sizes and parents stand as far as the pass has come, and no
--- other place has changed.
+-- `write_up` meets its contract. The loop's invariant: sizes and parents are written as far as the pass has come, and
+-- no other cell has changed.
 use Prim.Native.Nat.{_≤_, _-_, _*_}
 use mathlib.Core.Path.{_≡_, refl, _∙_}
 use lib.ListN.{length, length-set}
