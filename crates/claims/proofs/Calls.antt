@@ -7,11 +7,12 @@
 --     merge, agree                                whatif_merge, whatif_agree
 --     plan-of-planner, planner-of-plan            whatif_plan_of_planner, whatif_planner_of_plan
 --     lay-over, count                             whatif_lay_over, whatif_count
+--     ask                                         whatif_ask
 --     colour-branch-build, colour-branch, colour-branch-with-upper, colour-build, colour-ask   those by colours
 --     ..-order                                    the fixed order: the numbers of each call's checks
 -- That each promise is the function's own contract: Contracts, and whatif_version there, which refuses nothing. The
--- session's calls: Main. What an accepted call answers: Tables, Branches, Planner, Products, Choices, Lists, Colours,
--- ColourSets. That every call ends is part of each function's proof.
+-- session's calls: Main. What an accepted call answers: Tables, Branches, Planner, Products, Choices, Lists, Ask,
+-- Colours, ColourSets. That every call ends is part of each function's proof.
 use Prim.Native.Nat.{ℕ}
 use mathlib.Core.Path.{_≡_, refl, _∙_}
 use mathlib.Core.List.{List, [], _∷_}
@@ -49,6 +50,9 @@ use Rattle.capi.proofs.planner_calls.Ties.{out-number, out-kept, home-number, h
 use Rattle.capi.proofs.list_calls.Ties.{refused-keeps}
 use Rattle.capi.proofs.choice_calls.Ties.{count-number, count-kept}
 use Rattle.capi_branch_upper.proofs.Ties.{branch-upper-number, branch-upper-kept}
+use Rattle.whole_questions.specs.Question as whole
+use Rattle.capi_ask.specs.WholeExported.{WholeExported}
+use Rattle.capi_ask.proofs.Ties as ask-ties
 use Rattle.capi_colours.specs.branch_calls.DescentExported.{DescentExported}
 use Rattle.capi_colours.specs.rule_calls.RuleExported.{RuleExported}
 use Rattle.capi_colours.proofs.branch_calls.Ties.{colour-branch-build-number, colour-branch-build-kept}
@@ -227,6 +231,23 @@ count-order : (p r nodeTable stateTable vs : List ℕ) (room : ℕ)
     ≡ 17 ∷ 12 ∷ 13 ∷ 15 ∷ 26 ∷ 18 ∷ 11 ∷ []
 unfolding choices.exportedChecks countChecks listedChecks
 count-order p r nodeTable stateTable vs room = refl
+
+-- ---- whole questions
+
+ask : (p r nodeTable stateTable vs bs : List ℕ) (n s₀ y₀ m₀ k₀ d₀ s₁ y₁ m₁ k₁ d₁ : ℕ)
+    → WholeExported p r nodeTable stateTable vs bs n s₀ y₀ m₀ k₀ d₀ s₁ y₁ m₁ k₁ d₁
+    → Answers n (whole.askChecks p r nodeTable stateTable vs bs)
+    ((s₁ ≡ s₀) × (y₁ ≡ y₀) × (m₁ ≡ m₀) × (k₁ ≡ k₀) × (d₁ ≡ d₀))
+ask p r a b vs bs n s₀ y₀ m₀ k₀ d₀ s₁ y₁ m₁ k₁ d₁ E =
+    answers _ _ _ (ask-ties.ask-number p r a b vs bs n s₀ y₀ m₀ k₀ d₀ s₁ y₁ m₁ k₁ d₁ E)
+    (ask-ties.ask-kept p r a b vs bs n s₀ y₀ m₀ k₀ d₀ s₁ y₁ m₁ k₁ d₁ E)
+
+-- 17 as a branch question has it, then Start's checks of the list and an advance's 18: "17; .. 12; nodes below N? 13;
+-- labels below K? 14", without 15 (document 02, S-4)
+ask-order : (p r nodeTable stateTable vs bs : List ℕ)
+    → numbersOf (whole.askChecks p r nodeTable stateTable vs bs) ≡ 17 ∷ 12 ∷ 13 ∷ 14 ∷ 18 ∷ []
+unfolding whole.askChecks whole.listedChecks listChecks
+ask-order p r nodeTable stateTable vs bs = refl
 
 -- ---- questions by colours
 

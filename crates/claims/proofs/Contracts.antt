@@ -27,6 +27,8 @@ use Rattle.capi.proofs.planner_calls.Ties.{out-tied, home-tied}
 use Rattle.capi.proofs.list_calls.Ties.{lay-tied}
 use Rattle.capi.proofs.choice_calls.Ties.{count-tied}
 use Rattle.capi_branch_upper.proofs.Ties.{branch-upper-tied}
+use Rattle.capi_ask.specs.WholeExported.{WholeExported}
+use Rattle.capi_ask.proofs.Ties.{ask-tied}
 use Rattle.capi_colours.specs.branch_calls.DescentExported.{DescentExported}
 use Rattle.capi_colours.specs.rule_calls.RuleExported.{RuleExported}
 use Rattle.capi_colours.proofs.branch_calls.Ties.{colour-branch-build-tied, colour-branch-tied}
@@ -71,6 +73,9 @@ use Rattle.capi.proofs.list_calls.whatif_lay_over.Reads as lay-over-reads
 use Rattle.capi.proofs.choice_calls.whatif_count as count-fn
 use Rattle.capi.proofs.choice_calls.whatif_count.Kinds as count-kinds
 use Rattle.capi.proofs.choice_calls.whatif_count.Reads as count-reads
+use Rattle.capi_ask.proofs.whatif_ask as ask-fn
+use Rattle.capi_ask.proofs.whatif_ask.Kinds as ask-kinds
+use Rattle.capi_ask.proofs.whatif_ask.Reads as ask-reads
 use Rattle.capi_colours.proofs.branch_calls.whatif_colour_branch_build as words-build-fn
 use Rattle.capi_colours.proofs.branch_calls.whatif_colour_branch_build.Kinds as words-build-kinds
 use Rattle.capi_colours.proofs.branch_calls.whatif_colour_branch_build.Reads as words-build-reads
@@ -178,6 +183,18 @@ count : (κs : Lfts 8) (a : ArgsD count-fn.signature κs) (r : ResD count-fn.sig
     (now (a .1 .1 .1 .1 .1 .0)) (now (a .1 .1 .1 .1 .1 .1 .0)) (now (a .1 .1 .1 .1 .1 .1 .1 .0)) r
     (now (s .1 .1 .1 .1 .1 .0)) (now (s .1 .1 .1 .1 .1 .1 .0)) (now (s .1 .1 .1 .1 .1 .1 .1 .0))
 count = count-tied
+
+-- ---- whole questions
+
+ask : (κs : Lfts 11) (a : ArgsD ask-fn.signature κs) (r : ResD ask-fn.signature κs)
+    (s : AtExit (endedOf 11 ask-kinds.ps ask-kinds.r) κs) → ask-reads.Post κs a r s
+    → WholeExported (now (a .0)) (now (a .1 .0)) (now (a .1 .1 .0)) (now (a .1 .1 .1 .0)) (now (a .1 .1 .1 .1 .0))
+    (now (a .1 .1 .1 .1 .1 .0)) r (now (a .1 .1 .1 .1 .1 .1 .0)) (now (a .1 .1 .1 .1 .1 .1 .1 .0))
+    (now (a .1 .1 .1 .1 .1 .1 .1 .1 .0)) (now (a .1 .1 .1 .1 .1 .1 .1 .1 .1 .0))
+    (now (a .1 .1 .1 .1 .1 .1 .1 .1 .1 .1 .0)) (now (s .1 .1 .1 .1 .1 .1 .0)) (now (s .1 .1 .1 .1 .1 .1 .1 .0))
+    (now (s .1 .1 .1 .1 .1 .1 .1 .1 .0)) (now (s .1 .1 .1 .1 .1 .1 .1 .1 .1 .0))
+    (now (s .1 .1 .1 .1 .1 .1 .1 .1 .1 .1 .0))
+ask = ask-tied
 
 -- ---- questions by colours
 

@@ -1,0 +1,3 @@
+pub mod AskNumberLaws
+pub mod Theorems
+pub mod Ties

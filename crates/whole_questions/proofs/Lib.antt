@@ -1,0 +1,10 @@
+pub mod TotalLaws
+pub mod PartsLoop
+pub mod AskChecks
+pub mod AskNumbers
+pub mod AnswerLaws
+pub mod AskRange
+pub mod RuledLaws
+pub mod AskBuilt
+pub mod AskTheorem
+pub mod Theorems
