@@ -14,6 +14,7 @@ use denote.Ref.{now}
 use Rattle.branches.specs.declared.answers.Reading.the-variants.{WithUpper, BelowUpper}
 use Rattle.planner.specs.out.Out.{OutDone}
 use Rattle.planner.specs.home.Home.{HomeDone}
+use Rattle.allowed.specs.Answers.{AllowedDone}
 use Rattle.capi.specs.table_calls.RunExported.{RunExported}
 use Rattle.capi.specs.branch_calls.BranchExported.{AskExported}
 use Rattle.capi.specs.product_calls.Exported.{MergeExported, AgreeExported}
@@ -26,6 +27,7 @@ use Rattle.capi.proofs.product_calls.Ties.{merge-tied, agree-tied}
 use Rattle.capi.proofs.planner_calls.Ties.{out-tied, home-tied}
 use Rattle.capi.proofs.list_calls.Ties.{lay-tied}
 use Rattle.capi.proofs.choice_calls.Ties.{count-tied}
+use Rattle.capi.proofs.allowed_calls.Ties.{allowed-tied}
 use Rattle.capi_branch_upper.proofs.Ties.{branch-upper-tied}
 use Rattle.capi_colours.specs.branch_calls.DescentExported.{DescentExported}
 use Rattle.capi_colours.specs.rule_calls.RuleExported.{RuleExported}
@@ -71,6 +73,9 @@ use Rattle.capi.proofs.list_calls.whatif_lay_over.Reads as lay-over-reads
 use Rattle.capi.proofs.choice_calls.whatif_count as count-fn
 use Rattle.capi.proofs.choice_calls.whatif_count.Kinds as count-kinds
 use Rattle.capi.proofs.choice_calls.whatif_count.Reads as count-reads
+use Rattle.capi.proofs.allowed_calls.whatif_allowed as allowed-fn
+use Rattle.capi.proofs.allowed_calls.whatif_allowed.Kinds as allowed-kinds
+use Rattle.capi.proofs.allowed_calls.whatif_allowed.Reads as allowed-reads
 use Rattle.capi_colours.proofs.branch_calls.whatif_colour_branch_build as words-build-fn
 use Rattle.capi_colours.proofs.branch_calls.whatif_colour_branch_build.Kinds as words-build-kinds
 use Rattle.capi_colours.proofs.branch_calls.whatif_colour_branch_build.Reads as words-build-reads
@@ -178,6 +183,13 @@ count : (κs : Lfts 8) (a : ArgsD count-fn.signature κs) (r : ResD count-fn.sig
     (now (a .1 .1 .1 .1 .1 .0)) (now (a .1 .1 .1 .1 .1 .1 .0)) (now (a .1 .1 .1 .1 .1 .1 .1 .0)) r
     (now (s .1 .1 .1 .1 .1 .0)) (now (s .1 .1 .1 .1 .1 .1 .0)) (now (s .1 .1 .1 .1 .1 .1 .1 .0))
 count = count-tied
+
+-- ---- what each node may take
+
+allowed : (κs : Lfts 3) (a : ArgsD allowed-fn.signature κs) (r : ResD allowed-fn.signature κs)
+    (s : AtExit (endedOf 3 allowed-kinds.ps allowed-kinds.r) κs) → allowed-reads.Post κs a r s
+    → AllowedDone (now (a .0)) (now (a .1 .0)) (now (a .1 .1 .0)) r (now (s .1 .1 .0))
+allowed = allowed-tied
 
 -- ---- questions by colours
 

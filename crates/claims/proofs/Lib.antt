@@ -22,4 +22,5 @@ pub mod Planner
 pub mod ProductLaws
 pub mod Products
 pub mod Choices
+pub mod Allowed
 pub mod ColourLaws
