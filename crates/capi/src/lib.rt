@@ -8,7 +8,9 @@
 //     product_calls  two rule tables merged or compared
 //     planner_calls  the planner's files
 //     choice_calls   how many choices end in each state
+//     allowed_calls  the labels that each node may take, and the states that clear
 //     version        the library's version
+pub mod allowed_calls;
 pub mod branch_calls;
 pub mod choice_calls;
 pub mod list_calls;

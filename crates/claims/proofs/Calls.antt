@@ -7,12 +7,12 @@
 --     merge, agree                                whatif_merge, whatif_agree
 --     plan-of-planner, planner-of-plan            whatif_plan_of_planner, whatif_planner_of_plan
 --     lay-over, count                             whatif_lay_over, whatif_count
---     ask                                         whatif_ask
+--     ask, allowed                                whatif_ask, whatif_allowed
 --     colour-branch-build, colour-branch, colour-branch-with-upper, colour-build, colour-ask   those by colours
 --     ..-order                                    the fixed order: the numbers of each call's checks
 -- That each promise is the function's own contract: Contracts, and whatif_version there, which refuses nothing. The
--- session's calls: Main. What an accepted call answers: Tables, Branches, Planner, Products, Choices, Lists, Ask,
--- Colours, ColourSets. That every call ends is part of each function's proof.
+-- session's calls: Main. What an accepted call answers: Tables, Branches, Planner, Products, Choices, Ask, Allowed,
+-- Lists, Colours, ColourSets. That every call ends is part of each function's proof.
 use Prim.Native.Nat.{ℕ}
 use mathlib.Core.Path.{_≡_, refl, _∙_}
 use mathlib.Core.List.{List, [], _∷_}
@@ -30,6 +30,7 @@ use Rattle.planner.specs.File.{outChecks, homeChecks}
 use Rattle.planner.specs.out.Out.{OutDone}
 use Rattle.planner.specs.home.Home.{HomeDone}
 use Rattle.choices.specs.question_counts.CountOn.{listedChecks, countChecks}
+use Rattle.allowed.specs.Answers.{nodeRoomChecks, AllowedDone}
 use Rattle.colour_tables.specs.branch.Build.{branchColourChecks}
 use Rattle.colour_tables.specs.rule.Build.{ruleColourChecks}
 use Rattle.colour_questions.specs.branch.Question.{colourChecks}
@@ -49,6 +50,7 @@ use Rattle.capi.proofs.product_calls.Ties.{merge-number, merge-kept, agree-numb
 use Rattle.capi.proofs.planner_calls.Ties.{out-number, out-kept, home-number, home-kept}
 use Rattle.capi.proofs.list_calls.Ties.{refused-keeps}
 use Rattle.capi.proofs.choice_calls.Ties.{count-number, count-kept}
+use Rattle.capi.proofs.allowed_calls.Ties.{allowed-number, allowed-kept}
 use Rattle.capi_branch_upper.proofs.Ties.{branch-upper-number, branch-upper-kept}
 use Rattle.whole_questions.specs.Question as whole
 use Rattle.capi_ask.specs.WholeExported.{WholeExported}
@@ -248,6 +250,18 @@ ask-order : (p r nodeTable stateTable vs bs : List ℕ)
     → numbersOf (whole.askChecks p r nodeTable stateTable vs bs) ≡ 17 ∷ 12 ∷ 13 ∷ 14 ∷ 18 ∷ []
 unfolding whole.askChecks whole.listedChecks listChecks
 ask-order p r nodeTable stateTable vs bs = refl
+
+-- ---- what each node may take
+
+allowed : (p r masks : List ℕ) (n : ℕ) (masks′ : List ℕ) → AllowedDone p r masks n masks′
+    → Answers n (nodeRoomChecks p r (length masks)) (masks′ ≡ masks)
+allowed p r m n m′ D = answers _ _ _ (allowed-number p r m n m′ D) (allowed-kept p r m n m′ D)
+
+-- "Refused with the first of 2 to 10, then 11"
+node-room-order : (p r : List ℕ) (room : ℕ)
+    → numbersOf (nodeRoomChecks p r room) ≡ 2 ∷ 3 ∷ 4 ∷ 5 ∷ 6 ∷ 7 ∷ 8 ∷ 9 ∷ 10 ∷ 11 ∷ []
+unfolding nodeRoomChecks ruleTableChecks planChecks ruleChecks
+node-room-order p r room = refl
 
 -- ---- questions by colours
 

@@ -23,4 +23,5 @@ pub mod ProductLaws
 pub mod Products
 pub mod Choices
 pub mod Ask
+pub mod Allowed
 pub mod ColourLaws

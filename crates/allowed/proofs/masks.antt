@@ -1,0 +1,4 @@
+pub mod CellLaws
+pub mod UpLoop
+pub mod DownLoop
+pub mod CallLaws

@@ -1,0 +1,4 @@
+pub mod Allowed
+pub mod Clearing
+pub mod Answers
+pub mod inner

@@ -1,0 +1,4 @@
+pub mod Cells
+pub mod Up
+pub mod Down
+pub mod Root
