@@ -20,8 +20,8 @@ abbrev μ-loop : tie.MeasureT-loop
 loop-holds : tie.Need-loop-holds Inv-loop μ-loop
 loop-holds c = (omega arith, above-start _ _ refl)
 
-mul-states-above : tie.Need-mul-states-above Inv-loop μ-loop
-mul-states-above c = omega (arith, c .before .before .pre .inside (c .before .loop .q) (c .loop-test .taken))
+mul-above : tie.Need-mul-above Inv-loop μ-loop
+mul-above c = omega (arith, c .before .before .pre .inside (c .before .loop .q) (c .loop-test .taken))
 
 add-above : tie.Need-add-above Inv-loop μ-loop
 add-above c = omega (arith, c .before .before .pre .inside (c .before .loop .q) (c .loop-test .taken))
@@ -45,5 +45,5 @@ returns c =
 pub states-above-from-spec : {M : Type 1} → statement M
 states-above-from-spec =
     tie.close
-    (tie.spec Inv-loop μ-loop loop-holds mul-states-above add-above shared-slice-read-above (λ c. search needs) (λ c. search needs)
+    (tie.spec Inv-loop μ-loop loop-holds mul-above add-above shared-slice-read-above (λ c. search needs) (λ c. search needs)
     (λ c. search needs) loop-again returns)
