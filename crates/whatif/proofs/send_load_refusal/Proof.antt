@@ -34,11 +34,5 @@ returns c =
 pub send-load-refusal-spec : {M : Type 1} → statement M
 send-load-refusal-spec =
     tie.close
-    (tie.spec
-    (λ c κs. search needs)
-    (λ c. search needs)
-    (λ c κs. search needs)
-    (λ c. search needs)
-    slice-aggregate-send-refusal
-    send-refusal-requires
-    returns)
+    (tie.spec (λ c κs. search needs) (λ c. search needs) (λ c κs. search needs) (λ c. search needs)
+    slice-aggregate-send-refusal send-refusal-requires returns)

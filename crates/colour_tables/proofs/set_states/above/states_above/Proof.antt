@@ -231,6 +231,7 @@ pub states-above-spec : {M : Type 1} → statement M
 states-above-spec =
     tie.close
     (tie.spec (λ c κs. search needs) (λ c. search needs) cast-a (λ c. search needs) (λ c κs. search needs) sub-u
-    (λ c. search needs) mul-x shared-slice-read-x cast-x mul-states-above-from add-states-above-from mul-states-above-from-2 states-above-from-requires
-    returns (λ c. search needs) (λ c. search needs) mul-y shared-slice-read-y cast-y mul-states-above-from-3 add-states-above-from-2
-    mul-states-above-from-4 states-above-from-requires-2 returns-2)
+    (λ c. search needs) mul-x shared-slice-read-x cast-x mul-states-above-from add-states-above-from
+    mul-states-above-from-2 states-above-from-requires returns (λ c. search needs) (λ c. search needs) mul-y
+    shared-slice-read-y cast-y mul-states-above-from-3 add-states-above-from-2 mul-states-above-from-4
+    states-above-from-requires-2 returns-2)

@@ -45,5 +45,5 @@ returns c =
 pub states-above-from-spec : {M : Type 1} → statement M
 states-above-from-spec =
     tie.close
-    (tie.spec Inv-loop μ-loop loop-holds mul-above add-above shared-slice-read-above (λ c. search needs) (λ c. search needs)
-    (λ c. search needs) loop-again returns)
+    (tie.spec Inv-loop μ-loop loop-holds mul-above add-above shared-slice-read-above (λ c. search needs)
+    (λ c. search needs) (λ c. search needs) loop-again returns)

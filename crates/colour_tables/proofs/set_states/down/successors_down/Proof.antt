@@ -51,5 +51,5 @@ returns-2 c =
 pub successors-down-spec : {M : Type 1} → statement M
 successors-down-spec =
     tie.close
-    (tie.spec (λ c. search needs) returns states-above-requires array-share-prefix-above slice-aggregate-successors-by-set
-    successors-by-set-requires returns-2)
+    (tie.spec (λ c. search needs) returns states-above-requires array-share-prefix-above
+    slice-aggregate-successors-by-set successors-by-set-requires returns-2)

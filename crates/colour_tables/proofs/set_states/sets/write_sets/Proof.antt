@@ -127,5 +127,5 @@ returns c =
 pub write-sets-spec : {M : Type 1} → statement M
 write-sets-spec =
     tie.close
-    (tie.spec Inv-loop μ-loop loop-holds (λ c. search needs) row-above-requires successors-down-requires put-copy-requires
-    (λ c. search needs) loop-again (λ c. search needs) (λ c. search needs) returns)
+    (tie.spec Inv-loop μ-loop loop-holds (λ c. search needs) row-above-requires successors-down-requires
+    put-copy-requires (λ c. search needs) loop-again (λ c. search needs) (λ c. search needs) returns)

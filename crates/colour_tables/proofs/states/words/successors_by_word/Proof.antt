@@ -46,5 +46,5 @@ returns c =
 pub successors-by-word-spec : {M : Type 1} → statement M
 successors-by-word-spec =
     tie.close
-    (tie.spec Inv-loop μ-loop loop-holds (λ c. search needs) (λ c. search needs) mul-successors add-successors shared-slice-read-successors
-    (λ c. search needs) (λ c. search needs) (λ c. search needs) loop-again returns)
+    (tie.spec Inv-loop μ-loop loop-holds (λ c. search needs) (λ c. search needs) mul-successors add-successors
+    shared-slice-read-successors (λ c. search needs) (λ c. search needs) (λ c. search needs) loop-again returns)

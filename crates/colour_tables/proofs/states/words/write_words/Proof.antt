@@ -130,5 +130,5 @@ pub write-words-spec : {M : Type 1} → statement M
 write-words-spec =
     tie.close
     (tie.spec Inv-loop μ-loop loop-holds (λ c. search needs) row-above-requires shared-slice-read-a cast-a
-    successors-by-word-requires put-copy-requires (λ c. search needs) loop-again (λ c. search needs) (λ c. search needs)
-    returns)
+    successors-by-word-requires put-copy-requires (λ c. search needs) loop-again (λ c. search needs)
+    (λ c. search needs) returns)
