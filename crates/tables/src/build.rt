@@ -13,7 +13,7 @@ ghost use Rattle.tables.specs.inner.Written.{BuildArgs, BothWritten};
 
 // Writes both tables of a plan of n nodes and a rule table of s states and k labels that pass their checks.
 // Labels, kinds and states are handed on as parts.
-fn write_tables(
+pub fn write_tables(
     plan: &[u8],
     rules: &[u8],
     n: usize,

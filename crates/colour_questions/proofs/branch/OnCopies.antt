@@ -1,8 +1,9 @@
 -- Where plan, branch table, node table and the colours' numbers are as built and the copies are any bytes below S with
 -- state 0 in each: the answer is what the descent by the tree's own colours gives on those bytes.
-use Prim.Native.Nat.{ℕ, _+_, _-_, _*_, _≤_, _<_}
+--     on-copies    so, as OnCopies has it
+use Prim.Native.Nat.{ℕ, _+_, _-_, _*_, _<_}
 use mathlib.Core.Path.{_≡_, refl, sym, ap, _∙_, subst}
-use mathlib.Core.Bool.{Bool, true, false}
+use mathlib.Core.Bool.{true}
 use mathlib.Core.List.{List}
 use mathlib.Core.Option.{Option, none, some}
 use native.Mathlib.Omega.{arith}
@@ -35,30 +36,13 @@ use Rattle.colour_tables.specs.Layout.{colourNumbersOf}
 use Rattle.colour_tables.proofs.LayoutLaws.{numbers-cells}
 use Rattle.colour_tables.proofs.BuiltLaws.{descend-built}
 use Rattle.colour_tables.proofs.RangeLaws.{descend-low}
-use Rattle.colour_questions.specs.declared.branch.answers.Descending.{Descending}
-use Rattle.colour_questions.specs.declared.branch.answers.Descending.the-variants.{Answered, Refused}
 use Rattle.colour_questions.specs.branch.Question.{colourBuffersFit, startOn, colourIn, coloured, colouredOn, colourAnswer}
 use Rattle.colour_questions.specs.branch.Question.{colourAskAnswer, descendingNumber}
-use Rattle.colour_questions.specs.branch.Promise.{BranchColoursUsable}
+use Rattle.colour_questions.specs.branch.Promise.{BranchColoursUsable, wordStart, OnCopies}
 use Rattle.colour_questions.proofs.branch.AskChecks.{ask-number, ask-on}
 use Rattle.colour_questions.proofs.branch.AskRange.{ask-out-of-range}
 use Rattle.colour_questions.proofs.branch.AskUsable.{usable-in-range}
 use Rattle.colour_questions.proofs.branch.AnswerLaws.{on-some, on-none, below-yes, fromEnd, fromColour, fromPlace}
-
--- the copy in which a reading's word begins, by the tree
-abbrev pub wordStart : Reading → Tree → ℕ → Place
-wordStart WithUpper t u = aboveOf t u
-wordStart BelowUpper t u = some u
-
-pub record OnCopies (reading : Reading) (p r bytes : List ℕ) (u l : ℕ) (answer : Descending) : Type 0 where
-  pub colour : ℕ
-  pub starts : colourIn (stateCount r) bytes (wordStart reading (planTree p) u) ≡ some colour
-  pub way : Descent
-  pub found : descend (colourTableOf (stateCount r) (wordStep (branchAutomaton r) (planTree p)) (planTree p)) colour
-      (wordStart reading (planTree p) u) l colour ≡ some way
-  pub is : answer
-      ≡ Answered (getD bytes (l * stateCount r + way .colour) 0)
-      (branchAutomaton r .accepting (getD bytes (l * stateCount r + way .colour) 0)) (drops way) (links way)
 
 module _ (reading : Reading) (p r nodeTable numbers bytes : List ℕ) (U : BranchColoursUsable p r nodeTable numbers bytes)
     (fits : colourBuffersFit p r (length nodeTable) (length numbers) (length bytes) ≡ true) (u l : ℕ)

@@ -25,13 +25,12 @@ use Rattle.questions.specs.OutOfRange.{links}
 use Rattle.questions.proofs.FitLaws.{fit-all, given-yes, given-are}
 use Rattle.questions.proofs.PlaceLaws.{to-below, below-entry}
 use Rattle.questions.proofs.RootsRange.{roots-out-of-range}
-use Rattle.model.specs.Calls.{isSome}
+use Rattle.branches.specs.Question.{isSome}
 use Rattle.colours.specs.StateSets.{Tried, tried}
 use Rattle.colour_questions.specs.parts.Part.{ColourView, handledFrom}
 use Rattle.colour_tables.specs.rule.Build.{setStatesFit}
 use Rattle.colour_questions.specs.rule.Question.{Handled, handled, handledOn, askedOn, leftIn, lentColours}
-use Rattle.colour_questions.specs.rule.Question.{ruleColoursFit, askedChecks}
-use Rattle.colour_questions.specs.rule.Question.{ruleAskNumber}
+use Rattle.colour_questions.specs.rule.Question.{ruleColoursFit, askedChecks, ruleAskNumber}
 use Rattle.colour_questions.specs.rule.OutOfRange.{RuleColoursOutOfRange, part}
 use Rattle.colour_questions.proofs.rule.AskChecks.{Passed, passed-are}
 use Rattle.colour_questions.proofs.rule.AskNumbers.{number-asked, number-last}

@@ -1,20 +1,21 @@
 -- A rule question by colours where plan, rules, node table and colours are as built and the state table is any bytes below S.
+--     asked-list    the checks before 18 are 12 to 14: 17 and 27 pass
+--     ask-falls, ask-few   at most 60 drops for each one-sided part, each found by few links
 --     ask-usable    the answer is that of the parts' trials, never 18
 use Prim.Native.Nat.{ℕ, _+_, _-_, _*_, _^_, _≤_, _<_}
 use mathlib.Core.Path.{_≡_, refl, sym, ap, _∙_}
 use mathlib.Core.Bool.{Bool, true, cond}
-use mathlib.Core.List.{List, [], List·Memᴰ·not-nil}
+use mathlib.Core.List.{List, []}
 use mathlib.Core.Option.{Option, some}
 use native.Mathlib.Omega.{arith}
 use lib.Dec.{leb, eqb}
-use lib.ListN.{length, take, drop, length-take, length-drop}
+use lib.ListN.{length, take, drop, length-drop}
 use lib.Seq.{ext-getD, getD-take, getD-drop, length-take-le}
 use borrow.Author.Tests.{le-leb, leb-true, eq-eqb}
 use Rattle.list_laws.specs.Tests.{allBelow, holds}
 use Rattle.list_laws.proofs.BoolLaws.{and-both}
 use Rattle.list_laws.proofs.RowLaws.{stride}
 use Rattle.list_laws.proofs.SliceLaws.{length-part}
-use Rattle.list_laws.proofs.TestLaws.{sameList-is}
 use Rattle.trees.specs.Tree.{Tree, size, height}
 use Rattle.trees.specs.Automaton.{Automaton}
 use Rattle.trees.specs.Changes.{changed}
@@ -24,62 +25,49 @@ use Rattle.formats.specs.Plan.{nodeCount, planTree, labelsIn}
 use Rattle.formats.specs.Rules.{stateCount, labelCount, ruleLength, ruleAutomaton}
 use Rattle.formats.specs.Checks.{firstNo, listChecks, nodeTableLength, stateTableLength}
 use Rattle.formats.specs.Buffers.{buffersFit, headersFit}
-use Rattle.formats.specs.Inputs.{Inputs, inputsOf, Sizes, sizesIn, fits, usedStateTable, stateTableBuilt}
+use Rattle.formats.specs.Inputs.{Inputs, inputsOf, Sizes, sizesIn, fits}
 use Rattle.formats.proofs.PlanLaws.{size-planTree, labels-planTree}
-use Rattle.formats.specs.Passing.{PlanPasses}
+use Rattle.formats.specs.Passing.{PlanPasses, Built}
 use Rattle.formats.proofs.RuleLaws.{RulesPass}
 use Rattle.formats.proofs.InputLaws.{rule-table-passes, ListPasses, list-passes}
 use Rattle.formats.proofs.BufferLaws.{are-limits, are-lengths}
 use Rattle.formats.proofs.InputsLaws.{built-node-table, node-inputs-same, rules-of}
-use Rattle.formats.specs.Passing.{Built}
 use Rattle.tables.proofs.node_tables.CellLaws.{length-nodeTableOf}
-use Rattle.tables.proofs.BuildLaws.{length-builtStates}
 use Rattle.changes.specs.Differing.{differing}
 use Rattle.changes.specs.inner.LastDiffering.{lastDiffering}
 use Rattle.changes.proofs.LastDifferingLaws.{last-same, last-most, last-below}
 use Rattle.questions.specs.ready.Members.{roots}
-use Rattle.questions.specs.ready.Parts.{Given, partsOf, lastState}
+use Rattle.questions.specs.ready.Parts.{Given, lastState}
 use Rattle.questions.proofs.ready.ListLaws.{list-members}
 use Rattle.questions.proofs.ready.MonotoneLaws.{roots-same}
-use Rattle.runs.specs.FreshRun.{changedTree, rootState}
 use Rattle.questions.specs.Roots.{rootsOn}
 use Rattle.questions.specs.RootsAnswers.{rootsGiven}
 use Rattle.questions.proofs.FitLaws.{fit-all, given-yes}
 use Rattle.questions.proofs.Promised.{all-small}
 use Rattle.questions.proofs.RootsBuilt.{roots-built}
-use Rattle.model.specs.PartInputs.{givenOf}
-use Rattle.model.proofs.Facts.{SettledInputs}
-use Rattle.model.proofs.LayersHold.{cells, reads}
-use Rattle.reference.specs.Reference.{Question, asked, givenBy}
-use Rattle.reference.proofs.FreshLaws.{rules-inside}
+use Rattle.questions.specs.PartInputs.{givenOf, SettledInputs}
+use Rattle.questions.proofs.PartInputsLaws.{cells, reads}
+use Rattle.questions.proofs.FreshLaws.{rules-inside}
 use Rattle.colour_tables.specs.ColourCells.{copyRow}
 use Rattle.colours.specs.StateSets.{Tried, tried, setStep, setCount, setCopies}
 use Rattle.colours.proofs.CopyLaws.{copy-colouring}
-use Rattle.colours.specs.Descents.{AllLe}
 use Rattle.colours.proofs.SetLaws.{setStep-below}
-use Rattle.colours.proofs.Theorems.{links-limit}
 use Rattle.colour_tables.specs.rule.Build.{setNumbersLength, setBytesLength, setColoursFit, builtSetNumbers, builtSetBytes}
 use Rattle.colour_tables.proofs.rule.BuildLaws.{length-setNumbers, length-setBytes}
 use Rattle.colour_tables.proofs.rule.ColouredLaws.{coloured-cells, coloured-copies}
-use Rattle.colour_questions.specs.parts.Part.{ColourView, handledFrom}
 use Rattle.colour_questions.specs.parts.OneSided.{oneSided}
+use Rattle.colours.specs.Descents.{AllLe}
+use Rattle.colour_questions.specs.parts.Part.{ColourView, handledFrom}
+use Rattle.colour_questions.proofs.branch.FitLaws.{begins}
 use Rattle.colour_questions.proofs.parts.TriesBuilt.{SidesBuilt}
 use Rattle.colour_questions.specs.rule.Question.{handled, handledOn, askedOn, leftIn, lentColours}
-use Rattle.colour_questions.specs.rule.Question.{ruleColoursFit, askedChecks}
-use Rattle.colour_questions.specs.rule.Question.{ruleAnswer, ruleAskAnswer}
+use Rattle.colour_questions.specs.rule.Question.{ruleColoursFit, askedChecks, ruleAnswer, ruleAskAnswer}
 use Rattle.colour_questions.specs.rule.Promise.{RuleColoursUsable, rootsLeft}
 use Rattle.colour_questions.specs.rule.Question.{answeredWith}
-use Rattle.questions.specs.ready.Parts.{lastState}
 use Rattle.colour_questions.specs.parts.Trials.{triedParts, trialsFrom}
 use Rattle.colour_questions.proofs.rule.AskChecks.{few-states, then-list}
 use Rattle.colour_questions.proofs.rule.AskNumbers.{lent-is}
 use Rattle.colour_questions.proofs.rule.PartsUsable.{handled-usable}
-
--- a buffer that begins with a list of n elements has n
-begins : (n : ℕ) (b l : List ℕ) → take n b ≡ l → length l ≡ n → n ≤ length b
-begins n b l e z =
-    let q : length (take n b) ≡ n = ap length e ∙ z in
-    omega (arith, length-take n b)
 
 module _ (p r nodeTable stateTable numbers bytes vs bs : List ℕ)
     (D : RuleColoursUsable p r nodeTable stateTable numbers bytes) where
@@ -166,7 +154,7 @@ module _ (p r nodeTable stateTable numbers bytes vs bs : List ℕ)
       ∙ room
 
   -- the number of the checks before 18 is that of 12 to 14
-  asked-list : firstNo (listChecks (nodeCount p) (labelCount r) vs bs)
+  pub asked-list : firstNo (listChecks (nodeCount p) (labelCount r) vs bs)
       ≡ firstNo (askedChecks p r (length nodeTable) (length stateTable) (length numbers) (length bytes) vs bs)
   asked-list =
       then-list p r (length nodeTable) (length stateTable) (length numbers) (length bytes) vs bs fit s refl n
@@ -187,9 +175,6 @@ module _ (p r nodeTable stateTable numbers bytes vs bs : List ℕ)
 
     abbrev z : Sizes
     z = sizesIn (inputsOf p r nodeTable stateTable)
-
-    abbrev q : Question
-    q = asked (inputsOf p r nodeTable stateTable) vs bs
 
     built : Built (sizesIn (inputsOf p r nodeTable stateTable)) (inputsOf p r nodeTable stateTable)
     built = record {
@@ -212,8 +197,8 @@ module _ (p r nodeTable stateTable numbers bytes vs bs : List ℕ)
     }
 
     abbrev G : Given
-    G = givenBy (sizesIn (inputsOf p r nodeTable stateTable)) (asked (inputsOf p r nodeTable stateTable) vs bs)
-        (inputsOf p r nodeTable stateTable)
+    G = givenOf (sizesIn (inputsOf p r nodeTable stateTable)) (inputsOf p r nodeTable stateTable)
+        (inputsOf p r nodeTable stateTable) vs bs
 
     abbrev L : ColourView
     L = lentColours p r nodeTable stateTable numbers bytes
@@ -272,9 +257,15 @@ module _ (p r nodeTable stateTable numbers bytes vs bs : List ℕ)
 
     -- ---- the answer
 
-    whole : handledFrom (lentColours p r nodeTable stateTable numbers bytes) vs bs [] [] (tried 0 []) (rootsLeft p vs bs)
-        ≡ some (tried (lastState (triedParts G (rootsLeft p vs bs) [] (rootsLeft p vs bs)) 0)
-        (trialsFrom G (rootsLeft p vs bs) [] (rootsLeft p vs bs)))
+    record Whole : Type 0 where
+      pub found : handledFrom (lentColours p r nodeTable stateTable numbers bytes) vs bs [] [] (tried 0 []) (rootsLeft p vs bs)
+          ≡ some (tried (lastState (triedParts G (rootsLeft p vs bs) [] (rootsLeft p vs bs)) 0)
+          (trialsFrom G (rootsLeft p vs bs) [] (rootsLeft p vs bs)))
+      pub falls : length (trialsFrom G (rootsLeft p vs bs) [] (rootsLeft p vs bs))
+          ≤ 60 * oneSided (planTree p) (rootsLeft p vs bs) (rootsLeft p vs bs)
+      pub few : AllLe (3 * digits (height (planTree p))) (trialsFrom G (rootsLeft p vs bs) [] (rootsLeft p vs bs))
+
+    whole : Whole
     unfolding givenOf roots allBelow lastState
     whole =
         let w : ℕ → Bool = λ v. holds v (differing (labelsIn p) vs bs) in
@@ -282,7 +273,14 @@ module _ (p r nodeTable stateTable numbers bytes vs bs : List ℕ)
         (rootsLeft p vs bs) (list-members w t) vs bs
         (ap (λ (ls : List ℕ). changed ls vs bs) (sym (labels-planTree p plan-passes)))
         (omega (arith, rules-pass .states-least)) (rootsLeft p vs bs) [] (tried 0 []) refl refl refl in
-        N .found
+        record { found = N .found; falls = N .falls; few = N .few }
+
+    pub ask-falls : length (trialsFrom G (rootsLeft p vs bs) [] (rootsLeft p vs bs))
+        ≤ 60 * oneSided (planTree p) (rootsLeft p vs bs) (rootsLeft p vs bs)
+    ask-falls = whole .falls
+
+    pub ask-few : AllLe (3 * digits (height (planTree p))) (trialsFrom G (rootsLeft p vs bs) [] (rootsLeft p vs bs))
+    ask-few = whole .few
 
     on-usable : askedOn p r nodeTable stateTable numbers bytes vs bs
         ≡ some (handled (tried (lastState (triedParts G (rootsLeft p vs bs) [] (rootsLeft p vs bs)) 0)
@@ -291,7 +289,7 @@ module _ (p r nodeTable stateTable numbers bytes vs bs : List ℕ)
     on-usable =
         ap (λ (o : Option (List ℕ)). andThen o (λ ms.
         andThen (handledFrom L vs bs [] [] (tried 0 []) ms) (λ y. some (handled y (length ms))))) roots-are
-        ∙ ap (λ (o : Option Tried). andThen o (λ y. some (handled y (length (rootsLeft p vs bs))))) whole
+        ∙ ap (λ (o : Option Tried). andThen o (λ y. some (handled y (length (rootsLeft p vs bs))))) (whole .found)
 
     pub ask-usable : ruleAskAnswer p r nodeTable stateTable numbers bytes vs bs
         ≡ answeredWith r (lastState (triedParts G (rootsLeft p vs bs) [] (rootsLeft p vs bs)) 0)

@@ -1,5 +1,6 @@
 -- From the tables of a Load to the tables of colours as whole lists.
 --     base-passed      2 to 11 of a Load's build pass
+--     table-args       what the writer of a Load's tables needs
 --     parts-filled     the tables of a Load are what the writers of sets and colours need
 --     parts-written    what these leave is what the build has to write
 use Prim.Native.Nat.{ℕ, _+_, _-_, _*_, _^_, _≤_, _<_}
@@ -24,11 +25,10 @@ use Rattle.formats.proofs.RuleLaws.{inner-state-below}
 use Rattle.formats.proofs.InputLaws.{label-below, passes-build}
 use Rattle.tables.specs.node_tables.NodeCells.{NodeCells}
 use Rattle.tables.proofs.node_tables.CellLaws.{link-cells}
-use Rattle.tables.specs.declared.answers.Building.{Building}
-use Rattle.tables.specs.Answers.{buildingNumber, BuildDone}
 use Rattle.tables.specs.inner.States.{RuleRuns}
 use Rattle.tables.specs.inner.Maps.{Prepared}
-use Rattle.tables.proofs.BuildLaws.{built-lists, built-as-built, length-builtNodeTable, length-builtStates}
+use Rattle.tables.specs.inner.Written.{BuildArgs, BothWritten}
+use Rattle.tables.proofs.BuildLaws.{build-args, written-as-built, length-builtNodeTable, length-builtStates}
 use Rattle.colours.specs.StateSets.{setStep}
 use Rattle.colours.proofs.SetLaws.{setStep-below}
 use Rattle.colour_tables.proofs.LayoutLaws.{numbers-over, copies-over}
@@ -193,44 +193,44 @@ module _ (p r : List ℕ) (l m : ℕ) (ok : firstNo (ruleColourChecks p r l m) �
 
 module _ (p r : List ℕ) (n s k : ℕ) (before before′ : List ℕ)
     (args : PartArgs p r n s k (length before) (length before′))
-    (numbers bytes : List ℕ) (answer : Building)
-    (D : BuildDone (firstNo (buildChecks p r (length before) (length before′))) (builtNodeTable p) (builtStateTable p r)
-    before before′ answer numbers bytes) where
-  ok : firstNo (ruleColourChecks p r (length before) (length before′)) ≡ 0
-  ok = args .passed
+  where
+    ok : firstNo (ruleColourChecks p r (length before) (length before′)) ≡ 0
+    ok = args .passed
 
-  number-is : buildingNumber answer ≡ 0
-  number-is = D .number ∙ base-passed p r (length before) (length before′) ok
+    pub table-args : BuildArgs p r n s k before before′
+    table-args =
+        build-args p r before before′ n s k (base-passed p r (length before) (length before′) ok) (args .nodes)
+        (args .states) (args .labels)
 
-  as-built : AsBuilt p r numbers bytes
-  as-built = built-as-built p r before before′ numbers bytes answer D number-is
+    module _ (numbers bytes : List ℕ) (D : BothWritten p r before before′ numbers bytes) where
+      as-built : AsBuilt p r numbers bytes
+      as-built = rw (D .links, D .states) (written-as-built p r (table-passed p r (length before) (length before′) ok) _ _)
 
-  labels-are : take (12 + n - 12) (drop 12 p) ≡ labelsIn p
-  labels-are = labels-part p n (args .nodes)
+      labels-are : take (12 + n - 12) (drop 12 p) ≡ labelsIn p
+      labels-are = labels-part p n (args .nodes)
 
-  inner-are : (c : ℕ) → c ≡ s * k * s → take (20 + k + c - (20 + k)) (drop (20 + k) r) ≡ innerStates r
-  inner-are c e = rw e (inner-part r s k (args .states) (args .labels))
+      inner-are : (c : ℕ) → c ≡ s * k * s → take (20 + k + c - (20 + k)) (drop (20 + k) r) ≡ innerStates r
+      inner-are c e = rw e (inner-part r s k (args .states) (args .labels))
 
-  pub parts-filled : (c : ℕ) → c ≡ s * k * s → length numbers ≡ length before → length bytes ≡ length before′
-      → SetFillArgs (take (12 + n - 12) (drop 12 p)) (take (20 + k + c - (20 + k)) (drop (20 + k) r)) s k numbers bytes
-  parts-filled c e x y =
-      rw (labels-are, inner-are c e, args .states, args .labels)
-      (runs-filled p r (length before) (length before′) ok numbers bytes as-built x y)
+      pub parts-filled : (c : ℕ) → c ≡ s * k * s → length numbers ≡ length before → length bytes ≡ length before′
+          → SetFillArgs (take (12 + n - 12) (drop 12 p)) (take (20 + k + c - (20 + k)) (drop (20 + k) r)) s k numbers bytes
+      parts-filled c e x y =
+          rw (labels-are, inner-are c e, args .states, args .labels)
+          (runs-filled p r (length before) (length before′) ok numbers bytes as-built x y)
 
-  pub parts-written : (c : ℕ) → c ≡ s * k * s → (numbers′ bytes′ : List ℕ) → length numbers′ ≡ length before
-      → length bytes′ ≡ length before′
-      → AllFilled (take (12 + n - 12) (drop 12 p)) (take (20 + k + c - (20 + k)) (drop (20 + k) r)) s k numbers bytes
-      numbers′ bytes′
-      → SetColoursWritten p r before before′ numbers′ bytes′
-  parts-written c e numbers′ bytes′ x y F =
-      let P : PlanPasses p = accepted p r (length before) (length before′) ok .0 in
-      let q = built-lists _ (builtNodeTable p) (builtStateTable p r) before before′ answer numbers bytes D number-is in
-      let G : AllFilled (labelsIn p) (innerStates r) (stateCount r) (labelCount r) numbers bytes numbers′ bytes′ =
-      rw (labels-are, inner-are c e, args .states, args .labels) at F in
-      let z : length (labelsIn p) ≡ nodeCount p = length-labelsIn p P in
-      let H : SetsFilled (2 ^ stateCount r) (stateTableLength (length (labelsIn p)) (stateCount r))
-      (setStep (ruleAutomaton r) (planTree p)) (planTree p) numbers bytes numbers′ bytes′ =
-      G (leafStates r) (ruleMarks r) (planTree p)
-      (prepared p r (length before) (length before′) ok numbers bytes as-built) in
-      all-written p r (length before) (length before′) ok numbers bytes as-built before before′ numbers′ bytes′
-      (q .1) (q .2) x y refl refl (rw z at H)
+      pub parts-written : (c : ℕ) → c ≡ s * k * s → (numbers′ bytes′ : List ℕ) → length numbers′ ≡ length before
+          → length bytes′ ≡ length before′
+          → AllFilled (take (12 + n - 12) (drop 12 p)) (take (20 + k + c - (20 + k)) (drop (20 + k) r)) s k numbers bytes
+          numbers′ bytes′
+          → SetColoursWritten p r before before′ numbers′ bytes′
+      parts-written c e numbers′ bytes′ x y F =
+          let P : PlanPasses p = accepted p r (length before) (length before′) ok .0 in
+          let G : AllFilled (labelsIn p) (innerStates r) (stateCount r) (labelCount r) numbers bytes numbers′ bytes′ =
+          rw (labels-are, inner-are c e, args .states, args .labels) at F in
+          let z : length (labelsIn p) ≡ nodeCount p = length-labelsIn p P in
+          let H : SetsFilled (2 ^ stateCount r) (stateTableLength (length (labelsIn p)) (stateCount r))
+          (setStep (ruleAutomaton r) (planTree p)) (planTree p) numbers bytes numbers′ bytes′ =
+          G (leafStates r) (ruleMarks r) (planTree p)
+          (prepared p r (length before) (length before′) ok numbers bytes as-built) in
+          all-written p r (length before) (length before′) ok numbers bytes as-built before before′ numbers′ bytes′
+          (D .links) (D .states) x y refl refl (rw z at H)

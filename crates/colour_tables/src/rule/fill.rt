@@ -4,7 +4,7 @@ use crate::forests::all_colours::write_colours;
 use crate::set_states::sets::set_count;
 use crate::set_states::sets::write_sets;
 use formats::rules::inner_count;
-use tables::build::build_tables;
+use tables::build::write_tables;
 ghost use lib.ListN.{length};
 ghost use Rattle.colour_tables.specs.rule.inner.Filled.{SetFillArgs, AllFilled, PartArgs, SetColoursWritten};
 
@@ -42,7 +42,7 @@ pub fn write_rule_colours(
     ensures { λ _. ⌜ SetColoursWritten (now (plan .entry)) (now (rules .entry)) (now (numbers .entry))
         (now (bytes .entry)) (now (numbers .exit)) (now (bytes .exit)) ⌝ }
 {
-    build_tables(plan, rules, numbers, bytes);
+    write_tables(plan, rules, n, s, k, numbers, bytes);
     let end = 20 + k + inner_count(s, k);
     fill_set_colours(&plan[12..12 + n], &rules[20 + k..end], s, k, numbers, bytes);
 }
