@@ -24,7 +24,7 @@ fn compare(case: &Case, lent: &Lent, tree: &Tree, nodes: &[u16], labels: &[u8], 
     if literally {
         assert_eq!(closure(tree, nodes), members, "{:?}", nodes);
     }
-    assert_eq!(View::new(sizes(case), &lent.lends()).roots(nodes), members, "{:?}", nodes);
+    assert_eq!(View::new(sizes(case), &lent.inputs()).roots(nodes), members, "{:?}", nodes);
     let most = if nodes.is_empty() { 1 } else { 4 * nodes.len() - 2 };
     assert!(members.len() <= most && members.last() == Some(&tree.root()));
     let (plan, rules) = (read_plan(&case.plan).unwrap(), read_rules(&case.rules).unwrap());

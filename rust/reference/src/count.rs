@@ -8,7 +8,7 @@ use crate::climb::{climb, Move};
 use crate::formats::{number, read_plan, read_rules, Plan, Rules, MAX_LABELS, MAX_NODES, MAX_STATES};
 use crate::fresh::MAX_CHANGES;
 use crate::mistakes::{made, unless, Mistake};
-use crate::panel::{Lends, Sizes};
+use crate::panel::{Inputs, Sizes};
 use crate::ready::by_marks;
 use crate::tables::{run, Tables};
 use crate::tree::Tree;
@@ -37,9 +37,9 @@ pub enum Said {
 
 /// "17, then 12, 13 and 15 (which is met here) for the node list, then 26 for more than 1,000,000,000,000,000,000
 /// assignments": N, S and K are those of the lent headers.
-pub fn checks(lends: &Lends, nodes: &[u16]) -> Result<Sizes, u32> {
-    let sizes = named(lends).ok_or(17u32)?;
-    sizes.fit(lends)?;
+pub fn checks(inputs: &Inputs, nodes: &[u16]) -> Result<Sizes, u32> {
+    let sizes = named(inputs).ok_or(17u32)?;
+    sizes.fit(inputs)?;
     if nodes.len() > MAX_CHANGES {
         return Err(12);
     }
@@ -63,29 +63,29 @@ pub fn checks(lends: &Lends, nodes: &[u16]) -> Result<Sizes, u32> {
 }
 
 /// "N, S and K from the lent headers: 17, also for a header cut short or a number outside its limits".
-pub fn named(lends: &Lends) -> Option<Sizes> {
-    if lends.plan.len() < 12 || lends.rules.len() < 20 {
+pub fn named(inputs: &Inputs) -> Option<Sizes> {
+    if inputs.plan.len() < 12 || inputs.rules.len() < 20 {
         return None;
     }
-    let (n, s, k) = (number(lends.plan, 0), number(lends.rules, 0), number(lends.rules, 4));
+    let (n, s, k) = (number(inputs.plan, 0), number(inputs.rules, 0), number(inputs.rules, 4));
     let fit = (1..=MAX_NODES).contains(&n) && (1..=MAX_STATES).contains(&s) && (1..=MAX_LABELS).contains(&k);
     Some(Sizes { n: n as usize, s: s as usize, k: k as usize }).filter(|_| fit)
 }
 
-/// What the documents say of a call with these lends.
-pub fn count(lends: &Lends, nodes: &[u16]) -> Said {
-    let sizes = match checks(lends, nodes) {
+/// What the documents say of a call with these inputs.
+pub fn count(inputs: &Inputs, nodes: &[u16]) -> Said {
+    let sizes = match checks(inputs, nodes) {
         Err(number) => return Said::Refused(number),
         Ok(sizes) => sizes,
     };
-    let (plan, rules) = match (read_plan(lends.plan), read_rules(lends.rules)) {
+    let (plan, rules) = match (read_plan(inputs.plan), read_rules(inputs.rules)) {
         (Ok(plan), Ok(rules)) if plan.labels_below(rules.labels).is_ok() => (plan, rules),
         _ => return Said::Left,
     };
     let tree = Tree::of(&plan);
-    let state_table = &lends.state_table[..(sizes.s + 1) * sizes.n];
+    let state_table = &inputs.state_table[..(sizes.s + 1) * sizes.n];
     let node_table = Tables::node_table(&tree);
-    if !lends.node_table.starts_with(&node_table) || state_table.iter().any(|&q| q as usize >= sizes.s) {
+    if !inputs.node_table.starts_with(&node_table) || state_table.iter().any(|&q| q as usize >= sizes.s) {
         return Said::Left;
     }
     Said::Answered(Given { tree: &tree, labels: plan.labels, rules: &rules, state_table }.by_parts(nodes))

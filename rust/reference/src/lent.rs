@@ -4,7 +4,7 @@
 
 use crate::climb::{climb, passed, Lent, Links, Move};
 use crate::mistakes::{made, unless, Mistake};
-use crate::panel::{Lends, Sizes};
+use crate::panel::{Inputs, Sizes};
 use crate::parts::Part;
 use std::collections::BTreeSet;
 
@@ -21,14 +21,14 @@ pub struct View<'a> {
 }
 
 impl<'a> View<'a> {
-    /// Of lends that fit.
-    pub fn new(sizes: Sizes, lends: &Lends<'a>) -> View<'a> {
+    /// Of inputs that fit.
+    pub fn new(sizes: Sizes, inputs: &Inputs<'a>) -> View<'a> {
         let Sizes { n, s, k } = sizes;
-        let (labels, kinds) = lends.plan[12..].split_at(n);
-        let (leaf, rest) = lends.rules[20..].split_at(k);
+        let (labels, kinds) = inputs.plan[12..].split_at(n);
+        let (leaf, rest) = inputs.rules[20..].split_at(k);
         let (inner, marks) = rest.split_at(s * k * s);
-        let tree = Lent { nodes: n, node_table: &lends.node_table[..4 * n] };
-        View { sizes, labels, kinds, leaf, inner, marks, tree, state_table: &lends.state_table[..(s + 1) * n] }
+        let tree = Lent { nodes: n, node_table: &inputs.node_table[..4 * n] };
+        View { sizes, labels, kinds, leaf, inner, marks, tree, state_table: &inputs.state_table[..(s + 1) * n] }
     }
 
     /// The listed nodes and the root; for each two neighbours of these, the root apart, the lowest node at or above the

@@ -1,10 +1,10 @@
-//! Eight screens on one mill (document 02, S-8): the five calls on a run of eight records, and eight panel books beside
+//! Eight screens on one mill (document 02, S-8): the five calls on a run of eight records, and eight reference models beside
 //! it. Each is eight of what a single session has, and what the document says of who is meant, who is served and which
 //! number is told.
 
-use crate::book::{self, Book};
 use crate::mistakes::{made, unless, Mistake};
-use crate::panel::{Answer, Call, Lends, Phase};
+use crate::model::{self, Reference};
+use crate::panel::{Answer, Call, Inputs, Phase};
 use crate::record::{Record, RECORD_BYTES};
 use crate::session;
 use crate::tables::Tables;
@@ -18,11 +18,11 @@ pub const RUN_BYTES: usize = SCREENS * RECORD_BYTES;
 /// "Start, Cancel and Read name a screen." A deal is handed the screen to try first.
 #[derive(Clone, Copy)]
 pub enum ScreenCall<'a> {
-    Load(Lends<'a>),
-    Start(u32, Lends<'a>, &'a [u16], &'a [u8]),
+    Load(Inputs<'a>),
+    Start(u32, Inputs<'a>, &'a [u16], &'a [u8]),
     Cancel(u32),
     Read(u32),
-    Deal(u32, Lends<'a>),
+    Deal(u32, Inputs<'a>),
 }
 
 #[derive(Clone, Copy, Debug, PartialEq, Eq)]
@@ -144,11 +144,11 @@ fn refused(run: &[u8], number: u32) -> Done {
 
 /// "Load .. clears them all", each as a first Load leaves a session.
 fn load_all(run: &[u8], call: &ScreenCall) -> Done {
-    let lends = match *call {
-        ScreenCall::Load(lends) => lends,
+    let inputs = match *call {
+        ScreenCall::Load(inputs) => inputs,
         _ => unreachable!("a Load is for all"),
     };
-    let one = session::call(&Record::fresh().bytes(), &Call::Load(lends));
+    let one = session::call(&Record::fresh().bytes(), &Call::Load(inputs));
     if let Answer::Refused(number) = one.answer {
         return refused(run, number);
     }
@@ -190,43 +190,43 @@ fn told(call: &ScreenCall, served: usize, answer: Answer) -> ScreenAnswer {
 /// The call as a single session has it: "its own calls and its turns as advances".
 pub fn alone<'a>(call: &ScreenCall<'a>) -> Call<'a> {
     match *call {
-        ScreenCall::Load(lends) => Call::Load(lends),
-        ScreenCall::Start(_, lends, nodes, labels) => Call::Start(lends, nodes, labels),
+        ScreenCall::Load(inputs) => Call::Load(inputs),
+        ScreenCall::Start(_, inputs, nodes, labels) => Call::Start(inputs, nodes, labels),
         ScreenCall::Cancel(_) => Call::Cancel,
         ScreenCall::Read(_) => Call::Read,
-        ScreenCall::Deal(_, lends) => Call::Advance(lends),
+        ScreenCall::Deal(_, inputs) => Call::Advance(inputs),
     }
 }
 
 /// "Each screen has a panel book of its own, fed with the accepted Loads, its own calls and its turns as advances."
 /// They are fed the calls and what is lent, never the run.
 #[derive(Clone)]
-pub struct Books {
+pub struct References {
     /// Eight.
-    books: Vec<Book>,
+    models: Vec<Reference>,
 }
 
-impl Default for Books {
-    fn default() -> Books {
-        Books { books: vec![Book::default(); SCREENS] }
+impl Default for References {
+    fn default() -> References {
+        References { models: vec![Reference::default(); SCREENS] }
     }
 }
 
-/// The books' reply to a call.
-pub enum Next {
-    /// The answer, and the books then.
-    Settled(ScreenAnswer, Books),
-    /// Left to the program: the books after its answer; none where that answer is not allowed.
-    Left(Box<dyn Fn(ScreenAnswer) -> Option<Books>>),
+/// The reference models' reply to a call.
+pub enum Reply {
+    /// The answer, and the reference models then.
+    Settled(ScreenAnswer, References),
+    /// Left to the program: the reference models after its answer; none where that answer is not allowed.
+    Unsettled(Box<dyn Fn(ScreenAnswer) -> Option<References>>),
 }
 
-impl Books {
-    pub fn of(&self, screen: usize) -> &Book {
-        &self.books[screen]
+impl References {
+    pub fn of(&self, screen: usize) -> &Reference {
+        &self.models[screen]
     }
 
     pub fn runs(&self, screen: usize) -> bool {
-        self.books[screen].phase() == Phase::Running
+        self.models[screen].phase() == Phase::Running
     }
 
     /// Whose a call on a run of the right length is.
@@ -234,47 +234,47 @@ impl Books {
         whose(call, true, |i| self.runs(i), |i| self.runs(i))
     }
 
-    pub fn next(&self, call: &ScreenCall) -> Next {
+    pub fn reply(&self, call: &ScreenCall) -> Reply {
         match self.whose(call) {
-            Whose::Nobody(number) => Next::Settled(ScreenAnswer::refused(number), self.clone()),
+            Whose::Nobody(number) => Reply::Settled(ScreenAnswer::refused(number), self.clone()),
             Whose::All => self.load(call),
             Whose::Screen(i) | Whose::Turn(i) => self.on_screen(i, call),
         }
     }
 
-    /// "the accepted Loads": each book takes it; a refused one is nobody's.
-    fn load(&self, call: &ScreenCall) -> Next {
+    /// "the accepted Loads": each model takes it; a refused one is nobody's.
+    fn load(&self, call: &ScreenCall) -> Reply {
         let mut after = self.clone();
-        for at in &mut after.books {
-            match at.next(&alone(call)) {
-                book::Next::Settled(Answer::Accepted, book) => *at = book,
-                book::Next::Settled(answer, _) => return Next::Settled(ScreenAnswer::One(answer), self.clone()),
-                book::Next::Left(_) => unreachable!("a Load is settled"),
+        for at in &mut after.models {
+            match at.reply(&alone(call)) {
+                model::Reply::Settled(Answer::Accepted, model) => *at = model,
+                model::Reply::Settled(answer, _) => return Reply::Settled(ScreenAnswer::One(answer), self.clone()),
+                model::Reply::Unsettled(_) => unreachable!("a Load is settled"),
             }
         }
-        Next::Settled(ScreenAnswer::Loaded(0), after)
+        Reply::Settled(ScreenAnswer::Loaded(0), after)
     }
 
-    fn on_screen(&self, i: usize, call: &ScreenCall) -> Next {
-        match self.books[i].next(&alone(call)) {
-            book::Next::Settled(answer, book) => Next::Settled(told(call, i, answer), self.with(i, book)),
-            book::Next::Left(after) => {
+    fn on_screen(&self, i: usize, call: &ScreenCall) -> Reply {
+        match self.models[i].reply(&alone(call)) {
+            model::Reply::Settled(answer, model) => Reply::Settled(told(call, i, answer), self.with(i, model)),
+            model::Reply::Unsettled(after) => {
                 let (as_is, is_deal) = (Rc::new(self.clone()), matches!(call, ScreenCall::Deal(..)));
-                Next::Left(Box::new(move |answer| {
+                Reply::Unsettled(Box::new(move |answer| {
                     let one = match answer {
                         ScreenAnswer::Dealt(number, answer) if is_deal && number == self::after(i) => answer,
                         ScreenAnswer::One(answer) if !is_deal || matches!(answer, Answer::Refused(_)) => answer,
                         _ => return None,
                     };
-                    after(one).map(|book| as_is.with(i, book))
+                    after(one).map(|model| as_is.with(i, model))
                 }))
             }
         }
     }
 
-    fn with(&self, i: usize, book: Book) -> Books {
-        let mut books = self.clone();
-        books.books[i] = book;
-        books
+    fn with(&self, i: usize, model: Reference) -> References {
+        let mut models = self.clone();
+        models.models[i] = model;
+        models
     }
 }

@@ -1,4 +1,4 @@
-//! Sessions on lends that are not as built: node table, state table, labels, kinds, headers and rules with other
+//! Sessions on inputs that are not as built: node table, state table, labels, kinds, headers and rules with other
 //! values. Start gives 18. Between Start and advance every answer and every record is the reference's, which follows the
 //! lent values and gives 18 where one leads outside.
 
@@ -22,7 +22,7 @@ pub fn of_values() -> impl Iterator<Item = Alteration> {
     ALTERATIONS.into_iter().filter(|&kind| kind != Alteration::Length)
 }
 
-/// Three questions on lends with one kind of alteration.
+/// Three questions on inputs with one kind of alteration.
 pub fn of_one_kind(kind: Alteration, case: Case, random: &mut Random, counts: &mut Counts) {
     let good = Lent::built(&case, random);
     let mut bad = good.clone();
@@ -34,7 +34,7 @@ pub fn of_one_kind(kind: Alteration, case: Case, random: &mut Random, counts: &m
     }
 }
 
-/// A question on lends with several of them at once, and anything at all in the tables.
+/// A question on inputs with several of them at once, and anything at all in the tables.
 pub fn everything(random: &mut Random, counts: &mut Counts) {
     let case = Case::random(25, random);
     let good = Lent::built(&case, random);
@@ -54,8 +54,8 @@ pub fn everything(random: &mut Random, counts: &mut Counts) {
     came.iter().for_each(|what| counts.add(format!("several: {}", what)));
 }
 
-/// Start on damaged lends and, where it gets 18, on good ones; then advances on damaged lends. 18 in the middle is tried
-/// again, and then the lends are restored or the question is given up. What came, in order.
+/// Start on damaged inputs and, where it gets 18, on good ones; then advances on damaged inputs. 18 in the middle is tried
+/// again, and then the inputs are restored or the question is given up. What came, in order.
 fn ask(panel: &mut Panel, case: &Case, good: &Lent, bad: &Lent, random: &mut Random) -> Vec<&'static str> {
     let m = random.between(0, 12);
     let (nodes, labels) = case.list(m, random);
@@ -88,6 +88,6 @@ fn ask(panel: &mut Panel, case: &Case, good: &Lent, bad: &Lent, random: &mut Ran
         }
     }
     came.push("finished");
-    assert!(matches!(panel.call(&Call::Read, random), Answer::Told(_)));
+    assert!(matches!(panel.call(&Call::Read, random), Answer::Outcome(_)));
     came
 }
