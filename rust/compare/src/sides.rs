@@ -16,8 +16,6 @@ type Side = fn(&Call, &mut [u8], &mut [u16], &mut [u8], &mut [u32; 5]) -> u32;
 const SIDES: &[(&str, Side)] = &[("the library", library::call), ("plain Rust", by_yardstick)];
 
 pub const MARGIN: usize = 9;
-/// Inputs above this many bytes are not copied to see whether they stay.
-const COPIED: usize = 50_000;
 
 /// The answer of a call and the record after it, compared; and the tables that an accepted Load writes.
 pub fn call(record: &[u8], call: &Call, random: &mut Random) -> Done {
@@ -39,8 +37,7 @@ fn compare(name: &str, side: Side, record: &[u8], call: &Call, done: &Done, rand
     };
     let unset = [0; 5].map(|_: u32| random.word() as u32 | 1 << 20);
     let mut out = unset;
-    let lent = copied(call);
-    let before = lent.map(copies);
+    let before = lent(call).map(Copies::of);
     let number = side(call, own.lent(), node_table.lent(), state_table.lent(), &mut out);
     assert_eq!(answer(call, number, &out, &unset), done.answer, "{}: the answer", name);
     let what = |written: &str| format!("{}: the {}", name, written);
@@ -52,23 +49,40 @@ fn compare(name: &str, side: Side, record: &[u8], call: &Call, done: &Done, rand
         node_table.is(&what("node table"), inputs.node_table);
         state_table.is(&what("state table"), inputs.state_table);
     }
-    assert!(lent.map(copies) == before, "{}: something lent was written", name);
+    assert!(before.map_or(true, |before| before.are(call)), "{}: something lent was written", name);
 }
 
-/// What is lent with a call, where it is little enough to be copied.
-pub fn copied<'a>(call: &Call<'a>) -> Option<Inputs<'a>> {
-    lent(call).filter(|inputs| inputs.plan.len() + 2 * inputs.node_table.len() + inputs.state_table.len() < COPIED)
-}
-
-fn lent<'a>(call: &Call<'a>) -> Option<Inputs<'a>> {
+/// What is lent with a call.
+pub fn lent<'a>(call: &Call<'a>) -> Option<Inputs<'a>> {
     match *call {
         Call::Load(inputs) | Call::Start(inputs, ..) | Call::Advance(inputs) => Some(inputs),
         Call::Cancel | Call::Read => None,
     }
 }
 
-pub fn copies(inputs: Inputs) -> (Vec<u8>, Vec<u8>, Vec<u16>, Vec<u8>) {
-    (inputs.plan.to_vec(), inputs.rules.to_vec(), inputs.node_table.to_vec(), inputs.state_table.to_vec())
+/// What was lent before a call, to see whether it stays.
+pub struct Copies {
+    plan: Vec<u8>,
+    rules: Vec<u8>,
+    node_table: Vec<u16>,
+    state_table: Vec<u8>,
+}
+
+impl Copies {
+    pub fn of(inputs: Inputs) -> Copies {
+        let (plan, rules) = (inputs.plan.to_vec(), inputs.rules.to_vec());
+        Copies { plan, rules, node_table: inputs.node_table.to_vec(), state_table: inputs.state_table.to_vec() }
+    }
+
+    /// What is lent is as it was.
+    pub fn are(&self, call: &Call) -> bool {
+        lent(call).map_or(true, |now| {
+            now.plan == self.plan
+                && now.rules == self.rules
+                && now.node_table == self.node_table
+                && now.state_table == self.state_table
+        })
+    }
 }
 
 /// What a number and the told values mean; the values that the call does not tell are as they were.

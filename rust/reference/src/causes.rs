@@ -2,7 +2,6 @@
 //! looked for in all that is lent, value by value, and not on the way that a call goes.
 
 use crate::fresh::changed;
-use crate::mistakes::{made, Mistake};
 use crate::panel::{Inputs, Sizes};
 
 /// The four numbers of each node; 0 past the last node.
@@ -59,7 +58,7 @@ pub fn anywhere(sizes: Sizes, inputs: &Inputs, nodes: &[u16], labels: &[u8]) -> 
     let no_state = |&q: &u8| q as usize >= s;
     let no_label = |&a: &u8| a as usize >= k;
     let in_node_table = || (0..n).any(|v| node_table.strays(v) || node_table.is_apart(v));
-    !made(Mistake::NodeTableIsNoCause) && in_node_table()
+    in_node_table()
         || states.iter().chain(rules).any(no_state)
         || plan_labels.iter().chain(&changed(plan_labels, nodes, labels)).any(no_label)
         || (0..n).any(|v| kinds[v] != 0 && node_table.is_childless(v))

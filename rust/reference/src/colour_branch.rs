@@ -4,7 +4,6 @@
 use crate::branch::Reading;
 use crate::colours::{colour_of, Colours, LentColours, Place, Way};
 use crate::formats::{number, read_branch, read_plan, Branch, Plan, MAX_LABELS, MAX_NODES, MAX_STATES};
-use crate::mistakes::{made, unless, Mistake};
 use crate::tables::Tables;
 use crate::tree::Tree;
 
@@ -63,7 +62,7 @@ pub fn by_path(
     let above = || if upper == tree.root() { None } else { Some(tree.parent[upper]) };
     let from = match reading {
         Reading::WithUpper => above(),
-        Reading::BelowUpper => unless(Mistake::CopyAbove, Some(upper), above()),
+        Reading::BelowUpper => Some(upper),
     };
     let start = match from {
         None => 0,
@@ -109,7 +108,7 @@ fn named(inputs: &Inputs) -> Result<(usize, usize, usize), u32> {
 /// 17, 13, 16, 18 or the answer.
 pub fn on_tables(reading: Reading, inputs: Inputs, upper: u32, lower: u32) -> Result<Answer, u32> {
     let (n, s, k) = named(&inputs)?;
-    let [upper, lower] = [upper, lower].map(|v| unless(Mistake::NodesCut, v, v & 0xffff) as usize);
+    let [upper, lower] = [upper, lower].map(|v| v as usize);
     if upper >= n || lower >= n {
         return Err(13);
     }
@@ -117,11 +116,10 @@ pub fn on_tables(reading: Reading, inputs: Inputs, upper: u32, lower: u32) -> Re
     if lower > upper || upper >= lower + cell(upper, 3) {
         return Err(16);
     }
-    let with_upper = (reading == Reading::WithUpper) != made(Mistake::ReadingsExchanged);
-    let from: Place = match (with_upper, upper + 1 == n) {
-        (false, _) => Some(upper),
-        (true, true) => None,
-        (true, false) => Some(cell(upper, 0)),
+    let from: Place = match reading {
+        Reading::BelowUpper => Some(upper),
+        Reading::WithUpper if upper + 1 == n => None,
+        Reading::WithUpper => Some(cell(upper, 0)),
     };
     if from.map_or(false, |z| z >= n) {
         return Err(18);
@@ -136,5 +134,5 @@ pub fn on_tables(reading: Reading, inputs: Inputs, upper: u32, lower: u32) -> Re
         return Err(18);
     }
     let mark = inputs.branch[16 + s * k + state as usize];
-    Ok(answer(state, &way, |_| unless(Mistake::AnyMarkIsYes, mark == 1, mark != 0)))
+    Ok(answer(state, &way, |_| mark == 1))
 }

@@ -10,7 +10,6 @@ use crate::count::named;
 use crate::formats::{read_plan, read_rules, Plan, Rules};
 use crate::fresh::{changed, check_list};
 use crate::lists::differing;
-use crate::mistakes::{made, unless, Mistake};
 use crate::panel;
 use crate::ready::by_marks;
 use crate::tables::{rule_tables, run};
@@ -102,17 +101,11 @@ impl<'a> Coloured<'a> {
     /// order up to it, and the drops add up": the state at child c, where node w below it is in state q.
     fn tried(&self, c: usize, w: usize, q: u8) -> Tried {
         let mut searches = Vec::new();
-        let mut targets: Vec<u8> = (0..self.rules.states as u8).collect();
-        if made(Mistake::TargetsFalling) {
-            targets.reverse();
-        }
-        for x in targets {
+        for x in 0..self.rules.states as u8 {
             let colour = colour_of(&self.colours.copies[c], 1 << x);
             let way = self.colours.down(&self.tree, Some(c), w, colour);
             let holds = holds(self.colours.copies[w][way.colour], q);
-            if holds || !made(Mistake::FailedTrialFree) {
-                searches.extend(way.searches);
-            }
+            searches.extend(way.searches);
             if holds {
                 return Tried { state: x, searches };
             }
@@ -133,7 +126,7 @@ fn led(tree: &Tree, plan: &Plan, rules: &Rules, states: &[u8], v: usize, set: u8
     }
     let p = tree.parent[v];
     let (left, right) = tree.children[p].expect("a parent is an inner node");
-    let is_left = unless(Mistake::PreimageOfTheOtherSide, v == left, v != left);
+    let is_left = v == left;
     let up = |q: u8| match is_left {
         true => rules.inner(q, plan.labels[p], states[right]),
         false => rules.inner(states[left], plan.labels[p], q),
@@ -145,14 +138,10 @@ fn led(tree: &Tree, plan: &Plan, rules: &Rules, states: &[u8], v: usize, set: u8
 pub fn build(plan: &[u8], rules: &[u8], numbers_len: usize, bytes_len: usize) -> Result<ColourTables, u32> {
     let plan = read_plan(plan)?;
     let rules = read_rules(rules)?;
-    let many = rules.states > MOST_STATES;
-    if many && !made(Mistake::StatesAfterLabels) {
+    if rules.states > MOST_STATES {
         return Err(27);
     }
     plan.labels_below(rules.labels)?;
-    if many {
-        return Err(27);
-    }
     let (n, s) = (plan.nodes(), rules.states);
     let (numbers, bytes) = lens(n, s);
     if numbers_len < numbers || bytes_len < bytes {

@@ -7,7 +7,6 @@
 use crate::climb::{climb, Move};
 use crate::formats::{number, read_plan, read_rules, Plan, Rules, MAX_LABELS, MAX_NODES, MAX_STATES};
 use crate::fresh::MAX_CHANGES;
-use crate::mistakes::{made, unless, Mistake};
 use crate::panel::{Inputs, Sizes};
 use crate::ready::by_marks;
 use crate::tables::{run, Tables};
@@ -45,9 +44,6 @@ pub fn checks(inputs: &Inputs, nodes: &[u16]) -> Result<Sizes, u32> {
     }
     let below = nodes.iter().all(|&v| (v as usize) < sizes.n);
     let different = nodes.iter().enumerate().all(|(i, v)| !nodes[..i].contains(v));
-    if made(Mistake::TwiceBeforeNodes) && !different {
-        return Err(15);
-    }
     if !below {
         return Err(13);
     }
@@ -55,7 +51,7 @@ pub fn checks(inputs: &Inputs, nodes: &[u16]) -> Result<Sizes, u32> {
         return Err(15);
     }
     let all = (0..nodes.len()).try_fold(1u64, |all, _| all.checked_mul(sizes.k as u64));
-    let few = |all: u64| unless(Mistake::LimitRefused, all <= MOST_ASSIGNMENTS, all < MOST_ASSIGNMENTS);
+    let few = |all: u64| all <= MOST_ASSIGNMENTS;
     if !all.map_or(false, few) {
         return Err(26);
     }
@@ -174,7 +170,6 @@ impl Given<'_> {
     /// The counts of the part that v roots, and its links; `handled` are those of the members before it.
     fn part(&self, members: &[usize], handled: &[Vec<u64>], open: bool, v: usize) -> (Vec<u64>, usize) {
         let own = self.labels[v]..self.labels[v] + 1;
-        let open = open && !made(Mistake::OwnLabelOnly);
         let labels = if open { 0..self.rules.labels as u8 } else { own };
         let mut counts = vec![0; self.rules.states];
         let (left, right) = match self.tree.children[v] {
@@ -201,8 +196,7 @@ impl Given<'_> {
         for a in labels {
             for (p, x) in some(&at_left) {
                 for (q, y) in some(&at_right) {
-                    let ways = unless(Mistake::ForkAdded, x * y, x + y);
-                    counts[self.rules.inner(p, a, q) as usize] += ways;
+                    counts[self.rules.inner(p, a, q) as usize] += x * y;
                 }
             }
         }
@@ -228,7 +222,7 @@ impl Given<'_> {
         let carry = |q: u8| moves.iter().fold(q, |q, &one| self.moved(one, q));
         let mut counts = vec![0; self.rules.states];
         for (q, x) in some(from) {
-            counts[unless(Mistake::CountsNotCarried, carry(q), q) as usize] += x;
+            counts[carry(q) as usize] += x;
         }
         (counts, moves.len())
     }

@@ -13,7 +13,6 @@
 use crate::causes;
 use crate::formats::{read_plan, read_rules};
 use crate::fresh::{changed, check_list, fresh_run};
-use crate::mistakes::{made, Mistake};
 use crate::panel::{Answer, Call, Inputs, Outcome, Phase, Sizes};
 use crate::parts::{totals, Given, Part};
 use crate::ready::by_marks;
@@ -157,7 +156,7 @@ impl Reference {
         let question = self.question.as_ref().expect("running");
         let (same, usable) = (question.start.same(inputs), question.start.usable(self.sizes, inputs));
         let settlement = match question.settlement {
-            Settlement::Clean if same || usable && made(Mistake::CleanForEver) => Settlement::Clean,
+            Settlement::Clean if same => Settlement::Clean,
             Settlement::Clean | Settlement::ByRule if usable => Settlement::ByRule,
             _ => return self.advance_left(question, inputs, usable),
         };
@@ -202,9 +201,7 @@ impl Reference {
     /// what Read tells is left to the program as far as 01 leaves it."
     fn read(&self) -> Reply {
         let question = self.last.as_ref().expect("finished");
-        let running_clean = self.question.as_ref().map(|running| running.settlement) == Some(Settlement::Clean);
         let told = match question.settlement {
-            _ if running_clean && made(Mistake::LastCleanByRunning) => question.start.fresh_answer(),
             Settlement::Clean => question.start.fresh_answer(),
             Settlement::ByRule => question.start.rule_answer(&question.parts),
             Settlement::ByProgram => {
@@ -220,7 +217,7 @@ impl Reference {
 /// "A listed node whose label equals the plan's is left out of W .., after superseding": by the labels before and after.
 fn left(before: &[u8], after: &[u8], nodes: &[u16]) -> Vec<u16> {
     let differs = |&&v: &&u16| before[v as usize] != after[v as usize];
-    nodes.iter().filter(|v| differs(v) || made(Mistake::OwnLabelListed)).copied().collect()
+    nodes.iter().filter(|v| differs(v)).copied().collect()
 }
 
 impl Start {
@@ -232,8 +229,7 @@ impl Start {
         crate::build_checks(inputs.plan, inputs.rules, usize::MAX, usize::MAX).ok()?;
         let (plan, rules) = (read_plan(inputs.plan).unwrap(), read_rules(inputs.rules).unwrap());
         let written = rule_tables(&plan, &rules);
-        let states_same = state_table == written.state_table || made(Mistake::BytesNotAsked);
-        if named(inputs) != sizes || node_table != written.node_table || !states_same {
+        if named(inputs) != sizes || node_table != written.node_table || state_table != written.state_table {
             return None;
         }
         let tree = Tree::of(&plan);

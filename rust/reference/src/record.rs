@@ -27,7 +27,6 @@
 
 use crate::formats::{MAX_LABELS, MAX_STATES};
 use crate::fresh::MAX_CHANGES;
-use crate::mistakes::{made, Mistake};
 use crate::panel::{Outcome, Phase, Sizes};
 
 pub const RECORD_BYTES: usize = 983;
@@ -124,7 +123,7 @@ impl Record {
             last: last_of(bytes),
         };
         // bytes that no record has: entries in use no more, a yes of 2, values of an answer that is not there
-        if (record.bytes() == bytes || made(Mistake::TailsFree)) && record.holds() {
+        if record.bytes() == bytes && record.holds() {
             Some(record)
         } else {
             None
@@ -142,8 +141,7 @@ impl Record {
                 self.question_holds() && self.last_holds() && self.states.len() < self.roots.len() && !self.yes
             }
             Phase::Answered => {
-                let own = self.last == self.answer() || made(Mistake::LastFree) && self.last_holds();
-                self.question_holds() && self.states.len() == self.roots.len() && own
+                self.question_holds() && self.states.len() == self.roots.len() && self.last == self.answer()
             }
         }
     }
@@ -190,7 +188,7 @@ fn last_of(bytes: &[u8]) -> Option<Outcome> {
 
 /// Each move passes over a node at least, and each climb over 65,535 at most: "links ≤ passed ≤ 65,535 for each part".
 fn counts_hold(links: u32, passed: u32, parts: usize) -> bool {
-    (links <= passed || made(Mistake::PassedFree)) && passed as usize <= 65_535 * parts
+    links <= passed && passed as usize <= 65_535 * parts
 }
 
 fn double(bytes: &[u8], at: usize) -> u32 {

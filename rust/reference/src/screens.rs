@@ -2,7 +2,6 @@
 //! it. Each is eight of what a single session has, and what the document says of who is meant, who is served and which
 //! number is told.
 
-use crate::mistakes::{made, unless, Mistake};
 use crate::model::{self, Reference};
 use crate::panel::{Answer, Call, Inputs, Phase};
 use crate::record::{Record, RECORD_BYTES};
@@ -75,66 +74,42 @@ pub fn whose(
     busy: impl Fn(usize) -> bool,
     runs: impl Fn(usize) -> bool,
 ) -> Whose {
-    let screen = |number: u32| unless(Mistake::ScreenCut, number as usize, number as u8 as usize);
     let named = match *call {
         ScreenCall::Load(_) => 0,
-        ScreenCall::Start(number, ..) | ScreenCall::Cancel(number) | ScreenCall::Read(number) => screen(number),
-        ScreenCall::Deal(number, _) => screen(number),
+        ScreenCall::Start(number, ..) | ScreenCall::Cancel(number) | ScreenCall::Read(number) => number as usize,
+        ScreenCall::Deal(number, _) => number as usize,
     };
-    let wrong = !right_length || named >= SCREENS;
-    let late = made(Mistake::StateBeforeScreen);
-    if wrong && !late {
+    if !right_length || named >= SCREENS {
         return Whose::Nobody(25);
     }
-    let whose = match *call {
+    match *call {
         ScreenCall::Load(_) if (0..SCREENS).any(busy) => Whose::Nobody(1),
         ScreenCall::Load(_) => Whose::All,
-        ScreenCall::Deal(..) => {
-            let from = unless(Mistake::ServedFromZero, named, 0);
-            next(from, runs).map_or(Whose::Nobody(1), Whose::Turn)
-        }
+        ScreenCall::Deal(..) => next(named, runs).map_or(Whose::Nobody(1), Whose::Turn),
         _ => Whose::Screen(named),
-    };
-    match whose {
-        Whose::Nobody(_) => whose,
-        _ if wrong => Whose::Nobody(25),
-        _ => whose,
     }
 }
 
 /// "the next running screen .., going from 7 back to 0", the one to try first included
 fn next(first: usize, runs: impl Fn(usize) -> bool) -> Option<usize> {
-    (first..SCREENS).chain(0..first.min(SCREENS)).find(|&i| runs(i))
+    (first..SCREENS).chain(0..first).find(|&i| runs(i))
 }
 
 /// "one past the screen served, 0 past 7"
 fn after(served: usize) -> u32 {
-    let past = (served as u32 + 1) % unless(Mistake::EightToldPastSeven, 8, 9);
-    unless(Mistake::ServedTold, past, served as u32)
+    (served as u32 + 1) % 8
 }
 
 /// A call on the run's bytes.
 pub fn call(run: &[u8], call: &ScreenCall) -> Done {
-    let right_length = run.len() == RUN_BYTES || run.len() == RUN_BYTES + 1 && made(Mistake::LongerRun);
     let record = |i: usize| run.get(RECORD_BYTES * i..RECORD_BYTES * (i + 1)).unwrap_or(&[]);
     let is_running = |i: usize| record(i).first() == Some(&2);
     let whole = |i: usize| Record::of(record(i)).is_some();
     let busy = |i: usize| is_running(i) || !whole(i);
-    let runs = |i: usize| is_running(i) && (whole(i) || !made(Mistake::BrokenPassedOver));
-    let answer = |whose| match whose {
+    match whose(call, run.len() == RUN_BYTES, busy, is_running) {
         Whose::Nobody(number) => refused(run, number),
         Whose::All => load_all(run, call),
         Whose::Screen(i) | Whose::Turn(i) => on_screen(run, i, record(i), call),
-    };
-    let whose = whose(call, right_length, busy, runs);
-    let broken = (0..SCREENS).any(|i| !whole(i));
-    match (whose, answer(whose)) {
-        (Whose::Turn(_), _) if broken && made(Mistake::DealAsksAll) => refused(run, 1),
-        // a deal refused with 17 or 18 goes on to the next screen
-        (Whose::Turn(i), done) if done.answer.number().is_none() && made(Mistake::RefusedGoesOn) => {
-            next(i + 1, runs).map_or(done, |other| on_screen(run, other, record(other), call))
-        }
-        (_, done) => done,
     }
 }
 
@@ -152,18 +127,7 @@ fn load_all(run: &[u8], call: &ScreenCall) -> Done {
     if let Answer::Refused(number) = one.answer {
         return refused(run, number);
     }
-    let mut all = one.record.repeat(SCREENS);
-    all.extend(&run[RUN_BYTES..]);
-    if made(Mistake::OneCleared) {
-        all[RECORD_BYTES..].copy_from_slice(&run[RECORD_BYTES..]);
-    }
-    if made(Mistake::AnswersStay) {
-        for (now, was) in all.chunks_exact_mut(RECORD_BYTES).zip(run.chunks_exact(RECORD_BYTES)) {
-            now[967..975].copy_from_slice(&was[967..975]);
-            now[979..983].copy_from_slice(&was[979..983]);
-        }
-    }
-    Done { answer: ScreenAnswer::Loaded(0), run: all, tables: one.tables }
+    Done { answer: ScreenAnswer::Loaded(0), run: one.record.repeat(SCREENS), tables: one.tables }
 }
 
 /// The call of a single session on the record of a screen; the others stay.
@@ -171,11 +135,6 @@ fn on_screen(run: &[u8], i: usize, record: &[u8], call: &ScreenCall) -> Done {
     let one = session::call(record, &alone(call));
     let mut run = run.to_vec();
     run[RECORD_BYTES * i..RECORD_BYTES * (i + 1)].copy_from_slice(&one.record);
-    let refused = matches!(one.answer, Answer::Refused(_));
-    if made(Mistake::NextOneWritten) && !refused && !matches!(call, ScreenCall::Read(_)) {
-        let other = (i + 1) % SCREENS;
-        run.copy_within(RECORD_BYTES * i..RECORD_BYTES * (i + 1), RECORD_BYTES * other);
-    }
     Done { answer: told(call, i, one.answer), run, tables: None }
 }
 

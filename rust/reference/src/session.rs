@@ -1,13 +1,14 @@
 //! The five calls of the panel session, on the record's bytes.
 
-use crate::formats::number;
+use crate::formats::{number, read_plan};
 use crate::fresh::check_list;
 use crate::lent::View;
 use crate::lists::differing;
-use crate::mistakes::{made, unless, Mistake};
-use crate::panel::{Answer, Call, Inputs, Outcome, Phase, Sizes};
+use crate::panel::{Answer, Call, Inputs, Phase, Sizes};
+use crate::ready;
 use crate::record::Record;
 use crate::tables::Tables;
+use crate::tree::Tree;
 use crate::{build, check};
 
 /// What a call leaves: the answer, the record's bytes, and the tables that an accepted Load writes.
@@ -43,23 +44,15 @@ impl Record {
             Call::Load(inputs) => self.load(inputs),
             Call::Start(inputs, nodes, labels) => self.start(inputs, nodes, labels),
             Call::Advance(inputs) => self.advance(inputs),
-            Call::Cancel => {
-                let last = self.last.filter(|_| !made(Mistake::CancelEmpties));
-                Ok((Answer::Accepted, Record::loaded_with(self.sizes, last), None))
-            }
-            Call::Read => {
-                let last = self.last.expect("it is there");
-                let passed = unless(Mistake::PassedToldAsLinks, last.passed, last.links);
-                Ok((Answer::Outcome(Outcome { passed, ..last }), self, None))
-            }
+            Call::Cancel => Ok((Answer::Accepted, Record::loaded_with(self.sizes, self.last), None)),
+            Call::Read => Ok((Answer::Outcome(self.last.expect("it is there")), self, None)),
         }
     }
 
     /// 2 to 11. "Emptied by an accepted Load."
     fn load(self, inputs: Inputs) -> Result<After, u32> {
         let tables = build(inputs.plan, inputs.rules, inputs.node_table.len(), inputs.state_table.len())?;
-        let last = self.last.filter(|_| made(Mistake::LoadKeeps));
-        Ok((Answer::Accepted, Record::loaded_with(named(&inputs), last), Some(tables)))
+        Ok((Answer::Accepted, Record::loaded(named(&inputs)), Some(tables)))
     }
 
     /// 17, 12 to 14, 18. It tells the number of parts; of earlier questions the last finished answer alone stays. The list is
@@ -71,16 +64,14 @@ impl Record {
             return Err(18);
         }
         let left = differing(&inputs.plan[12..12 + self.sizes.n], nodes, labels);
-        let roots = View::new(self.sizes, &inputs).roots(&left);
+        let roots = ready::roots(&Tree::of(&read_plan(inputs.plan)?), &left);
         let answer = Answer::Parts(roots.len() as u32);
         let record = Record {
             phase: Phase::Running,
-            links: unless(Mistake::LinksKept, 0, self.links),
-            passed: unless(Mistake::PassedKept, 0, self.passed),
             nodes: nodes.to_vec(),
             labels: labels.to_vec(),
             roots: roots.iter().map(|&v| v as u16).collect(),
-            ..Record::loaded_with(self.sizes, self.last.filter(|_| !made(Mistake::StartEmpties)))
+            ..Record::loaded_with(self.sizes, self.last)
         };
         Ok((answer, record, None))
     }
@@ -95,7 +86,7 @@ impl Record {
         self.states.push(part.state);
         self.links += part.links as u32;
         self.passed += part.passed as u32;
-        if self.states.len() + unless(Mistake::FinishedEarly, 0, 1) < self.roots.len() {
+        if self.states.len() < self.roots.len() {
             return Ok((Answer::More, self, None));
         }
         self.phase = Phase::Answered;
@@ -108,8 +99,7 @@ impl Record {
 /// "Start shall make the full check of what is lent", with the record's N, S and K. Nothing asks whether it is the plan
 /// of the Load.
 fn sound(sizes: Sizes, inputs: &Inputs) -> bool {
-    (named(inputs) == sizes || made(Mistake::NamesNotAsked))
-        && check(inputs.plan, inputs.rules, inputs.node_table, inputs.state_table) == Ok(true)
+    named(inputs) == sizes && check(inputs.plan, inputs.rules, inputs.node_table, inputs.state_table) == Ok(true)
 }
 
 /// N, S and K as the headers name them.

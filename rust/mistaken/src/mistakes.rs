@@ -1,5 +1,5 @@
-//! Wrong variants of this implementation, for the test that the comparison notices each of them. Only with the feature
-//! `mistakes`, and only inside `making`; else nothing is `made`, and `unless` gives what is right.
+//! Wrong variants of the reference, for the test that the comparison notices each of them. Outside `making` nothing is
+//! `made`, and `unless` gives what is right. mistakes.patch has the places where they are made.
 
 use std::cell::Cell;
 
@@ -171,7 +171,7 @@ thread_local! {
 
 /// Is this mistake made?
 pub fn made(mistake: Mistake) -> bool {
-    cfg!(feature = "mistakes") && MADE.with(Cell::get) == Some(mistake)
+    MADE.with(Cell::get) == Some(mistake)
 }
 
 /// What is right; what is wrong where this mistake is made.
@@ -184,7 +184,6 @@ pub fn unless<T>(mistake: Mistake, right: T, wrong: T) -> T {
 }
 
 /// Makes a mistake in this thread while `f` runs.
-#[cfg(feature = "mistakes")]
 pub fn making<T>(mistake: Option<Mistake>, f: impl FnOnce() -> T) -> T {
     MADE.with(|made| made.set(mistake));
     let done = f();
