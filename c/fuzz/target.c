@@ -52,11 +52,24 @@ static const struct {
     [WRITTEN] = {"counts and writers", try_written, 1u | FROM(3, 5) | FROM(11, 11)},
 };
 
+/* Of those, the ones that no input gets: tables are as long as the plan and the rules ask for, and keep their length. */
+static const uint32_t never[TRIES] = {
+    [QUESTION] = FROM(11, 11),
+    [PANEL] = FROM(11, 11) | FROM(17, 17),
+    [SCREENS] = FROM(11, 11) | FROM(17, 17),
+};
+
 #define MOST 27 /* the greatest number of a refusal */
 static size_t given[TRIES][MOST + 1];
 __attribute__((section("__libfuzzer_extra_counters"))) static uint8_t counters[TRIES][MOST + 1][16];
 
-/* How often each call was accepted, and the refusals that it gave. */
+/* The call that is tried, and what accepted calls came to. */
+static size_t trying;
+__attribute__((section("__libfuzzer_extra_counters"))) static uint8_t results[TRIES][64];
+
+void reached(uint32_t what) { results[trying][what % 64] = 1; }
+
+/* How often each call was accepted and refused, with which numbers, and the answers that it can give and did not. */
 static void print_given(void) {
     for (size_t i = 0; i < TRIES; i++) {
         size_t refused = 0;
@@ -68,6 +81,9 @@ static void print_given(void) {
         for (uint32_t number = 1; number <= MOST; number++)
             if (given[i][number])
                 printf(" %u", number);
+        for (uint32_t number = 0; number <= MOST; number++)
+            if (!given[i][number] && ((tries[i].answers & ~never[i]) >> number & 1))
+                printf(", NOT MET: %u", number);
         printf("\n");
     }
 }
@@ -79,15 +95,20 @@ int LLVMFuzzerInitialize(int *argc, char ***argv) {
 
 size_t LLVMFuzzerMutate(uint8_t *data, size_t size, size_t max_size);
 
+/* The bytes in front: a list, nodes, or a screen's number. What follows passes the checks only where all of it fits. */
+#define FRONT 24
+
 /* Mostly a few bytes in their places: a byte more or less would move all that follows. The call stays. */
 size_t LLVMFuzzerCustomMutator(uint8_t *data, size_t size, size_t max_size, unsigned chance) {
     if (size < 2)
         return size;
     if (chance % 4 == 0)
         return 1 + LLVMFuzzerMutate(data + 1, size - 1, max_size - 1);
+    int front = chance % 4 == 1 || (chance % 4 == 2 && data[0] % TRIES == START);
+    size_t reach = front && size > FRONT ? FRONT : size - 1;
     for (unsigned i = chance % 3 + 1; i > 0; i--) {
         chance = chance * 1664525u + 1013904223u;
-        uint8_t *byte = data + 1 + (chance >> 8) % (size - 1);
+        uint8_t *byte = data + 1 + (chance >> 8) % reach;
         if (chance >> 28 == 0)
             *byte ^= (uint8_t)(1u << (chance >> 25 & 7));
         else if (chance >> 28 == 1)
@@ -109,7 +130,7 @@ int LLVMFuzzerTestOneInput(const uint8_t *data, size_t size) {
     struct input in = {data, size};
     if (size == 0)
         return 0;
-    size_t at = take(&in, 1) % TRIES;
+    size_t at = trying = take(&in, 1) % TRIES;
     give_back(take(&in, 1) & 1);
     uint32_t answer = tries[at].call(&in);
     sure(answer <= MOST && (tries[at].answers >> answer & 1), "the call may give this answer");
