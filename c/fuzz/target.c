@@ -1,8 +1,8 @@
 /*
  * The fuzz target: an input picks a call, and the call is held to what must hold of it whatever is lent. The archive
- * has no counters of its own, so libFuzzer is told which call gave which answer to an input of about which length.
- * Answers for a wrong length, a wrong header or a broken record it is not told: what it would make of such inputs ends
- * there too.
+ * has no counters of its own, so libFuzzer is told which call gave which answer to an input of about which length, and
+ * what accepted calls came to. Answers for a wrong length, a wrong header or a broken record it is not told: what it would
+ * make of such inputs ends there too. It is told of one input for each where inputs are kept (FUZZ_KEEP, of c/fuzz/run).
  */
 #include "calls.h"
 #include "whatif.h"
@@ -137,5 +137,7 @@ int LLVMFuzzerTestOneInput(const uint8_t *data, size_t size) {
     given[at][answer]++;
     if (!(EARLY >> answer & 1))
         counters[at][answer][binary_digits(size) % 16] = 1;
+    else if (getenv("FUZZ_KEEP"))
+        counters[at][answer][0] = 1;
     return 0;
 }
