@@ -67,6 +67,7 @@ uint32_t try_count(struct input *in) {
             &one);
     held(&counts, 0, "the told form writes the same counts");
     sure(out[0] >= 1 && out[0] <= WHATIF_MAX_PARTS, "1 to 254 parts");
+    reached(out[0]);
     for (size_t i = 0; i < named(&q.rules, 0); i++)
         sure(((const uint64_t *)counts.at)[i] <= WHATIF_MAX_ASSIGNMENTS, "no count is above the limit");
     if (as_built(&q))

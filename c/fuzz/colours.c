@@ -107,6 +107,7 @@ static uint32_t ask(const struct coloured *q, int with_upper, uint32_t upper, ui
         uint32_t s = named(&q->branch, 0);
         sure(out[0] < s && out[1] <= 1 && out[2] < s, "a question by colours tells a state, and fewer drops than states");
         sure(out[3] <= 65535 * out[2], "no search has more links than nodes");
+        reached(out[2] * 8 + out[0]);
     }
     if (built)
         as_by_climb(q, with_upper, upper, lower, answer, out);
@@ -216,6 +217,7 @@ uint32_t try_colour_ask(struct input *in) {
     told(answer, out, 5);
     if (answer == WHATIF_ACCEPTED) {
         sure(out[0] < named(&rules, 0) && out[1] <= 1, "a question by colours tells a state");
+        reached(out[2] * 8 + out[4]);
         sure(out[4] >= 1 && out[4] <= WHATIF_MAX_PARTS && out[2] <= 60 * out[4], "at most 60 drops for each part");
     }
     if ((answer != WHATIF_ACCEPTED && answer != WHATIF_REFUSED_LENT_VALUE) || !sets_as_built(&q))

@@ -44,6 +44,9 @@ void keep(struct lent *one);
 /* The elements from `from` on are as they were kept. */
 void held(const struct lent *one, size_t from, const char *what);
 
+/* Tells libFuzzer what an accepted call came to (its parts, links, lines), so that it keeps such inputs. target.c */
+void reached(uint32_t what);
+
 /* Refused, no out value is told; accepted, none is left as it was. */
 void told(uint32_t answer, const uint32_t *out, size_t count);
 /* Ends the fuzzing with this input unless `holds`. */

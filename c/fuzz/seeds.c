@@ -207,6 +207,42 @@ static void refused_starts(void) {
     start_with("-18", &questions[3], 2, record);
 }
 
+static void screen_on(const char *which, enum screen_step call, const uint8_t *record, const struct question *list,
+                      size_t labels, const uint8_t *of_plan, size_t plan_len, size_t rules_len, size_t states_len) {
+    begin(SCREEN, sample.name, which), put(BEFORE, 1), put(call, 1), put(3, 4), put(0, 1), put(0xff, 1);
+    bytes(record, WHATIF_RECORD_BYTES), numbers(list->nodes, list->m), bytes(list->labels, labels);
+    bytes(of_plan, plan_len), bytes(rules, rules_len);
+    if (call == ON_LOAD)
+        put(WHATIF_NODE_TABLE_LEN(N), 2), put(WHATIF_STATE_TABLE_LEN(N, S), 2);
+    else
+        numbers(nodes, 28), bytes(states, states_len);
+    end();
+}
+
+/* The refusals of a screen's Load and Start that a single byte does not lead to; lists
+ * of calls that end with such a refusal, Load being 0 and Start 1 in both. */
+static void refused_screens(void) {
+    uint8_t record[WHATIF_RECORD_BYTES] = {0};
+    must(whatif_load(record, sizeof record, PLAN(&sample), RULES(&sample), nodes, 28, states, 21) == 0);
+    screen_on("-load-6", ON_LOAD, record, &questions[0], 0, PLAN(&sample), 19, 21);
+    screen_on("-load-10", ON_LOAD, record, &questions[0], 0, PLAN(&comb), sizeof rules, 21);
+    screen_on("-start-12", ON_START, record, &questions[1], 0, PLAN(&sample), sizeof rules, 21);
+    screen_on("-start-13", ON_START, record, &questions[6], 1, PLAN(&sample), sizeof rules, 21);
+    screen_on("-start-14", ON_START, record, &questions[7], 1, PLAN(&sample), sizeof rules, 21);
+    screen_on("-start-17", ON_START, record, &questions[1], 1, PLAN(&sample), sizeof rules, 20);
+    states[20] ^= 1;
+    screen_on("-start-18", ON_START, record, &questions[1], 1, PLAN(&sample), sizeof rules, 21);
+    states[20] ^= 1;
+    for (enum try list = PANEL; list <= SCREENS; list += SCREENS - PANEL) {
+        begin(list, sample.name, "-6"), put(BEFORE, 1), bytes(PLAN(&sample)), bytes(rules, 19), put(0, 1), end();
+        begin(list, sample.name, "-10"), put(BEFORE, 1), bytes(PLAN(&comb)), bytes(RULES(&sample)), put(0, 1), end();
+        begin(list, sample.name, "-14"), put(BEFORE, 1), plan_and_rules(&sample), put(0, 1), put(1, 1);
+        if (list == SCREENS)
+            put(7, 4);
+        changes(&questions[7]), end();
+    }
+}
+
 static void step(enum step which) { put(which, 1); }
 
 /* Load, Start, some advances, Cancel, Start, the first state byte altered to 1, advances, Read; the byte altered back, Start,
@@ -478,6 +514,15 @@ static void sets_of(const char *name, const uint8_t *p, size_t n, const uint8_t 
     sets_ask(name, "-18", BEFORE, &questions[1], p, n, r, k);
 }
 
+/* The sample's plan with other rules and tables of 1s as long as they need: 12 with a node and no label, or 27. */
+static void sets_refused(const char *name, const uint8_t *r, size_t len, size_t s, size_t listed) {
+    static const uint16_t ones[WHATIF_COLOUR_NUMBERS(SAMPLE_NODES, 5)] = {1, 1, 1};
+    static const uint8_t more[WHATIF_COLOUR_BYTES(SAMPLE_NODES, 5)] = {1, 1, 1};
+    begin(COLOUR_ASK, name, ""), put(BEFORE, 1), numbers(ones, listed), bytes(more, 0), bytes(PLAN(&sample));
+    bytes(r, len), numbers(ones, WHATIF_NODE_TABLE_LEN(SAMPLE_NODES)), bytes(more, WHATIF_STATE_TABLE_LEN(SAMPLE_NODES, s));
+    numbers(ones, WHATIF_COLOUR_NUMBERS(SAMPLE_NODES, s)), bytes(more, WHATIF_COLOUR_BYTES(SAMPLE_NODES, s)), end();
+}
+
 /* The comb under a table that keeps the state from below where a label is odd; five states get 27. */
 static void sets(void) {
     static uint8_t two[WHATIF_RULES_BYTES(2, K)] = {2, 0, 0, 0, K, 0, 0, 0, 20, 0, 0, 0, 20 + K, 0, 0, 0, 20 + 5 * K};
@@ -491,6 +536,7 @@ static void sets(void) {
     two[sizeof two - 1] = 1;
     sets_of("a", plan, SAMPLE_NODES, rules, 2), sets_of("b", plan_b, N, two, K);
     sets_build("five", plan, SAMPLE_NODES, five, 2, 5);
+    sets_refused("a-12", rules, sizeof rules, 2, 1), sets_refused("five-27", five, sizeof five, 5, 0);
 }
 
 static void confirmation(const struct plan *p, const char *which, const struct question *list, const uint8_t *record) {
@@ -583,7 +629,7 @@ int main(int argc, char **argv) {
     }
     fill_b();
     on_tables(&sample), on_records(&sample, &questions[1]), panel(&sample, &questions[3]);
-    refused_starts();
+    refused_starts(), refused_screens();
     merges(&sample, &comb), merges(&comb, &sample);
     agreements(&sample, &comb), agreements(&comb, &sample);
     planner_files("one", (const uint8_t[]){7}, (const uint8_t[]){0}, 1);

@@ -2,6 +2,7 @@
 #include "session.h"
 
 #include "calls.h"
+#include "plain.h"
 #include "told.h"
 
 /* What Read answers now, with its five values. */
@@ -61,20 +62,19 @@ uint32_t load(struct session *s) {
         keep(&s->states);
         uint32_t checked = whatif_check(LENT(s->plan), LENT(s->rules), LENT(s->nodes), LENT(s->states), &yes);
         sure(checked == WHATIF_ACCEPTED && yes == 1, "a full check after Load says yes");
+        sure(plainly_built(&s->plan, &s->rules, &s->nodes, &s->states), "Load writes what the definitions say");
         sure(last_of(s).answer == WHATIF_REFUSED_SESSION_STATE, "after Load there is no answer to read");
     }
     done(s, answer, LOADED);
     return answer;
 }
 
-/* The record's N, S and K; plan and rules name them, and a full check says yes. */
+/* The record's N, S and K; plan and rules name them, and the tables are theirs. No call of the library is asked. */
 static int sound(const struct session *s) {
-    uint32_t yes = 0;
-    const uint8_t *r = s->record.at;
+    const uint8_t *r = s->record.was;
     size_t n = r[4] + 256u * r[5];
     int named_so = named(&s->plan, 0) == n && named(&s->rules, 0) == r[2] && named(&s->rules, 4) == r[3];
-    return whatif_check(LENT(s->plan), LENT(s->rules), LENT(s->nodes), LENT(s->states), &yes) == WHATIF_ACCEPTED &&
-           yes == 1 && named_so;
+    return named_so && plainly_built(&s->plan, &s->rules, &s->nodes, &s->states);
 }
 
 uint32_t start(struct session *s, struct lent *listed, struct lent *labels, uint32_t *parts) {
@@ -88,8 +88,10 @@ uint32_t start(struct session *s, struct lent *listed, struct lent *labels, uint
     sure(answer != WHATIF_ACCEPTED || (*parts >= 1 && *parts <= WHATIF_MAX_PARTS), "there are 1 to 254 parts");
     sure(answer != WHATIF_ACCEPTED || sound(s), "an accepted Start was lent what the build writes");
     sure(answer != WHATIF_REFUSED_LENT_VALUE || !sound(s), "a Start is refused with 18 on nothing that the build writes");
-    if (answer == WHATIF_ACCEPTED)
+    if (answer == WHATIF_ACCEPTED) {
         kept(s, &before);
+        reached(*parts);
+    }
     done(s, answer, RUNNING);
     return answer;
 }
@@ -131,6 +133,8 @@ uint32_t tell(struct session *s, struct answer *read) {
     int climbs = out[3] <= out[4] && out[4] <= 65535 * out[2];
     sure(answer != WHATIF_ACCEPTED || climbs, "each link passes over a node at least, each part over 65,535 at most");
     done(s, answer, (enum phase)whatif_session_state(LENT(s->record)));
+    if (answer == WHATIF_ACCEPTED)
+        reached(out[3]);
     *read = (struct answer){out[0], out[1], out[2], out[3], out[4]};
     return answer;
 }

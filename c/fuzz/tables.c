@@ -1,5 +1,6 @@
 /* The seven calls on tables, on whatever an input lends. */
 #include "calls.h"
+#include "plain.h"
 #include "told.h"
 
 typedef uint32_t build_call(const uint8_t *, size_t, const uint8_t *, size_t, uint16_t *, size_t, uint8_t *, size_t);
@@ -70,20 +71,25 @@ static uint32_t build(struct input *in, build_call *build, check_call *check) {
     return answer;
 }
 
-static uint32_t check(struct input *in, check_call *check) {
+/* By the definitions, where there is a plain full check. */
+typedef int plain_check(const struct lent *, const struct lent *, const struct lent *, const struct lent *);
+
+static uint32_t check(struct input *in, check_call *check, plain_check *plain) {
     struct tables t = lend_tables(in);
     uint32_t yes = UNSET;
     uint32_t answer = check(LENT(t.plan), LENT(t.table), LENT(t.nodes), LENT(t.states), &yes);
     all_held(&t);
     told(answer, &yes, 1);
     sure(answer != WHATIF_ACCEPTED || yes <= 1, "a full check says yes or no");
+    if (plain && answer == WHATIF_ACCEPTED)
+        sure((int)yes == plain(&t.plan, &t.table, &t.nodes, &t.states), "a full check says what the definitions say");
     return answer;
 }
 
 uint32_t try_build(struct input *in) { return build(in, whatif_build, whatif_check); }
-uint32_t try_check(struct input *in) { return check(in, whatif_check); }
+uint32_t try_check(struct input *in) { return check(in, whatif_check, plainly_built); }
 uint32_t try_branch_build(struct input *in) { return build(in, whatif_branch_build, whatif_branch_check); }
-uint32_t try_branch_check(struct input *in) { return check(in, whatif_branch_check); }
+uint32_t try_branch_check(struct input *in) { return check(in, whatif_branch_check, NULL); }
 
 uint32_t try_fresh_run(struct input *in) {
     struct lent plan = lend(in, 1), rules = lend(in, 1), nodes = lend(in, 2), labels = lend(in, 1);
@@ -97,6 +103,8 @@ uint32_t try_fresh_run(struct input *in) {
     struct whatif_told one = nothing_told(), plain = {.state = out[0], .yes = out[1]};
     as_told(answer, plain, whatif_fresh_run_told(LENT(plan), LENT(rules), LENT(nodes), LENT(labels), &one), &one);
     sure(answer != WHATIF_ACCEPTED || (out[0] < named(&rules, 0) && out[1] <= 1), "a fresh run tells a state");
+    if (answer == WHATIF_ACCEPTED)
+        reached((uint32_t)nodes.count * 4 + out[0]);
     return answer;
 }
 
@@ -113,6 +121,8 @@ static uint32_t ask(branch_call *call, told_call *told_by, const struct tables *
     int fits = out[0] < named(&t->table, 0) && out[1] <= 1 && out[2] < named(&t->plan, 0);
     sure(answer != WHATIF_ACCEPTED || fits, "a branch question tells a state, and fewer links than nodes");
     sure(answer != WHATIF_ACCEPTED || (out[2] <= out[3] && out[3] <= 65535), "each link passes over a node at least");
+    if (answer == WHATIF_ACCEPTED)
+        reached(out[3]);
     return answer;
 }
 

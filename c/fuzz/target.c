@@ -1,8 +1,8 @@
 /*
  * The fuzz target: an input picks a call, and the call is held to what must hold of it whatever is lent. The archive
- * has no counters of its own, so libFuzzer is told which call gave which answer to an input of about which length.
- * Answers for a wrong length, a wrong header or a broken record it is not told: what it would make of such inputs ends
- * there too.
+ * has no counters of its own, so libFuzzer is told which call gave which answer to an input of about which length, and
+ * what accepted calls came to. Answers for a wrong length, a wrong header or a broken record it is not told: what it would
+ * make of such inputs ends there too. It is told of one input for each where inputs are kept (FUZZ_KEEP, of c/fuzz/run).
  */
 #include "calls.h"
 #include "whatif.h"
@@ -34,11 +34,24 @@ static const struct {
     [WRITTEN] = {"counts and writers", try_written, 1u | FROM(3, 5) | FROM(11, 11)},
 };
 
+/* Of those, the ones that no input gets: tables are as long as the plan and the rules ask for, and keep their length. */
+static const uint32_t never[TRIES] = {
+    [QUESTION] = FROM(11, 11),
+    [PANEL] = FROM(11, 11) | FROM(17, 17),
+    [SCREENS] = FROM(11, 11) | FROM(17, 17),
+};
+
 #define MOST MOST_REFUSAL
 static size_t given[TRIES][MOST + 1];
 __attribute__((section("__libfuzzer_extra_counters"))) static uint8_t counters[TRIES][MOST + 1][16];
 
-/* How often each call was accepted, and the refusals that it gave. */
+/* The call that is tried, and what accepted calls came to. */
+static size_t trying;
+__attribute__((section("__libfuzzer_extra_counters"))) static uint8_t results[TRIES][64];
+
+void reached(uint32_t what) { results[trying][what % 64] = 1; }
+
+/* How often each call was accepted and refused, with which numbers, and the answers that it can give and did not. */
 static void print_given(void) {
     for (size_t i = 0; i < TRIES; i++) {
         size_t refused = 0;
@@ -50,6 +63,9 @@ static void print_given(void) {
         for (uint32_t number = 1; number <= MOST; number++)
             if (given[i][number])
                 printf(" %u", number);
+        for (uint32_t number = 0; number <= MOST; number++)
+            if (!given[i][number] && ((tries[i].answers & ~never[i]) >> number & 1))
+                printf(", NOT MET: %u", number);
         printf("\n");
     }
 }
@@ -61,15 +77,20 @@ int LLVMFuzzerInitialize(int *argc, char ***argv) {
 
 size_t LLVMFuzzerMutate(uint8_t *data, size_t size, size_t max_size);
 
+/* The bytes in front: a list, nodes, or a screen's number. What follows passes the checks only where all of it fits. */
+#define FRONT 24
+
 /* Mostly a few bytes in their places: a byte more or less would move all that follows. The call stays. */
 size_t LLVMFuzzerCustomMutator(uint8_t *data, size_t size, size_t max_size, unsigned chance) {
     if (size < 2)
         return size;
     if (chance % 4 == 0)
         return 1 + LLVMFuzzerMutate(data + 1, size - 1, max_size - 1);
+    int front = chance % 4 == 1 || (chance % 4 == 2 && data[0] % TRIES == START);
+    size_t reach = front && size > FRONT ? FRONT : size - 1;
     for (unsigned i = chance % 3 + 1; i > 0; i--) {
         chance = chance * 1664525u + 1013904223u;
-        uint8_t *byte = data + 1 + (chance >> 8) % (size - 1);
+        uint8_t *byte = data + 1 + (chance >> 8) % reach;
         if (chance >> 28 == 0)
             *byte ^= (uint8_t)(1u << (chance >> 25 & 7));
         else if (chance >> 28 == 1)
@@ -91,12 +112,14 @@ int LLVMFuzzerTestOneInput(const uint8_t *data, size_t size) {
     struct input in = {data, size};
     if (size == 0)
         return 0;
-    size_t at = take(&in, 1) % TRIES;
+    size_t at = trying = take(&in, 1) % TRIES;
     give_back(take(&in, 1) & 1);
     uint32_t answer = tries[at].call(&in);
     sure(answer <= MOST && (tries[at].answers >> answer & 1), "the call may give this answer");
     given[at][answer]++;
     if (!(EARLY >> answer & 1))
         counters[at][answer][binary_digits(size) % 16] = 1;
+    else if (getenv("FUZZ_KEEP"))
+        counters[at][answer][0] = 1;
     return 0;
 }

@@ -146,9 +146,9 @@ fn questions(case: &Case, random: &mut Random, counts: &mut Counts) {
     let of = if random.below(8) == 0 { &other } else { case };
     let sizes = Sizes { n: of.n as u16, s: of.s as u8, k: of.k as u8 };
     let list = list(case, random);
-    let lends = bytes.lends();
+    let inputs = bytes.inputs();
     let lent =
-        Lent { plan: lends.plan, rules: lends.rules, node_table: lends.node_table, state_table: lends.state_table };
+        Lent { plan: inputs.plan, rules: inputs.rules, node_table: inputs.node_table, state_table: inputs.state_table };
     let mut session = loaded(of);
     let parts = started(&mut session, &lent, &list, counts);
     let count = random.below(parts as usize + 3) as u32;

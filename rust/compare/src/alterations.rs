@@ -1,4 +1,4 @@
-//! Lends that are not as built, or not those of Start.
+//! Inputs that are not as built, or not those of Start.
 
 use crate::faults::shorter;
 use crate::inputs::Case;
@@ -19,7 +19,7 @@ pub fn damage<T>(list: &mut [T], share: usize, random: &mut Random, mut value: i
     }
 }
 
-/// What an alteration does to lends of a case.
+/// What an alteration does to inputs of a case.
 #[derive(Clone, Copy, Debug, PartialEq, Eq)]
 pub enum Alteration {
     /// Longer tables with anything behind: nothing to any call.

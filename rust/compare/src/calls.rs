@@ -9,7 +9,7 @@ use reference::agree::{separates, Line, MAX_LINES};
 use reference::branch::{Reading, READINGS};
 use reference::causes;
 use reference::count::{checks, Said, MOST_ASSIGNMENTS};
-use reference::panel::Lends;
+use reference::panel::Inputs;
 use reference::tables::Tables;
 use std::fmt::Debug;
 
@@ -136,8 +136,8 @@ pub type Counted = (Vec<u64>, [u32; 2]);
 
 /// A count of choices into a buffer of this length that holds random numbers, compared whole: with the reference, where the
 /// documents say what is told, else an 18 with its causes; and with plain Rust in every case.
-pub fn count(lends: &Lends, nodes: &[u16], len: usize, random: &mut Random) -> Result<Counted, u32> {
-    let Lends { plan, rules, node_table, state_table } = *lends;
+pub fn count(inputs: &Inputs, nodes: &[u16], len: usize, random: &mut Random) -> Result<Counted, u32> {
+    let Inputs { plan, rules, node_table, state_table } = *inputs;
     let before: Vec<u64> = (0..len + 2 * MARGIN).map(|_| random.word()).collect();
     let unset = [random.word() as u32 | 1 << 20, random.word() as u32 | 1 << 20];
     let (mut counts, mut out) = (before.clone(), unset);
@@ -149,7 +149,7 @@ pub fn count(lends: &Lends, nodes: &[u16], len: usize, random: &mut Random) -> R
     if let Ok((parts, links)) = by_yardstick {
         want_out = [parts, links];
     }
-    let said = reference::count::count(lends, nodes);
+    let said = reference::count::count(inputs, nodes);
     match &said {
         Said::Refused(wanted) => assert_eq!(number, *wanted, "the answer of the count"),
         Said::Answered(answer) => {
@@ -161,8 +161,8 @@ pub fn count(lends: &Lends, nodes: &[u16], len: usize, random: &mut Random) -> R
             }
         }
         Said::Left => {
-            let sizes = checks(lends, nodes).expect("checked before");
-            let cause = || causes::anywhere(sizes, lends, &[], &[]);
+            let sizes = checks(inputs, nodes).expect("checked before");
+            let cause = || causes::anywhere(sizes, inputs, &[], &[]);
             assert!(number != 18 || cause(), "18 without a cause");
             assert!([0, 11, 18].contains(&number), "the answer of the count is {}", number);
         }

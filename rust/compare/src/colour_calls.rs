@@ -6,7 +6,7 @@ use crate::calls::same;
 use crate::random::Random;
 use crate::slices;
 use reference::branch::Reading;
-use reference::colour_branch::{self, ColourTables, Lends};
+use reference::colour_branch::{self, ColourTables, Inputs};
 use reference::colour_rules::{self, Said};
 use reference::panel;
 
@@ -57,8 +57,8 @@ pub fn branch_build(plan: &[u8], branch: &[u8], lens: (usize, usize), random: &m
 
 /// A branch question by colours on any tables, compared with the rule on those very tables: state, yes, drops and links, and
 /// nothing on a refusal.
-pub fn branch(reading: Reading, lent: Lends, upper: u32, lower: u32, random: &mut Random) -> Result<[u32; 4], u32> {
-    let Lends { plan, branch, node_table, numbers, bytes } = lent;
+pub fn branch(reading: Reading, lent: Inputs, upper: u32, lower: u32, random: &mut Random) -> Result<[u32; 4], u32> {
+    let Inputs { plan, branch, node_table, numbers, bytes } = lent;
     let unset = [0; 4].map(|_: u32| random.word() as u32 | 1 << 20);
     let mut out = unset;
     let (ask, plain) = match reading {
@@ -96,12 +96,12 @@ pub fn rule_build(plan: &[u8], rules: &[u8], lens: (usize, usize), random: &mut 
 /// A question by colours on any tables: compared with plain Rust always, and with the reference where the documents say what
 /// is told. State, yes, drops, links and parts, and nothing on a refusal.
 pub fn question(
-    lent: &colour_rules::Lends,
+    lent: &colour_rules::Inputs,
     nodes: &[u16],
     labels: &[u8],
     random: &mut Random,
 ) -> Result<[u32; 5], u32> {
-    let panel::Lends { plan, rules, node_table, state_table } = lent.tables;
+    let panel::Inputs { plan, rules, node_table, state_table } = lent.tables;
     let unset = [0; 5].map(|_: u32| random.word() as u32 | 1 << 20);
     let mut out = unset;
     let number =

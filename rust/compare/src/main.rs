@@ -7,44 +7,62 @@ use compare::rounds::{Round, ROUNDS};
 use std::process::exit;
 use std::time::{Duration, Instant};
 
-const USAGE: &str = "usage: compare [--seed S] [--seconds T]";
-/// Without --seed and --seconds.
+const USAGE: &str = "usage: compare [--seed S] [--rounds R | --seconds T] [--only NAME]..";
+/// Without --seed, --rounds and --seconds.
 const SEED: u64 = 1;
 const ROUNDS_ALONE: u64 = 1_000;
 /// Between two lines of progress.
 const PAUSE: Duration = Duration::from_secs(2);
 
-/// The first seed, and the seconds if there is a limit.
-fn options() -> Option<(u64, Option<u64>)> {
-    let (mut seed, mut seconds) = (SEED, None);
+/// When to end.
+enum End {
+    Rounds(u64),
+    Seconds(u64),
+}
+
+struct Options {
+    /// The first one.
+    seed: u64,
+    end: End,
+    rounds: Vec<Round>,
+}
+
+fn options() -> Option<Options> {
+    let mut options = Options { seed: SEED, end: End::Rounds(ROUNDS_ALONE), rounds: vec![] };
     let mut words = std::env::args().skip(1);
     while let Some(word) = words.next() {
-        let number = words.next()?.parse().ok()?;
+        let value = words.next()?;
         match word.as_str() {
-            "--seed" => seed = number,
-            "--seconds" => seconds = Some(number),
+            "--seed" => options.seed = value.parse().ok()?,
+            "--rounds" => options.end = End::Rounds(value.parse().ok()?),
+            "--seconds" => options.end = End::Seconds(value.parse().ok()?),
+            "--only" => options.rounds.push(*ROUNDS.iter().find(|round| round.name == value)?),
             _ => return None,
         }
     }
-    Some((seed, seconds))
+    if options.rounds.is_empty() {
+        options.rounds = ROUNDS.to_vec();
+    }
+    Some(options)
 }
 
 fn main() {
-    let (seed, seconds) = options().unwrap_or_else(|| {
+    let Options { seed, end, rounds: kinds } = options().unwrap_or_else(|| {
         eprintln!("{}", USAGE);
         exit(2)
     });
     let begun = Instant::now();
-    let mut counts: Vec<Counts> = ROUNDS.iter().map(|_| Counts::default()).collect();
+    let mut counts: Vec<Counts> = kinds.iter().map(|_| Counts::default()).collect();
     let mut told = begun;
     let mut rounds = 0;
-    let goes_on = |rounds: u64| match seconds {
-        Some(limit) => rounds == 0 || begun.elapsed() < Duration::from_secs(limit),
-        None => rounds < ROUNDS_ALONE,
+    let goes_on = |rounds: u64| match end {
+        End::Seconds(limit) => rounds == 0 || begun.elapsed() < Duration::from_secs(limit),
+        End::Rounds(limit) => rounds < limit,
     };
+    println!("seed {}: --seed {} repeats this run", seed, seed);
     while goes_on(rounds) {
         let own = seed.wrapping_add(rounds);
-        for (round, counts) in ROUNDS.iter().zip(&mut counts) {
+        for (round, counts) in kinds.iter().zip(&mut counts) {
             if let Some(difference) = round.run(own, counts) {
                 tell(own, round, &difference);
                 exit(1);
@@ -56,7 +74,7 @@ fn main() {
             println!("{} s: {} rounds, {} cases, no difference", begun.elapsed().as_secs(), rounds, total(&counts));
         }
     }
-    for (round, counts) in ROUNDS.iter().zip(&counts) {
+    for (round, counts) in kinds.iter().zip(&counts) {
         print!("{}: {} cases\n{}", round.name, counts.total(), counts);
     }
     let passed = begun.elapsed().as_secs();

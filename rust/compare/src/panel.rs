@@ -1,4 +1,4 @@
-//! A panel at work: a record that passes from call to call, with the panel book beside it, and what is lent.
+//! A panel at work: a record that passes from call to call, with the reference model beside it, and what is lent.
 
 use crate::built::Built;
 use crate::calls::Kind;
@@ -6,8 +6,8 @@ use crate::inputs::Case;
 use crate::random::Random;
 use crate::sides;
 use crate::trace;
-use reference::book::{Book, Next};
-use reference::panel::{Answer, Call, Lends, Told};
+use reference::model::{Reference, Reply};
+use reference::panel::{Answer, Call, Inputs, Outcome};
 use reference::record::Record;
 
 /// Plan, rule table, node table and state table.
@@ -31,16 +31,16 @@ impl Lent {
         }
     }
 
-    pub fn lends(&self) -> Lends<'_> {
-        Lends { plan: &self.plan, rules: &self.rules, node_table: &self.node_table, state_table: &self.state_table }
+    pub fn inputs(&self) -> Inputs<'_> {
+        Inputs { plan: &self.plan, rules: &self.rules, node_table: &self.node_table, state_table: &self.state_table }
     }
 }
 
 #[derive(Clone)]
 pub struct Panel {
     pub record: Vec<u8>,
-    pub book: Book,
-    /// How many answers the book settled, and how many it left to the program.
+    pub model: Reference,
+    /// How many answers the reference model settled, and how many it left to the program.
     pub settled: usize,
     pub left: usize,
 }
@@ -50,7 +50,7 @@ impl Default for Panel {
     fn default() -> Panel {
         let record = Record::fresh().bytes();
         assert!(record.iter().all(|&byte| byte == 0));
-        Panel { record, book: Book::default(), settled: 0, left: 0 }
+        Panel { record, model: Reference::default(), settled: 0, left: 0 }
     }
 }
 
@@ -58,40 +58,40 @@ impl Panel {
     /// Loaded with a case.
     pub fn loaded(lent: &Lent, random: &mut Random) -> Panel {
         let mut panel = Panel::default();
-        assert_eq!(panel.call(&Call::Load(lent.lends()), random), Answer::Accepted);
+        assert_eq!(panel.call(&Call::Load(lent.inputs()), random), Answer::Accepted);
         panel
     }
 
-    /// A call, held to the reference implementation and to the book.
+    /// A call, held to the reference implementation and to the reference model.
     pub fn call(&mut self, call: &Call, random: &mut Random) -> Answer {
         trace::say(told(call));
-        let next = self.book.next(call);
+        let reply = self.model.reply(call);
         let done = sides::call(&self.record, call, random);
         self.record = done.record;
-        self.book = match next {
-            Next::Settled(answer, book) => {
+        self.model = match reply {
+            Reply::Settled(answer, model) => {
                 self.settled += 1;
-                assert_eq!(done.answer, answer, "settled by the book");
-                book
+                assert_eq!(done.answer, answer, "settled by the reference model");
+                model
             }
-            Next::Left(after) => {
+            Reply::Unsettled(after) => {
                 self.left += 1;
-                after(done.answer).unwrap_or_else(|| panic!("the book does not allow {:?}", done.answer))
+                after(done.answer).unwrap_or_else(|| panic!("the reference model does not allow {:?}", done.answer))
             }
         };
         done.answer
     }
 
     pub fn start(&mut self, lent: &Lent, nodes: &[u16], labels: &[u8], random: &mut Random) -> Answer {
-        self.call(&Call::Start(lent.lends(), nodes, labels), random)
+        self.call(&Call::Start(lent.inputs(), nodes, labels), random)
     }
 
     pub fn advance(&mut self, lent: &Lent, random: &mut Random) -> Answer {
-        self.call(&Call::Advance(lent.lends()), random)
+        self.call(&Call::Advance(lent.inputs()), random)
     }
 
     /// Advances to the end. How many they were, and what Read tells.
-    pub fn finish(&mut self, lent: &Lent, random: &mut Random) -> (u32, Told) {
+    pub fn finish(&mut self, lent: &Lent, random: &mut Random) -> (u32, Outcome) {
         let mut advances = 1;
         loop {
             match self.advance(lent, random) {
@@ -101,7 +101,7 @@ impl Panel {
             }
         }
         match self.call(&Call::Read, random) {
-            Answer::Told(told) => (advances, told),
+            Answer::Outcome(told) => (advances, told),
             other => panic!("the Read answered {:?}", other),
         }
     }

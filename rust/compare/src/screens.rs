@@ -1,16 +1,16 @@
 //! Eight screens at work: a run of records and the screen to try first, which pass from call to call, with the eight
-//! panel books beside them; for each screen a single record that is fed its own calls and turns alone; and who was
+//! reference models beside them; for each screen a single record that is fed its own calls and turns alone; and who was
 //! served since each screen's last turn.
 
 use crate::calls::same;
 use crate::panel::{self, Lent};
 use crate::random::Random;
-use crate::sides::{self, Margins, MARGIN};
+use crate::sides::{self, Copies, Margins, MARGIN};
 use crate::slices;
 use crate::trace;
-use reference::panel::{Answer, Lends};
+use reference::panel::{Answer, Inputs};
 use reference::record::Record;
-use reference::screens::{alone, Books, Done, Next, ScreenAnswer, ScreenCall, Whose, RUN_BYTES, SCREENS};
+use reference::screens::{alone, Done, References, Reply, ScreenAnswer, ScreenCall, Whose, RUN_BYTES, SCREENS};
 use reference::tables::Tables;
 
 #[derive(Clone)]
@@ -18,12 +18,12 @@ pub struct Lab {
     pub run: Vec<u8>,
     /// The screen to try first, as it was told last.
     pub first: u32,
-    pub books: Books,
+    pub models: References,
     /// Of each screen the record of a single session: what a screen is told must not depend on the others.
     alone: [Vec<u8>; SCREENS],
     /// The screens served since each screen's last turn, or since its Start.
     since: [Vec<usize>; SCREENS],
-    /// How many answers the books settled, and how many they left to the program.
+    /// How many answers the reference models settled, and how many they left to the program.
     pub settled: usize,
     pub left: usize,
 }
@@ -35,7 +35,7 @@ impl Default for Lab {
         Lab {
             run: vec![0; RUN_BYTES],
             first: 0,
-            books: Books::default(),
+            models: References::default(),
             alone,
             since: Default::default(),
             settled: 0,
@@ -48,25 +48,25 @@ impl Lab {
     /// Loaded with what Load wrote.
     pub fn loaded(lent: &Lent, random: &mut Random) -> Lab {
         let mut lab = Lab::default();
-        assert_eq!(lab.call(&ScreenCall::Load(lent.lends()), random), ScreenAnswer::Loaded(0));
+        assert_eq!(lab.call(&ScreenCall::Load(lent.inputs()), random), ScreenAnswer::Loaded(0));
         lab
     }
 
-    /// A call, held to the reference implementation, to the books, to single sessions, and to what is said of turns.
+    /// A call, held to the reference implementation, to the reference models, to single sessions, and to what is said of turns.
     pub fn call(&mut self, call: &ScreenCall, random: &mut Random) -> ScreenAnswer {
         trace::say(told(call));
-        let (next, whose) = (self.books.next(call), self.books.whose(call));
+        let (reply, whose) = (self.models.reply(call), self.models.whose(call));
         let done = compared(&self.run, call, random);
-        let before = std::mem::take(&mut self.books);
-        self.books = match next {
-            Next::Settled(answer, books) => {
+        let before = std::mem::take(&mut self.models);
+        self.models = match reply {
+            Reply::Settled(answer, models) => {
                 self.settled += 1;
-                assert_eq!(done.answer, answer, "settled by the books");
-                books
+                assert_eq!(done.answer, answer, "settled by the reference models");
+                models
             }
-            Next::Left(after) => {
+            Reply::Unsettled(after) => {
                 self.left += 1;
-                after(done.answer).unwrap_or_else(|| panic!("the books do not allow {:?}", done.answer))
+                after(done.answer).unwrap_or_else(|| panic!("the reference models do not allow {:?}", done.answer))
             }
         };
         self.run = done.run;
@@ -84,12 +84,12 @@ impl Lab {
         labels: &[u8],
         random: &mut Random,
     ) -> ScreenAnswer {
-        self.call(&ScreenCall::Start(screen, lent.lends(), nodes, labels), random)
+        self.call(&ScreenCall::Start(screen, lent.inputs(), nodes, labels), random)
     }
 
     /// With the number that was told last.
     pub fn deal(&mut self, lent: &Lent, random: &mut Random) -> ScreenAnswer {
-        self.call(&ScreenCall::Deal(self.first, lent.lends()), random)
+        self.call(&ScreenCall::Deal(self.first, lent.inputs()), random)
     }
 
     /// The screens served since the last turn of one that runs, or since its Start.
@@ -119,7 +119,7 @@ impl Lab {
 
     /// "a screen that stays running is served within eight accepted deals, and no other is served twice between two
     /// successive turns of it in one question". A deal that is handed another number than was told begins anew.
-    fn take_turns(&mut self, before: &Books, whose: Whose, call: &ScreenCall, answer: ScreenAnswer) {
+    fn take_turns(&mut self, before: &References, whose: Whose, call: &ScreenCall, answer: ScreenAnswer) {
         if matches!(call, ScreenCall::Deal(first, _) if *first != self.first) {
             self.since = Default::default();
         }
@@ -143,27 +143,27 @@ pub fn compared(run: &[u8], call: &ScreenCall, random: &mut Random) -> Done {
     let done = reference::screens::call(run, call);
     let mut own = Margins::new(run, random.bytes(2 * MARGIN));
     let (mut node_table, mut state_table) = match call {
-        ScreenCall::Load(lends) => (
-            Margins::new(lends.node_table, random.numbers(2 * MARGIN)),
-            Margins::new(lends.state_table, random.bytes(2 * MARGIN)),
+        ScreenCall::Load(inputs) => (
+            Margins::new(inputs.node_table, random.numbers(2 * MARGIN)),
+            Margins::new(inputs.state_table, random.bytes(2 * MARGIN)),
         ),
         _ => (Margins::new(&[], vec![]), Margins::new(&[], vec![])),
     };
     let unset = [0; 5].map(|_: u32| random.word() as u32 | 1 << 20);
     let mut out = unset;
-    let lent = sides::copied(&alone(call));
-    let before = lent.map(sides::copies);
+    let alone = alone(call);
+    let before = sides::lent(&alone).map(Copies::of);
     let number = library(call, own.lent(), node_table.lent(), state_table.lent(), &mut out);
     assert_eq!(answer(call, number, &out, &unset), done.answer, "the answer");
     own.is("the run", &done.run);
     if let (ScreenCall::Load(_), Some(Tables { node_table: n, state_table: b })) = (call, &done.tables) {
         node_table.starts("the node table", n);
         state_table.starts("the state table", b);
-    } else if let ScreenCall::Load(lends) = call {
-        node_table.is("the node table", lends.node_table);
-        state_table.is("the state table", lends.state_table);
+    } else if let ScreenCall::Load(inputs) = call {
+        node_table.is("the node table", inputs.node_table);
+        state_table.is("the state table", inputs.state_table);
     }
-    assert!(lent.map(sides::copies) == before, "something lent was written");
+    assert!(before.map_or(true, |before| before.are(&alone)), "something lent was written");
     done
 }
 
@@ -189,15 +189,15 @@ fn library(
     out: &mut [u32; 5],
 ) -> u32 {
     match *call {
-        ScreenCall::Load(Lends { plan, rules, .. }) => {
+        ScreenCall::Load(Inputs { plan, rules, .. }) => {
             slices::screens_load(run, plan, rules, node_table, state_table, &mut out[0])
         }
-        ScreenCall::Start(screen, Lends { plan, rules, node_table, state_table }, nodes, labels) => {
+        ScreenCall::Start(screen, Inputs { plan, rules, node_table, state_table }, nodes, labels) => {
             slices::screens_start(run, screen, plan, rules, node_table, state_table, nodes, labels, &mut out[0])
         }
         ScreenCall::Cancel(screen) => slices::screens_cancel(run, screen),
         ScreenCall::Read(screen) => slices::screens_read(run, screen, out),
-        ScreenCall::Deal(first, Lends { plan, rules, node_table, state_table }) => {
+        ScreenCall::Deal(first, Inputs { plan, rules, node_table, state_table }) => {
             let mut told = [out[0], out[1]];
             let number = slices::screens_deal(run, first, plan, rules, node_table, state_table, &mut told);
             out[..2].copy_from_slice(&told);

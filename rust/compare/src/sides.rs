@@ -6,7 +6,7 @@
 
 use crate::calls::same;
 use crate::random::Random;
-use reference::panel::{Answer, Call, Lends, Told};
+use reference::panel::{Answer, Call, Inputs, Outcome};
 use reference::session::Done;
 use reference::tables::Tables;
 
@@ -16,8 +16,6 @@ type Side = fn(&Call, &mut [u8], &mut [u16], &mut [u8], &mut [u32; 5]) -> u32;
 const SIDES: &[(&str, Side)] = &[("the library", library::call), ("plain Rust", by_yardstick)];
 
 pub const MARGIN: usize = 9;
-/// Lends above this many bytes are not copied to see whether they stay.
-const COPIED: usize = 50_000;
 
 /// The answer of a call and the record after it, compared; and the tables that an accepted Load writes.
 pub fn call(record: &[u8], call: &Call, random: &mut Random) -> Done {
@@ -31,16 +29,15 @@ pub fn call(record: &[u8], call: &Call, random: &mut Random) -> Done {
 fn compare(name: &str, side: Side, record: &[u8], call: &Call, done: &Done, random: &mut Random) {
     let mut own = Margins::new(record, random.bytes(2 * MARGIN));
     let (mut node_table, mut state_table) = match call {
-        Call::Load(lends) => (
-            Margins::new(lends.node_table, random.numbers(2 * MARGIN)),
-            Margins::new(lends.state_table, random.bytes(2 * MARGIN)),
+        Call::Load(inputs) => (
+            Margins::new(inputs.node_table, random.numbers(2 * MARGIN)),
+            Margins::new(inputs.state_table, random.bytes(2 * MARGIN)),
         ),
         _ => (Margins::new(&[], vec![]), Margins::new(&[], vec![])),
     };
     let unset = [0; 5].map(|_: u32| random.word() as u32 | 1 << 20);
     let mut out = unset;
-    let lent = copied(call);
-    let before = lent.map(copies);
+    let before = lent(call).map(Copies::of);
     let number = side(call, own.lent(), node_table.lent(), state_table.lent(), &mut out);
     assert_eq!(answer(call, number, &out, &unset), done.answer, "{}: the answer", name);
     let what = |written: &str| format!("{}: the {}", name, written);
@@ -48,27 +45,44 @@ fn compare(name: &str, side: Side, record: &[u8], call: &Call, done: &Done, rand
     if let (Call::Load(_), Some(Tables { node_table: n, state_table: b })) = (call, &done.tables) {
         node_table.starts(&what("node table"), n);
         state_table.starts(&what("state table"), b);
-    } else if let Call::Load(lends) = call {
-        node_table.is(&what("node table"), lends.node_table);
-        state_table.is(&what("state table"), lends.state_table);
+    } else if let Call::Load(inputs) = call {
+        node_table.is(&what("node table"), inputs.node_table);
+        state_table.is(&what("state table"), inputs.state_table);
     }
-    assert!(lent.map(copies) == before, "{}: something lent was written", name);
+    assert!(before.map_or(true, |before| before.are(call)), "{}: something lent was written", name);
 }
 
-/// What is lent with a call, where it is little enough to be copied.
-pub fn copied<'a>(call: &Call<'a>) -> Option<Lends<'a>> {
-    lent(call).filter(|lends| lends.plan.len() + 2 * lends.node_table.len() + lends.state_table.len() < COPIED)
-}
-
-fn lent<'a>(call: &Call<'a>) -> Option<Lends<'a>> {
+/// What is lent with a call.
+pub fn lent<'a>(call: &Call<'a>) -> Option<Inputs<'a>> {
     match *call {
-        Call::Load(lends) | Call::Start(lends, ..) | Call::Advance(lends) => Some(lends),
+        Call::Load(inputs) | Call::Start(inputs, ..) | Call::Advance(inputs) => Some(inputs),
         Call::Cancel | Call::Read => None,
     }
 }
 
-pub fn copies(lends: Lends) -> (Vec<u8>, Vec<u8>, Vec<u16>, Vec<u8>) {
-    (lends.plan.to_vec(), lends.rules.to_vec(), lends.node_table.to_vec(), lends.state_table.to_vec())
+/// What was lent before a call, to see whether it stays.
+pub struct Copies {
+    plan: Vec<u8>,
+    rules: Vec<u8>,
+    node_table: Vec<u16>,
+    state_table: Vec<u8>,
+}
+
+impl Copies {
+    pub fn of(inputs: Inputs) -> Copies {
+        let (plan, rules) = (inputs.plan.to_vec(), inputs.rules.to_vec());
+        Copies { plan, rules, node_table: inputs.node_table.to_vec(), state_table: inputs.state_table.to_vec() }
+    }
+
+    /// What is lent is as it was.
+    pub fn are(&self, call: &Call) -> bool {
+        lent(call).map_or(true, |now| {
+            now.plan == self.plan
+                && now.rules == self.rules
+                && now.node_table == self.node_table
+                && now.state_table == self.state_table
+        })
+    }
 }
 
 /// What a number and the told values mean; the values that the call does not tell are as they were.
@@ -90,7 +104,7 @@ pub fn answer(call: &Call, number: u32, out: &[u32; 5], unset: &[u32; 5]) -> Ans
         }
         Call::Read => {
             assert!(out[1] <= 1, "the Read told yes {}", out[1]);
-            Answer::Told(Told { state: out[0], yes: out[1] == 1, parts: out[2], links: out[3], passed: out[4] })
+            Answer::Outcome(Outcome { state: out[0], yes: out[1] == 1, parts: out[2], links: out[3], passed: out[4] })
         }
     }
 }
@@ -136,12 +150,12 @@ fn by_yardstick(
 ) -> u32 {
     use yardstick::session;
     let done = match *call {
-        Call::Load(lends) => session::load(record, lends.plan, lends.rules, node_table, state_table),
-        Call::Start(lends, nodes, labels) => {
-            let Lends { plan, rules, node_table, state_table } = lends;
+        Call::Load(inputs) => session::load(record, inputs.plan, inputs.rules, node_table, state_table),
+        Call::Start(inputs, nodes, labels) => {
+            let Inputs { plan, rules, node_table, state_table } = inputs;
             session::start(record, plan, rules, node_table, state_table, nodes, labels).map(|parts| out[0] = parts)
         }
-        Call::Advance(Lends { plan, rules, node_table, state_table }) => {
+        Call::Advance(Inputs { plan, rules, node_table, state_table }) => {
             session::advance(record, plan, rules, node_table, state_table).map(|finished| out[0] = finished as u32)
         }
         Call::Cancel => session::cancel(record),
@@ -152,7 +166,7 @@ fn by_yardstick(
 }
 
 mod library {
-    use super::{Call, Lends};
+    use super::{Call, Inputs};
     use crate::slices;
 
     pub fn call(
@@ -163,11 +177,11 @@ mod library {
         out: &mut [u32; 5],
     ) -> u32 {
         match *call {
-            Call::Load(Lends { plan, rules, .. }) => slices::load(record, plan, rules, node_table, state_table),
-            Call::Start(Lends { plan, rules, node_table, state_table }, nodes, labels) => {
+            Call::Load(Inputs { plan, rules, .. }) => slices::load(record, plan, rules, node_table, state_table),
+            Call::Start(Inputs { plan, rules, node_table, state_table }, nodes, labels) => {
                 slices::start(record, plan, rules, node_table, state_table, nodes, labels, &mut out[0])
             }
-            Call::Advance(Lends { plan, rules, node_table, state_table }) => {
+            Call::Advance(Inputs { plan, rules, node_table, state_table }) => {
                 slices::advance(record, plan, rules, node_table, state_table, &mut out[0])
             }
             Call::Cancel => slices::cancel(record),

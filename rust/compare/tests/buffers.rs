@@ -68,11 +68,11 @@ fn session_calls() {
         let mut panel = Panel::default();
         let (nodes, labels) = case.list(3, random);
         for short in &short {
-            assert_eq!(panel.call(&Call::Load(short.lends()), random), Answer::Refused(11));
+            assert_eq!(panel.call(&Call::Load(short.inputs()), random), Answer::Refused(11));
         }
         for by in ENOUGH {
             let long = lent_resized(&lent, by, random);
-            assert_eq!(panel.call(&Call::Load(long.lends()), random), Answer::Accepted);
+            assert_eq!(panel.call(&Call::Load(long.inputs()), random), Answer::Accepted);
             for short in &short {
                 assert_eq!(panel.start(short, &nodes, &labels, random), Answer::Refused(17));
             }

@@ -1,4 +1,4 @@
-//! Whole lists of calls, held to the reference implementation and to the book.
+//! Whole lists of calls, held to the reference implementation and to the reference model.
 
 use compare::counts::Counts;
 use compare::inputs::Case;
@@ -6,7 +6,7 @@ use compare::panel::{Lent, Panel};
 use compare::random::Random;
 use compare::rounds::call_lists::{list, same_sizes};
 use compare::shapes::SHAPES;
-use reference::book::{Next, Standing};
+use reference::model::{Reply, Settlement};
 use reference::panel::{Answer, Call};
 
 #[test]
@@ -29,8 +29,8 @@ fn small_plans() {
         "Cancel Accepted",
         "Cancel refused 1",
         "Read told Some(Clean)",
-        "Read told Some(Firm)",
-        "Read told Some(Loose)",
+        "Read told Some(ByRule)",
+        "Read told Some(ByProgram)",
         "Read refused 1 None",
         "Read refused 1 in Empty",
         "Read refused 1 in Loaded",
@@ -42,9 +42,9 @@ fn small_plans() {
         "an unclean finish replaces a clean answer",
         "18 in a clean question",
         "18, then restored and still clean",
-        "Clean to Firm",
-        "Clean to Loose",
-        "Firm to Loose",
+        "Clean to ByRule",
+        "Clean to ByProgram",
+        "ByRule to ByProgram",
         "broken record refused 1",
         "altered record, still a session's",
         "a session goes back to where the other is",
@@ -74,7 +74,7 @@ fn exchanged_plans() {
         let mut panel = Panel::loaded(&lent_one, random);
         let (nodes, labels) = other.list(3, random);
         panel.start(&lent_other, &nodes, &labels, random);
-        assert_eq!(panel.book.standing(), Some(Standing::Clean));
+        assert_eq!(panel.model.settlement(), Some(Settlement::Clean));
         let (_, told) = panel.finish(&lent_other, random);
         let fresh = reference::fresh::fresh_run(&other.plan, &other.rules, &nodes, &labels).unwrap();
         assert_eq!((told.state, told.yes), (fresh.state as u32, fresh.yes));
@@ -82,7 +82,7 @@ fn exchanged_plans() {
     }
 }
 
-/// A question on sound lends is finished by exactly as many accepted advances as it has parts, whatever is refused
+/// A question on sound inputs is finished by exactly as many accepted advances as it has parts, whatever is refused
 /// between.
 #[test]
 fn refused_calls_between() {
@@ -101,7 +101,7 @@ fn refused_calls_between() {
         while accepted < parts {
             let mut wrong = lent.clone();
             match random.below(6) {
-                0 => assert_eq!(panel.call(&Call::Load(lent.lends()), random), Answer::Refused(1)),
+                0 => assert_eq!(panel.call(&Call::Load(lent.inputs()), random), Answer::Refused(1)),
                 1 => assert_eq!(panel.start(&lent, &[], &[], random), Answer::Refused(1)),
                 2 => assert_eq!(panel.call(&Call::Read, random), Answer::Refused(1)),
                 3 => {
@@ -120,8 +120,8 @@ fn refused_calls_between() {
                 }
             }
         }
-        assert_eq!(panel.book.standing(), Some(Standing::Clean));
-        assert!(matches!(panel.call(&Call::Read, random), Answer::Told(_)));
+        assert_eq!(panel.model.settlement(), Some(Settlement::Clean));
+        assert!(matches!(panel.call(&Call::Read, random), Answer::Outcome(_)));
     }
 }
 
@@ -140,7 +140,7 @@ fn the_answer_lasts() {
         let (nodes, labels) = case.list(4, random);
         panel.start(&lent, &nodes, &labels, random);
         assert_eq!(read(&mut panel, random), Answer::Refused(1));
-        let first = Answer::Told(panel.finish(&lent, random).1);
+        let first = Answer::Outcome(panel.finish(&lent, random).1);
         let mut short = lent.clone();
         short.plan.pop();
         for _ in 0..3 {
@@ -153,9 +153,9 @@ fn the_answer_lasts() {
                 assert_eq!(panel.advance(&lent, random), anew.advance(&lent, random));
                 assert_eq!(read(&mut panel, random), first);
             }
-            assert!(matches!(panel.call(&Call::Load(short.lends()), random), Answer::Refused(1)));
+            assert!(matches!(panel.call(&Call::Load(short.inputs()), random), Answer::Refused(1)));
             assert_eq!([&mut panel, &mut anew].map(|one| one.call(&Call::Cancel, random)), [Answer::Accepted; 2]);
-            assert!(matches!(panel.call(&Call::Load(short.lends()), random), Answer::Refused(_)));
+            assert!(matches!(panel.call(&Call::Load(short.inputs()), random), Answer::Refused(_)));
             assert_eq!(read(&mut panel, random), first);
             assert_eq!(read(&mut anew, random), Answer::Refused(1));
         }
@@ -165,27 +165,27 @@ fn the_answer_lasts() {
         let second = panel.finish(&lent, random);
         assert_eq!(anew.finish(&lent, random), second);
         assert!(panel.record == anew.record, "nothing of the earlier answer is left");
-        assert_eq!(panel.call(&Call::Load(lent.lends()), random), Answer::Accepted);
+        assert_eq!(panel.call(&Call::Load(lent.inputs()), random), Answer::Accepted);
         assert_eq!(read(&mut panel, random), Answer::Refused(1));
         assert_eq!(panel.left, 0, "all of it is settled");
     }
 }
 
-/// The book settles an answer before the program gives one.
+/// The reference model settles an answer before the program gives one.
 #[test]
 fn a_settled_answer_needs_no_program() {
     let random = &mut Random::new(1505);
     let case = Case::new(SHAPES[4], 20, 3, 3, random);
     let lent = Lent::built(&case, random);
-    let mut book = reference::book::Book::default();
-    let calls = [Call::Load(lent.lends()), Call::Start(lent.lends(), &[0], &[0]), Call::Cancel, Call::Read];
+    let mut model = reference::model::Reference::default();
+    let calls = [Call::Load(lent.inputs()), Call::Start(lent.inputs(), &[0], &[0]), Call::Cancel, Call::Read];
     for (call, wanted) in calls.iter().zip([Answer::Accepted, Answer::Parts(2), Answer::Accepted, Answer::Refused(1)]) {
-        book = match book.next(call) {
-            Next::Settled(answer, after) => {
+        model = match model.reply(call) {
+            Reply::Settled(answer, after) => {
                 assert_eq!(answer, wanted);
                 after
             }
-            Next::Left(_) => panic!("left to the program"),
+            Reply::Unsettled(_) => panic!("left to the program"),
         };
     }
 }

@@ -10,7 +10,7 @@ use compare::rounds::choices::{altered, as_built, at_the_limit, most_nodes, refu
 use compare::shapes::{all, most_parts, Shape, SHAPES};
 use reference::count::by_trying;
 use reference::formats::{read_plan, read_rules};
-use reference::panel::Lends;
+use reference::panel::Inputs;
 
 /// Every list of different nodes of the sample, by trying all.
 #[test]
@@ -21,11 +21,11 @@ fn the_sample() {
     let lent = Lent::built(&case, random);
     for set in 0..1u32 << 7 {
         let nodes: Vec<u16> = (0..7).filter(|v| set >> v & 1 == 1).collect();
-        let told = calls::count(&lent.lends(), &nodes, 2, random).expect("accepted");
+        let told = calls::count(&lent.inputs(), &nodes, 2, random).expect("accepted");
         assert_eq!(told.0, by_trying(&read_plan(&plan).unwrap(), &read_rules(&rules).unwrap(), &nodes));
     }
     // with no open node the run's own state, 1, has count 1
-    assert_eq!(calls::count(&lent.lends(), &[], 2, random), Ok((vec![0, 1], [1, 0])));
+    assert_eq!(calls::count(&lent.inputs(), &[], 2, random), Ok((vec![0, 1], [1, 0])));
 }
 
 /// Every tree of up to five leaves, with every node open and with some.
@@ -61,7 +61,7 @@ fn the_most_parts() {
     let (kinds, nodes) = most_parts();
     let case = Case::of_kinds(&kinds, 16, 1, random);
     let lent = Lent::built(&case, random);
-    let told = calls::count(&lent.lends(), &nodes, 16, random).expect("accepted");
+    let told = calls::count(&lent.inputs(), &nodes, 16, random).expect("accepted");
     assert_eq!((told.1[0], told.0.iter().sum()), (254, 1u64));
 }
 
@@ -90,7 +90,7 @@ fn limits() {
     let case = Case::new(Shape::Balanced, 4, 2, 2, random);
     let mut lent = Lent::built(&case, random);
     lent.plan[2] = 1;
-    assert_eq!(calls::count(&lent.lends(), &[0], 2, random), Err(17), "N is 65,536 and more");
+    assert_eq!(calls::count(&lent.inputs(), &[0], 2, random), Err(17), "N is 65,536 and more");
 }
 
 #[test]
@@ -142,7 +142,7 @@ fn any_bytes() {
         let (node_table, state_table) = (random.numbers(cells), random.bytes(states));
         let m = random.below(4);
         let nodes: Vec<u16> = (0..m).map(|_| random.below(16) as u16).collect();
-        let lends = Lends { plan: &plan, rules: &rules, node_table: &node_table, state_table: &state_table };
-        let _ = calls::count(&lends, &nodes, random.below(20), random);
+        let inputs = Inputs { plan: &plan, rules: &rules, node_table: &node_table, state_table: &state_table };
+        let _ = calls::count(&inputs, &nodes, random.below(20), random);
     }
 }

@@ -8,7 +8,7 @@ use compare::random::Random;
 use compare::rounds::colour_branches::{build_refused, damaged, lens, refusals, Coloured, WRONG_LENGTHS};
 use compare::shapes::{all, kinds, Shape, DEEPEST, SHAPES};
 use reference::branch::{Reading, READINGS};
-use reference::colour_branch::Lends;
+use reference::colour_branch::Inputs;
 
 /// Every question between two nodes of every tree of up to six leaves.
 #[test]
@@ -65,7 +65,7 @@ fn the_most_drops() {
         let case = Case { n: 2 * s - 1, s, k: s, plan, rules: Vec::new(), branch };
         let coloured = Coloured::new(case, random);
         let root = 2 * s as u32 - 2;
-        let told = colour_calls::branch(Reading::BelowUpper, coloured.lends(), root, 0, random).expect("accepted");
+        let told = colour_calls::branch(Reading::BelowUpper, coloured.inputs(), root, 0, random).expect("accepted");
         assert_eq!((told[0] as usize, told[2] as usize), (state(0), s - 1));
     }
 }
@@ -147,20 +147,20 @@ fn lengths() {
         let built = colour_calls::branch_build(&case.plan, &case.branch, long, random).expect("accepted");
         let root = case.n as u32 - 1;
         // the first numbers serve as node table
-        let lends =
-            Lends { plan: &case.plan, branch: &case.branch, node_table: &built.0, numbers: &built.0, bytes: &built.1 };
+        let inputs =
+            Inputs { plan: &case.plan, branch: &case.branch, node_table: &built.0, numbers: &built.0, bytes: &built.1 };
         for reading in READINGS {
-            let told = colour_calls::branch(reading, lends, root, 0, random);
+            let told = colour_calls::branch(reading, inputs, root, 0, random);
             assert!(told.is_ok());
-            let exact = Lends { node_table: &built.0[..4 * case.n], numbers: &built.0[..numbers], ..lends };
+            let exact = Inputs { node_table: &built.0[..4 * case.n], numbers: &built.0[..numbers], ..inputs };
             assert_eq!(
-                colour_calls::branch(reading, Lends { bytes: &built.1[..bytes], ..exact }, root, 0, random),
+                colour_calls::branch(reading, Inputs { bytes: &built.1[..bytes], ..exact }, root, 0, random),
                 told
             );
             for short in [
-                Lends { node_table: &built.0[..4 * case.n - 1], ..lends },
-                Lends { numbers: &built.0[..numbers - 1], ..lends },
-                Lends { bytes: &built.1[..bytes - 1], ..lends },
+                Inputs { node_table: &built.0[..4 * case.n - 1], ..inputs },
+                Inputs { numbers: &built.0[..numbers - 1], ..inputs },
+                Inputs { bytes: &built.1[..bytes - 1], ..inputs },
             ] {
                 assert_eq!(colour_calls::branch(reading, short, root, 0, random), Err(17));
             }
@@ -183,10 +183,10 @@ fn any_bytes() {
         let (mut cells, mut numbers, mut bytes) = (random.numbers(30), random.numbers(lens.0), random.bytes(lens.1));
         cells.iter_mut().chain(numbers.iter_mut()).for_each(|number| *number %= 8);
         bytes.iter_mut().for_each(|byte| *byte %= 5);
-        let lends = Lends { plan: &plan, branch: &table, node_table: &cells, numbers: &numbers, bytes: &bytes };
+        let inputs = Inputs { plan: &plan, branch: &table, node_table: &cells, numbers: &numbers, bytes: &bytes };
         let (upper, lower) = (random.below(7) as u32, random.below(7) as u32);
         for reading in READINGS {
-            let _ = colour_calls::branch(reading, lends, upper, lower, random);
+            let _ = colour_calls::branch(reading, inputs, upper, lower, random);
         }
     }
 }
@@ -198,8 +198,8 @@ fn the_sample() {
     let plan = sample().0;
     let branch = compare::inputs::branch(3, 2, &[0, 1, 2, 1, 2, 2], &[0, 0, 1]);
     let (numbers, bytes) = colour_calls::branch_build(&plan, &branch, (84, 21), random).expect("accepted");
-    let lends = Lends { plan: &plan, branch: &branch, node_table: &numbers, numbers: &numbers, bytes: &bytes };
+    let inputs = Inputs { plan: &plan, branch: &branch, node_table: &numbers, numbers: &numbers, bytes: &bytes };
     let told =
-        READINGS.map(|reading| colour_calls::branch(reading, lends, 6, 3, random).map(|told| (told[0], told[1])));
+        READINGS.map(|reading| colour_calls::branch(reading, inputs, 6, 3, random).map(|told| (told[0], told[1])));
     assert_eq!(told, [Ok((2, 1)), Ok((0, 0))]);
 }

@@ -11,7 +11,7 @@ use compare::rounds::colour_questions::{
 };
 use compare::rounds::questions::Asked;
 use compare::shapes::{all, most_parts, Shape, DEEPEST, SHAPES};
-use reference::colour_rules::{lens, Lends};
+use reference::colour_rules::{lens, Inputs};
 use reference::panel;
 use reference::sample::ROWS;
 
@@ -24,10 +24,10 @@ fn the_sample() {
     assert_eq!((numbers, bytes), (112, 49));
     let (numbers, bytes) = colour_calls::rule_build(&plan, &rules, (numbers, bytes), random).expect("accepted");
     // both begin with the tables of the build
-    let tables = panel::Lends { plan: &plan, rules: &rules, node_table: &numbers, state_table: &bytes };
-    let lends = Lends { tables, numbers: &numbers, bytes: &bytes };
+    let tables = panel::Inputs { plan: &plan, rules: &rules, node_table: &numbers, state_table: &bytes };
+    let inputs = Inputs { tables, numbers: &numbers, bytes: &bytes };
     for row in &ROWS {
-        let told = colour_calls::question(&lends, row.nodes, row.labels, random);
+        let told = colour_calls::question(&inputs, row.nodes, row.labels, random);
         let want = row.told.map(|told| (told.state, told.yes as u32, told.parts));
         assert_eq!(told.map(|told| (told[0], told[1], told[4])), want);
     }
@@ -92,7 +92,7 @@ fn the_most_parts() {
     let labels = case.other_labels(&nodes, random);
     let mut asked = Asked::new(case, random);
     ask(&coloured, &mut asked, &nodes, &labels, random, counts);
-    let told = colour_calls::question(&coloured.lends(), &nodes, &labels, random).expect("accepted");
+    let told = colour_calls::question(&coloured.inputs(), &nodes, &labels, random).expect("accepted");
     assert_eq!(told[4], 254);
 }
 
@@ -126,7 +126,7 @@ fn each_refusal_of_a_question_alone_and_in_pairs() {
             let case = any_case(20, random);
             let mut lent = Coloured::new(&case, random);
             wrong_length(&mut lent, &case, way, random);
-            assert_eq!(colour_calls::question(&lent.lends(), &[0], &[0], random), Err(17), "in way {}", way);
+            assert_eq!(colour_calls::question(&lent.inputs(), &[0], &[0], random), Err(17), "in way {}", way);
         }
     }
 }
@@ -140,10 +140,10 @@ fn more_than_four_states() {
         let built = compare::panel::Lent::built(&case, random);
         for (numbers, bytes) in [(vec![], vec![]), (random.numbers(40), random.bytes(40))] {
             let mut lent = Coloured { lent: built.clone(), numbers, bytes };
-            assert_eq!(colour_calls::question(&lent.lends(), &[0], &[0], random), Err(27));
-            assert_eq!(colour_calls::question(&lent.lends(), &[0, 65_535], &[0], random), Err(27), "27 before 12");
+            assert_eq!(colour_calls::question(&lent.inputs(), &[0], &[0], random), Err(27));
+            assert_eq!(colour_calls::question(&lent.inputs(), &[0, 65_535], &[0], random), Err(27), "27 before 12");
             lent.lent.state_table.truncate(case.state_table_len() - 1);
-            assert_eq!(colour_calls::question(&lent.lends(), &[0], &[0], random), Err(17), "17 before 27");
+            assert_eq!(colour_calls::question(&lent.inputs(), &[0], &[0], random), Err(17), "17 before 27");
         }
     }
 }

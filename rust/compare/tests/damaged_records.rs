@@ -6,7 +6,7 @@ use compare::inputs::Case;
 use compare::random::Random;
 use compare::rounds::damaged_records::{altered, any_bytes, made_up, Beside};
 use compare::shapes::{self, Shape};
-use reference::panel::{Phase, Sizes, Told};
+use reference::panel::{Outcome, Phase, Sizes};
 use reference::record::{Record, RECORD_BYTES};
 
 /// One byte changed, at every place.
@@ -157,7 +157,7 @@ fn the_limits_of_a_kept_answer() {
     let records = beside.records(random);
     let [loaded, running] = [1, 4].map(|at| Record::of(&records[at]).unwrap());
     let answered = Record::of(records.last().unwrap()).unwrap();
-    let told = |state, parts, links, passed| Some(Told { state, yes: true, parts, links, passed });
+    let told = |state, parts, links, passed| Some(Outcome { state, yes: true, parts, links, passed });
     for record in [loaded, running] {
         let mut is = |last, valid| {
             let bytes = Record { last, ..record.clone() }.bytes();
@@ -187,11 +187,11 @@ fn the_limits_of_a_kept_answer() {
     let own = answered.answer().unwrap();
     for last in [
         None,
-        Some(Told { state: (own.state + 1) % 3, ..own }),
-        Some(Told { yes: !own.yes, ..own }),
-        Some(Told { parts: own.parts - 1, ..own }),
-        Some(Told { links: own.links + 1, passed: own.passed + 1, ..own }),
-        Some(Told { passed: own.passed + 1, ..own }),
+        Some(Outcome { state: (own.state + 1) % 3, ..own }),
+        Some(Outcome { yes: !own.yes, ..own }),
+        Some(Outcome { parts: own.parts - 1, ..own }),
+        Some(Outcome { links: own.links + 1, passed: own.passed + 1, ..own }),
+        Some(Outcome { passed: own.passed + 1, ..own }),
     ] {
         assert!(!beside.all_calls(&Record { last, ..answered.clone() }.bytes(), random), "{:?}", last);
     }

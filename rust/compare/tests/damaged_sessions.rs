@@ -1,4 +1,4 @@
-//! Sessions on lends that are not as built: node table, state table, labels, kinds, headers and rules with other
+//! Sessions on inputs that are not as built: node table, state table, labels, kinds, headers and rules with other
 //! values. Start gives 18. Between Start and advance every answer and every record is the reference's, which follows the
 //! lent values and gives 18 where one leads outside.
 
@@ -7,19 +7,19 @@ use compare::counts::Counts;
 use compare::inputs::{self, Case};
 use compare::panel::{Lent, Panel};
 use compare::random::Random;
-use compare::rounds::damaged_lends;
+use compare::rounds::damaged_inputs;
 use compare::shapes::Shape;
 use reference::panel::{Answer, Call};
 
 #[test]
 fn the_rule_on_any_lends() {
     let (random, counts) = (&mut Random::new(1401), &mut Counts::default());
-    for kind in damaged_lends::of_values() {
+    for kind in damaged_inputs::of_values() {
         for turn in 0..700 {
             let leaves = if turn % 100 == 0 { 1_500 } else { random.between(1, 30) };
             let (s, k) = (random.between(1, 6), random.between(1, 6));
             let shape = *random.pick(&compare::shapes::SHAPES);
-            damaged_lends::of_one_kind(kind, Case::new(shape, leaves, s, k, random), random, counts);
+            damaged_inputs::of_one_kind(kind, Case::new(shape, leaves, s, k, random), random, counts);
         }
         let count = |what: &str| counts.of(&format!("{:?}: {}", kind, what));
         assert!(count("finished") > 150, "{}", counts);
@@ -36,7 +36,7 @@ fn the_rule_on_any_lends() {
 fn everything_damaged() {
     let (random, counts) = (&mut Random::new(1402), &mut Counts::default());
     for _ in 0..1_500 {
-        damaged_lends::everything(random, counts);
+        damaged_inputs::everything(random, counts);
     }
     for what in ["18 at Start", "more", "18 at an advance", "finished"] {
         assert!(counts.of(&format!("several: {}", what)) > 100, "{}", counts);
@@ -120,7 +120,7 @@ fn the_longest_climbs() {
     assert_eq!(panel.advance(&bad, random), Answer::More);
     assert_eq!(panel.advance(&bad, random), Answer::Finished);
     match panel.call(&Call::Read, random) {
-        Answer::Told(told) => assert_eq!((told.links, told.passed), (65_533, 65_533)),
+        Answer::Outcome(told) => assert_eq!((told.links, told.passed), (65_533, 65_533)),
         other => panic!("{:?}", other),
     }
     // a move to the same depth does not rise

@@ -1,5 +1,5 @@
 //! Run states and maps that are any bytes below S, under plan, rules and node table as built: 18 at Start; "an advance
-//! goes on as always and stores and counts what this rule gives on those bytes". The book replays the rule on the tree.
+//! goes on as always and stores and counts what this rule gives on those bytes". The reference model replays the rule on the tree.
 
 use compare::counts::Counts;
 use compare::inputs::Case;
@@ -7,7 +7,7 @@ use compare::panel::{Lent, Panel};
 use compare::random::Random;
 use compare::rounds::other_bytes;
 use compare::shapes::{Shape, SHAPES};
-use reference::book::Standing;
+use reference::model::Settlement;
 use reference::panel::Answer;
 
 #[test]
@@ -72,13 +72,13 @@ fn clean_then_firm() {
         short.state_table.pop();
         assert_eq!(panel.advance(&short, random), Answer::Refused(17));
         assert_eq!(panel.advance(&lent, random), Answer::More);
-        assert_eq!(panel.book.standing(), Some(Standing::Clean));
+        assert_eq!(panel.model.settlement(), Some(Settlement::Clean));
         let other = Lent { state_table: random.bytes_below(lent.state_table.len(), 4), ..lent.clone() };
         panel.advance(&other, random);
-        assert_eq!(panel.book.standing(), Some(Standing::Firm));
+        assert_eq!(panel.model.settlement(), Some(Settlement::ByRule));
         if panel.says().states.len() < panel.says().roots.len() {
             panel.finish(&lent, random);
-            assert_eq!(panel.book.standing(), Some(Standing::Firm));
+            assert_eq!(panel.model.settlement(), Some(Settlement::ByRule));
         }
         assert_eq!(panel.left, 0);
     }

@@ -1,5 +1,5 @@
 //! Questions on tables as built, through the session's calls: roots, states, answer, parts, links and nodes passed over, on trees
-//! of every shape and size. The book holds every answer to a fresh run of the changed plan; here the record is looked at too.
+//! of every shape and size. The reference model holds every answer to a fresh run of the changed plan; here the record is looked at too.
 
 use compare::counts::Counts;
 use compare::inputs::{self, Case};
@@ -157,7 +157,7 @@ fn limits_of_the_list() {
     assert_eq!(refused(panel, lent, &[0, 199], &[4, 0], random), 13);
     assert_eq!(refused(panel, lent, &[0, 0], &[0, 4], random), 14);
     // the answer before is still there
-    assert!(matches!(panel.call(&Call::Read, random), Answer::Told(_)));
+    assert!(matches!(panel.call(&Call::Read, random), Answer::Outcome(_)));
 }
 
 /// The records that docs/LAYOUT.md shows: after Load, after Start of 0→0, after two advances, after Start and Cancel.

@@ -1,5 +1,5 @@
-//! The reference implementation's own ways to the parts of a question, held to each other: the ready set by closing it
-//! literally, by marks, and by neighbours on a lent node table as built. No call of the library is made here.
+//! The reference implementation's own ways to the parts of a question, compared with each other: the ready set by closing
+//! it literally and by marks. No call of the library is made here.
 
 use compare::inputs::Case;
 use compare::panel::Lent;
@@ -7,24 +7,17 @@ use compare::random::Random;
 use compare::shapes::{self, SHAPES};
 use reference::formats::{read_plan, read_rules};
 use reference::fresh::changed;
-use reference::lent::View;
-use reference::panel::Sizes;
 use reference::parts::Given;
 use reference::ready::{by_marks, closure};
 use reference::tables::run;
 use reference::tree::Tree;
 
-fn sizes(case: &Case) -> Sizes {
-    Sizes { n: case.n, s: case.s, k: case.k }
-}
-
-/// All three ways; and by the rule each part has the state of its root in the run of the changed plan.
+/// Both ways; and by the rule each part has the state of its root in the run of the changed plan.
 fn compare(case: &Case, lent: &Lent, tree: &Tree, nodes: &[u16], labels: &[u8], literally: bool) {
     let members = by_marks(tree, nodes);
     if literally {
         assert_eq!(closure(tree, nodes), members, "{:?}", nodes);
     }
-    assert_eq!(View::new(sizes(case), &lent.lends()).roots(nodes), members, "{:?}", nodes);
     let most = if nodes.is_empty() { 1 } else { 4 * nodes.len() - 2 };
     assert!(members.len() <= most && members.last() == Some(&tree.root()));
     let (plan, rules) = (read_plan(&case.plan).unwrap(), read_rules(&case.rules).unwrap());

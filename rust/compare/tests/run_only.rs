@@ -53,7 +53,7 @@ fn every_call(plan: &[u8], rules: &[u8], branch: &[u8], random: &mut Random) -> 
         calls::build(Kind::Rules, plan, rules, lens, random).err(),
         calls::check(Kind::Rules, plan, rules, &node_table, &state_table, random).err(),
         calls::fresh_run(plan, rules, &[0], &[0], random).err(),
-        refusal(sides::call(&[0; RECORD_BYTES], &Call::Load(lent.lends()), random).answer),
+        refusal(sides::call(&[0; RECORD_BYTES], &Call::Load(lent.inputs()), random).answer),
         built.as_ref().err().copied(),
         calls::check(Kind::Branch, plan, branch, &node_table, &state_table, random).err(),
         calls::branch_with_upper(question, n as u32 - 1, 0, random).err(),

@@ -1,5 +1,5 @@
 //! Eight screens on one mill (document 02, S-8): whole lists of screen calls, held to the reference implementation, to
-//! eight books and to single sessions; turns; and what is refused, in order.
+//! eight reference models and to single sessions; turns; and what is refused, in order.
 
 use compare::counts::Counts;
 use compare::inputs::Case;
@@ -109,13 +109,13 @@ fn numbers_and_lengths() {
     let (case, lent, mut lab) = lab(random);
     (0..8).for_each(|screen| start(&mut lab, &case, &lent, screen, random));
     let none = Lent { plan: vec![], rules: vec![], node_table: vec![], state_table: vec![] };
-    for lends in [lent.lends(), none.lends()] {
+    for inputs in [lent.inputs(), none.inputs()] {
         for number in NO_SCREENS {
             for call in [
-                ScreenCall::Start(number, lends, &[], &[]),
+                ScreenCall::Start(number, inputs, &[], &[]),
                 ScreenCall::Cancel(number),
                 ScreenCall::Read(number),
-                ScreenCall::Deal(number, lends),
+                ScreenCall::Deal(number, inputs),
             ] {
                 assert_eq!(lab.call(&call, random), ScreenAnswer::refused(25), "{}", number);
             }
@@ -124,11 +124,11 @@ fn numbers_and_lengths() {
             let mut run = lab.run.clone();
             run.resize(len, 0);
             for call in [
-                ScreenCall::Load(lends),
-                ScreenCall::Start(0, lends, &[], &[]),
+                ScreenCall::Load(inputs),
+                ScreenCall::Start(0, inputs, &[], &[]),
                 ScreenCall::Cancel(0),
                 ScreenCall::Read(0),
-                ScreenCall::Deal(0, lends),
+                ScreenCall::Deal(0, inputs),
             ] {
                 assert_eq!(compared(&run, &call, random).answer, ScreenAnswer::refused(25), "{} bytes", len);
             }
@@ -146,7 +146,7 @@ fn turns_of_all_eight() {
     let (case, lent, mut lab) = lab(random);
     (0..8).for_each(|screen| start(&mut lab, &case, &lent, screen, random));
     let mut served = vec![];
-    while (0..SCREENS).all(|i| lab.books.runs(i)) {
+    while (0..SCREENS).all(|i| lab.models.runs(i)) {
         match lab.deal(&lent, random) {
             ScreenAnswer::Dealt(next, _) => served.push((next + 7) % 8),
             other => panic!("the deal was told {:?}", other),
@@ -156,7 +156,7 @@ fn turns_of_all_eight() {
     for screen in (0..8).filter(|&screen| screen != 5) {
         lab.call(&ScreenCall::Cancel(screen), random);
     }
-    while lab.books.runs(5) {
+    while lab.models.runs(5) {
         assert_eq!(lab.deal(&lent, random).number(), Some(6));
     }
     assert_eq!(lab.deal(&lent, random), ScreenAnswer::refused(1));
@@ -187,10 +187,10 @@ fn load_waits_and_clears() {
     let random = &mut Random::new(2307);
     let (case, lent, mut lab) = lab(random);
     let loaded = lab.run.clone();
-    let load = ScreenCall::Load(lent.lends());
+    let load = ScreenCall::Load(lent.inputs());
     for screen in 0..8 {
         start(&mut lab, &case, &lent, screen, random);
-        while lab.books.runs(screen as usize) {
+        while lab.models.runs(screen as usize) {
             assert_eq!(lab.call(&load, random), ScreenAnswer::refused(1));
             lab.deal(&lent, random);
         }
@@ -198,7 +198,7 @@ fn load_waits_and_clears() {
     start(&mut lab, &case, &lent, 7, random);
     lab.call(&ScreenCall::Cancel(7), random);
     for screen in 0..8 {
-        assert!(matches!(lab.call(&ScreenCall::Read(screen), random), ScreenAnswer::One(Answer::Told(_))));
+        assert!(matches!(lab.call(&ScreenCall::Read(screen), random), ScreenAnswer::One(Answer::Outcome(_))));
     }
     assert_eq!((lab.call(&load, random), lab.first), (ScreenAnswer::Loaded(0), 0));
     assert!(lab.run == loaded, "as after a first Load");
@@ -220,16 +220,16 @@ fn isolation() {
         let mut told = vec![];
         told.push(alone.start(own, &lent, &nodes, &labels, random));
         assert_eq!(beside.start(own, &lent, &nodes, &labels, random), told[0]);
-        while alone.books.runs(own as usize) {
+        while alone.models.runs(own as usize) {
             told.push(alone.deal(&lent, random));
             // what the others do until it is the screen's turn
             loop {
                 for other in (0..8).filter(|&other| other != own) {
                     match random.below(4) {
-                        0 if beside.books.runs(other as usize) => {
+                        0 if beside.models.runs(other as usize) => {
                             beside.call(&ScreenCall::Cancel(other), random);
                         }
-                        1 if !beside.books.runs(other as usize) => start(&mut beside, &case, &lent, other, random),
+                        1 if !beside.models.runs(other as usize) => start(&mut beside, &case, &lent, other, random),
                         _ => (),
                     }
                 }
@@ -254,22 +254,22 @@ fn a_broken_record() {
     let random = &mut Random::new(2309);
     let scene = Scene::new(random);
     let [_, loaded, running, answered, ..] = &scene.records;
-    let lends = scene.lent.lends();
+    let inputs = scene.lent.inputs();
     let with = |at: usize, record: &[u8]| {
         let mut run = running.repeat(SCREENS);
         run[RECORD_BYTES * at..RECORD_BYTES * (at + 1)].copy_from_slice(record);
         run
     };
-    let start = |screen| ScreenCall::Start(screen, lends, &scene.nodes, &scene.labels);
+    let start = |screen| ScreenCall::Start(screen, inputs, &scene.nodes, &scene.labels);
     for at in 0..SCREENS {
         let own = at as u32;
         let broken = |record: &[u8]| [&[record[0], 2], &record[2..]].concat();
         for record in [loaded, running, answered] {
             let run = with(at, &broken(record));
-            for call in [start(own), ScreenCall::Cancel(own), ScreenCall::Read(own), ScreenCall::Load(lends)] {
+            for call in [start(own), ScreenCall::Cancel(own), ScreenCall::Read(own), ScreenCall::Load(inputs)] {
                 assert_eq!(compared(&run, &call, random).answer, ScreenAnswer::refused(1));
             }
-            let dealt = compared(&run, &ScreenCall::Deal(own, lends), random).answer;
+            let dealt = compared(&run, &ScreenCall::Deal(own, inputs), random).answer;
             if record == running {
                 assert_eq!(dealt, ScreenAnswer::refused(1), "at its turn");
             } else {
@@ -278,11 +278,11 @@ fn a_broken_record() {
             let other = (own + 1) % 8;
             let cancel = compared(&run, &ScreenCall::Cancel(other), random).answer;
             assert_eq!(cancel, ScreenAnswer::One(Answer::Accepted));
-            assert!(compared(&run, &ScreenCall::Deal(other, lends), random).answer.number().is_some());
+            assert!(compared(&run, &ScreenCall::Deal(other, inputs), random).answer.number().is_some());
         }
         // no state at all is not running
         let run = with(at, &[9; RECORD_BYTES]);
-        assert_eq!(compared(&run, &ScreenCall::Deal(own, lends), random).answer.number(), Some((own + 2) % 8));
+        assert_eq!(compared(&run, &ScreenCall::Deal(own, inputs), random).answer.number(), Some((own + 2) % 8));
     }
     assert_eq!(RUN_BYTES, 7_864);
 }
@@ -296,8 +296,8 @@ fn the_wrapper() {
     let mut screens = whatif::Screens::new();
     let (mut node_table, mut state_table) = (lent.node_table.clone(), lent.state_table.clone());
     screens.load(&lent.plan, &lent.rules, &mut node_table, &mut state_table).unwrap();
-    lab.call(&ScreenCall::Load(lent.lends()), random);
-    let lends = whatif::Lent {
+    lab.call(&ScreenCall::Load(lent.inputs()), random);
+    let inputs = whatif::Lent {
         plan: &lent.plan,
         rules: &lent.rules,
         node_table: &lent.node_table,
@@ -308,7 +308,7 @@ fn the_wrapper() {
         let (call, told) = match random.below(8) {
             0 | 1 => {
                 let (nodes, labels) = case.list(random.below(9), random);
-                let told = screens.start(screen, &lends, &nodes, &labels).map(Answer::Parts);
+                let told = screens.start(screen, &inputs, &nodes, &labels).map(Answer::Parts);
                 assert_eq!(one(lab.start(screen, &lent, &nodes, &labels, random)), told.map_err(|no| no.number()));
                 continue;
             }
@@ -316,7 +316,7 @@ fn the_wrapper() {
             3 => {
                 let told = screens.read(screen).map(|a| (a.state as u32, a.yes, a.parts, a.links, a.passed));
                 let answer = match one(lab.call(&ScreenCall::Read(screen), random)) {
-                    Ok(Answer::Told(a)) => Ok((a.state, a.yes, a.parts, a.links, a.passed)),
+                    Ok(Answer::Outcome(a)) => Ok((a.state, a.yes, a.parts, a.links, a.passed)),
                     Ok(other) => panic!("the Read was told {:?}", other),
                     Err(number) => Err(number),
                 };
@@ -324,7 +324,7 @@ fn the_wrapper() {
                 continue;
             }
             _ => {
-                let told = screens.deal(&lends);
+                let told = screens.deal(&inputs);
                 let wanted = match told {
                     Ok(whatif::Deal { screen, progress: whatif::Progress::More }) => Ok((screen, Answer::More)),
                     Ok(whatif::Deal { screen, .. }) => Ok((screen, Answer::Finished)),
@@ -339,7 +339,7 @@ fn the_wrapper() {
         };
         assert_eq!(one(lab.call(&call, random)), told.map_err(|no| no.number()));
         assert!(screens.as_bytes()[..] == lab.run[..] && screens.first() == lab.first);
-        let running = (0..SCREENS).any(|i| lab.books.runs(i));
+        let running = (0..SCREENS).any(|i| lab.models.runs(i));
         assert_eq!(screens.is_running(), running);
     }
 }

@@ -35,7 +35,7 @@ fn every_kind_of_damage_before_start() {
     for turn in 0..30 * DAMAGES {
         let mut scene = Scene::new(random);
         scene.unsound(turn % DAMAGES, random);
-        let start = Call::Start(scene.lent.lends(), &scene.nodes, &scene.labels);
+        let start = Call::Start(scene.lent.inputs(), &scene.nodes, &scene.labels);
         for record in [&scene.records[1], &scene.records[3], &scene.records[4]] {
             let done = sides::call(record, &start, random);
             assert_eq!(done.answer, Answer::Refused(18), "kind {}", turn % DAMAGES);
@@ -50,11 +50,11 @@ fn states() {
     let random = &mut Random::new(1704);
     for _ in 0..60 {
         let scene = Scene::new(random);
-        let lends = scene.lent.lends();
+        let inputs = scene.lent.inputs();
         let calls = [
-            (Call::Load(lends), [true, true, false, true, true, false]),
-            (Call::Start(lends, &scene.nodes, &scene.labels), [false, true, false, true, true, false]),
-            (Call::Advance(lends), [false, false, true, false, false, true]),
+            (Call::Load(inputs), [true, true, false, true, true, false]),
+            (Call::Start(inputs, &scene.nodes, &scene.labels), [false, true, false, true, true, false]),
+            (Call::Advance(inputs), [false, false, true, false, false, true]),
             (Call::Cancel, [false, false, true, false, false, true]),
             (Call::Read, [false, false, false, true, true, true]),
         ];
@@ -90,10 +90,10 @@ fn the_answer_stays_until_a_load_is_accepted() {
         let told = sides::call(answered, &Call::Read, random).answer;
         let short = Lent { plan: scene.lent.plan[..11].to_vec(), ..scene.lent.clone() };
         for call in [
-            Call::Load(short.lends()),
-            Call::Start(short.lends(), &[], &[]),
-            Call::Start(scene.lent.lends(), &[0, 0], &[0]),
-            Call::Advance(scene.lent.lends()),
+            Call::Load(short.inputs()),
+            Call::Start(short.inputs(), &[], &[]),
+            Call::Start(scene.lent.inputs(), &[0, 0], &[0]),
+            Call::Advance(scene.lent.inputs()),
             Call::Cancel,
         ] {
             let done = sides::call(answered, &call, random);
@@ -103,7 +103,7 @@ fn the_answer_stays_until_a_load_is_accepted() {
         for record in [loaded_with, running_with] {
             assert_eq!(sides::call(record, &Call::Read, random).answer, told);
         }
-        let start = Call::Start(scene.lent.lends(), &scene.nodes, &scene.labels);
+        let start = Call::Start(scene.lent.inputs(), &scene.nodes, &scene.labels);
         let again = sides::call(answered, &start, random).record;
         assert!(again == sides::call(loaded_with, &start, random).record);
         assert_eq!(sides::call(&again, &Call::Read, random).answer, told);
@@ -111,7 +111,7 @@ fn the_answer_stays_until_a_load_is_accepted() {
         assert!(again[..967] == anew[..967] && again[975..979] == anew[975..979]);
         let record = Record::of(&again).unwrap();
         assert_eq!((record.states, record.links, record.passed, record.yes), (vec![], 0, 0, false));
-        let load = Call::Load(scene.lent.lends());
+        let load = Call::Load(scene.lent.inputs());
         for record in [answered, loaded_with] {
             let done = sides::call(record, &load, random);
             assert_eq!(done.answer, Answer::Accepted);

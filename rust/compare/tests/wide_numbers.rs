@@ -54,7 +54,7 @@ fn every_call(kind: Kind, good: &Case, case: &Case, wanted: u32, random: &mut Ra
     if kind == Kind::Rules {
         assert_eq!(calls::fresh_run(&case.plan, &case.rules, &[], &[], random), Err(wanted));
         let lent = Lent { plan: case.plan.clone(), rules: case.rules.clone(), node_table, state_table };
-        let answer = sides::call(&[0; RECORD_BYTES], &Call::Load(lent.lends()), random).answer;
+        let answer = sides::call(&[0; RECORD_BYTES], &Call::Load(lent.inputs()), random).answer;
         assert_eq!(answer, Answer::Refused(wanted));
         return;
     }

@@ -3,7 +3,6 @@
 //! "Which separating plan is shown may be left to the program": here is only what its lines must be.
 
 use crate::formats::{read_rules, Rules, MAX_NODES};
-use crate::mistakes::{made, Mistake};
 use crate::write;
 
 type Pair = (u8, u8);
@@ -51,16 +50,14 @@ fn by_height(a: &Rules, b: &Rules) -> Vec<Vec<Pair>> {
     let mut known = Pairs::default();
     labels().for_each(|l| known.add((a.leaf(l), b.leaf(l))));
     let mut heights = vec![known.list.clone()];
-    while let Some(newest) = heights.last().filter(|newest| !newest.is_empty() && !made(Mistake::LeavesAlone)) {
+    while let Some(newest) = heights.last().filter(|newest| !newest.is_empty()) {
         let lower = known.list.clone();
         // one child at least is among the newest
         for &(p, q) in newest {
             for &(p2, q2) in &lower {
                 for l in labels() {
                     known.add((a.inner(p, l, p2), b.inner(q, l, q2)));
-                    if !made(Mistake::NewestOnTheLeft) {
-                        known.add((a.inner(p2, l, p), b.inner(q2, l, q)));
-                    }
+                    known.add((a.inner(p2, l, p), b.inner(q2, l, q)));
                 }
             }
         }

@@ -3,7 +3,6 @@
 
 use crate::climb::{climb, passed, Lent, Links, Move};
 use crate::formats::{number, Branch, Plan, MAX_LABELS, MAX_NODES, MAX_STATES};
-use crate::mistakes::{made, unless, Mistake};
 use crate::tables::labels_down;
 use crate::tree::Tree;
 
@@ -92,7 +91,7 @@ pub fn on_tables(
     lower: u32,
 ) -> Result<Answer, u32> {
     let lent = lent(plan, branch, node_table, state_table).ok_or(17u32)?;
-    let [upper, lower] = [upper, lower].map(|v| unless(Mistake::NodesCut, v, v & 0xffff) as usize);
+    let [upper, lower] = [upper, lower].map(|v| v as usize);
     if upper >= lent.tree.nodes || lower >= lent.tree.nodes {
         return Err(13);
     }
@@ -108,27 +107,19 @@ impl Question<'_> {
     /// The first state goes down through the moves of the climb, from the last to the first: of each map one entry is read,
     /// so what the others hold doesn't matter.
     fn answer(&self, reading: Reading, upper: usize, lower: usize, moves: &[Move]) -> Result<Answer, u32> {
-        let mut downward = moves.to_vec();
-        if !made(Mistake::MapsFromTheWrongEnd) {
-            downward.reverse();
-        }
         let first = self.first(reading, upper)?;
-        let state = downward.into_iter().try_fold(first, |q, one| self.through(one, q))?;
-        let yes = unless(Mistake::AnyMarkIsYes, self.marks[state] == 1, self.marks[state] != 0);
-        let passed = passed(&self.tree, lower, moves, self.tree.depth(upper));
+        let state = moves.iter().rev().try_fold(first, |q, &one| self.through(one, q))?;
+        let yes = self.marks[state] == 1;
+        let passed = passed(&self.tree, lower, moves);
         Ok(Answer { state: state as u8, yes, links: moves.len(), passed })
     }
 
     /// The state that the word below the upper node starts in; from below it the upper node's label is not read, and so can't
     /// lead outside.
     fn first(&self, reading: Reading, upper: usize) -> Result<usize, u32> {
-        let with_upper = (reading == Reading::WithUpper) != made(Mistake::ReadingsExchanged);
-        if with_upper {
-            self.step(0, upper)
-        } else if made(Mistake::UpperRead) {
-            self.step(0, upper).map(|_| 0)
-        } else {
-            Ok(0)
+        match reading {
+            Reading::WithUpper => self.step(0, upper),
+            Reading::BelowUpper => Ok(0),
         }
     }
 

@@ -2,8 +2,7 @@
 //! looked for in all that is lent, value by value, and not on the way that a call goes.
 
 use crate::fresh::changed;
-use crate::mistakes::{made, Mistake};
-use crate::panel::{Lends, Sizes};
+use crate::panel::{Inputs, Sizes};
 
 /// The four numbers of each node; 0 past the last node.
 struct NodeTable<'a> {
@@ -51,15 +50,15 @@ impl NodeTable<'_> {
 }
 
 /// A cause anywhere in what is lent, with the labels as the list changes them.
-pub fn anywhere(sizes: Sizes, lends: &Lends, nodes: &[u16], labels: &[u8]) -> bool {
+pub fn anywhere(sizes: Sizes, inputs: &Inputs, nodes: &[u16], labels: &[u8]) -> bool {
     let Sizes { n, s, k } = sizes;
-    let (plan_labels, kinds) = lends.plan[12..].split_at(n);
-    let (states, rules) = (&lends.state_table[..(s + 1) * n], &lends.rules[20..20 + k + s * k * s]);
-    let node_table = NodeTable { n, node_table: lends.node_table };
+    let (plan_labels, kinds) = inputs.plan[12..].split_at(n);
+    let (states, rules) = (&inputs.state_table[..(s + 1) * n], &inputs.rules[20..20 + k + s * k * s]);
+    let node_table = NodeTable { n, node_table: inputs.node_table };
     let no_state = |&q: &u8| q as usize >= s;
     let no_label = |&a: &u8| a as usize >= k;
     let in_node_table = || (0..n).any(|v| node_table.strays(v) || node_table.is_apart(v));
-    !made(Mistake::NodeTableIsNoCause) && in_node_table()
+    in_node_table()
         || states.iter().chain(rules).any(no_state)
         || plan_labels.iter().chain(&changed(plan_labels, nodes, labels)).any(no_label)
         || (0..n).any(|v| kinds[v] != 0 && node_table.is_childless(v))

@@ -1,7 +1,5 @@
 //! Climbs: "while deeper than t, take the jump if its depth is at least t, else the parent. Each move is one link."
 
-use crate::mistakes::{made, unless, Mistake};
-
 /// Parents, jumps and depths of `nodes` nodes, by a tree or by a lent table.
 pub trait Links {
     fn nodes(&self) -> usize;
@@ -26,10 +24,8 @@ pub fn climb(links: &impl Links, w: usize, t: usize) -> Result<Vec<Move>, u32> {
         if jump >= links.nodes() {
             return Err(18);
         }
-        let reaches = unless(Mistake::ClimbRule, links.depth(jump) >= t, links.depth(jump) > t);
-        let to_parent = made(Mistake::ParentBeforeJump) && jump == links.parent(v);
-        let (one, next) =
-            if reaches && !to_parent { (Move::ByJump(v), jump) } else { (Move::ToParent(v), links.parent(v)) };
+        let reaches = links.depth(jump) >= t;
+        let (one, next) = if reaches { (Move::ByJump(v), jump) } else { (Move::ToParent(v), links.parent(v)) };
         if next >= links.nodes() || links.depth(next) >= links.depth(v) {
             return Err(18);
         }
@@ -40,20 +36,12 @@ pub fn climb(links: &impl Links, w: usize, t: usize) -> Result<Vec<Move>, u32> {
 }
 
 /// "How many nodes it passed over: the depth of its start less the depth of its end", by the depths of what is climbed on.
-/// `to` is the depth that was asked for.
-pub fn passed(links: &impl Links, w: usize, moves: &[Move], to: usize) -> usize {
+pub fn passed(links: &impl Links, w: usize, moves: &[Move]) -> usize {
     let end = moves.last().map_or(w, |&last| match last {
         Move::ByJump(v) => links.jump(v),
         Move::ToParent(v) => links.parent(v),
     });
-    let fallen = links.depth(w) - links.depth(end);
-    let wrong = links.depth(w).saturating_sub(to);
-    let right = unless(Mistake::PassedToTheDepthAsked, fallen, wrong);
-    if made(Mistake::PassedCountsMoves) {
-        moves.len()
-    } else {
-        unless(Mistake::PassedBetween, right, right.saturating_sub(1))
-    }
+    links.depth(w) - links.depth(end)
 }
 
 impl Links for crate::tree::Tree {

@@ -4,7 +4,6 @@
 use crate::branch::Reading;
 use crate::colours::{colour_of, Colours, LentColours, Place, Way};
 use crate::formats::{number, read_branch, read_plan, Branch, Plan, MAX_LABELS, MAX_NODES, MAX_STATES};
-use crate::mistakes::{made, unless, Mistake};
 use crate::tables::Tables;
 use crate::tree::Tree;
 
@@ -63,7 +62,7 @@ pub fn by_path(
     let above = || if upper == tree.root() { None } else { Some(tree.parent[upper]) };
     let from = match reading {
         Reading::WithUpper => above(),
-        Reading::BelowUpper => unless(Mistake::CopyAbove, Some(upper), above()),
+        Reading::BelowUpper => Some(upper),
     };
     let start = match from {
         None => 0,
@@ -79,7 +78,7 @@ fn answer(state: u8, way: &Way, accepts: impl Fn(u8) -> bool) -> Answer {
 
 /// What is lent: plan, branch table, node table, colour numbers, colour bytes.
 #[derive(Clone, Copy)]
-pub struct Lends<'a> {
+pub struct Inputs<'a> {
     pub plan: &'a [u8],
     pub branch: &'a [u8],
     pub node_table: &'a [u16],
@@ -89,17 +88,17 @@ pub struct Lends<'a> {
 
 /// N, S and K of the lent headers; 17 "also for a header cut short or a number outside its limits" and "a short one gives
 /// 17 in a question".
-fn named(lends: &Lends) -> Result<(usize, usize, usize), u32> {
-    if lends.plan.len() < 12 || lends.branch.len() < 16 {
+fn named(inputs: &Inputs) -> Result<(usize, usize, usize), u32> {
+    if inputs.plan.len() < 12 || inputs.branch.len() < 16 {
         return Err(17);
     }
-    let (n, s, k) = (number(lends.plan, 0), number(lends.branch, 0), number(lends.branch, 4));
+    let (n, s, k) = (number(inputs.plan, 0), number(inputs.branch, 0), number(inputs.branch, 4));
     if !(1..=MAX_NODES).contains(&n) || !(1..=MAX_STATES).contains(&s) || !(1..=MAX_LABELS).contains(&k) {
         return Err(17);
     }
     let (n, s, k) = (n as usize, s as usize, k as usize);
-    let exact = lends.plan.len() == 12 + 2 * n && lends.branch.len() == 16 + s * k + s;
-    let short = lends.node_table.len() < 4 * n || lends.numbers.len() < 4 * n * s || lends.bytes.len() < n * s;
+    let exact = inputs.plan.len() == 12 + 2 * n && inputs.branch.len() == 16 + s * k + s;
+    let short = inputs.node_table.len() < 4 * n || inputs.numbers.len() < 4 * n * s || inputs.bytes.len() < n * s;
     if !exact || short {
         return Err(17);
     }
@@ -107,34 +106,33 @@ fn named(lends: &Lends) -> Result<(usize, usize, usize), u32> {
 }
 
 /// 17, 13, 16, 18 or the answer.
-pub fn on_tables(reading: Reading, lends: Lends, upper: u32, lower: u32) -> Result<Answer, u32> {
-    let (n, s, k) = named(&lends)?;
-    let [upper, lower] = [upper, lower].map(|v| unless(Mistake::NodesCut, v, v & 0xffff) as usize);
+pub fn on_tables(reading: Reading, inputs: Inputs, upper: u32, lower: u32) -> Result<Answer, u32> {
+    let (n, s, k) = named(&inputs)?;
+    let [upper, lower] = [upper, lower].map(|v| v as usize);
     if upper >= n || lower >= n {
         return Err(13);
     }
-    let cell = |v: usize, which: usize| lends.node_table[4 * v + which] as usize;
+    let cell = |v: usize, which: usize| inputs.node_table[4 * v + which] as usize;
     if lower > upper || upper >= lower + cell(upper, 3) {
         return Err(16);
     }
-    let with_upper = (reading == Reading::WithUpper) != made(Mistake::ReadingsExchanged);
-    let from: Place = match (with_upper, upper + 1 == n) {
-        (false, _) => Some(upper),
-        (true, true) => None,
-        (true, false) => Some(cell(upper, 0)),
+    let from: Place = match reading {
+        Reading::BelowUpper => Some(upper),
+        Reading::WithUpper if upper + 1 == n => None,
+        Reading::WithUpper => Some(cell(upper, 0)),
     };
     if from.map_or(false, |z| z >= n) {
         return Err(18);
     }
     let start = match from {
         None => 0,
-        Some(z) => lends.bytes[z * s..(z + 1) * s].iter().position(|&q| q == 0).ok_or(18u32)?,
+        Some(z) => inputs.bytes[z * s..(z + 1) * s].iter().position(|&q| q == 0).ok_or(18u32)?,
     };
-    let way = LentColours { nodes: n, numbers: &lends.numbers[..4 * n * s] }.down(from, lower, start)?;
-    let state = lends.bytes[lower * s + way.colour];
+    let way = LentColours { nodes: n, numbers: &inputs.numbers[..4 * n * s] }.down(from, lower, start)?;
+    let state = inputs.bytes[lower * s + way.colour];
     if state as usize >= s {
         return Err(18);
     }
-    let mark = lends.branch[16 + s * k + state as usize];
-    Ok(answer(state, &way, |_| unless(Mistake::AnyMarkIsYes, mark == 1, mark != 0)))
+    let mark = inputs.branch[16 + s * k + state as usize];
+    Ok(answer(state, &way, |_| mark == 1))
 }

@@ -10,7 +10,6 @@ use crate::count::named;
 use crate::formats::{read_plan, read_rules, Plan, Rules};
 use crate::fresh::{changed, check_list};
 use crate::lists::differing;
-use crate::mistakes::{made, unless, Mistake};
 use crate::panel;
 use crate::ready::by_marks;
 use crate::tables::{rule_tables, run};
@@ -102,17 +101,11 @@ impl<'a> Coloured<'a> {
     /// order up to it, and the drops add up": the state at child c, where node w below it is in state q.
     fn tried(&self, c: usize, w: usize, q: u8) -> Tried {
         let mut searches = Vec::new();
-        let mut targets: Vec<u8> = (0..self.rules.states as u8).collect();
-        if made(Mistake::TargetsFalling) {
-            targets.reverse();
-        }
-        for x in targets {
+        for x in 0..self.rules.states as u8 {
             let colour = colour_of(&self.colours.copies[c], 1 << x);
             let way = self.colours.down(&self.tree, Some(c), w, colour);
             let holds = holds(self.colours.copies[w][way.colour], q);
-            if holds || !made(Mistake::FailedTrialFree) {
-                searches.extend(way.searches);
-            }
+            searches.extend(way.searches);
             if holds {
                 return Tried { state: x, searches };
             }
@@ -133,7 +126,7 @@ fn led(tree: &Tree, plan: &Plan, rules: &Rules, states: &[u8], v: usize, set: u8
     }
     let p = tree.parent[v];
     let (left, right) = tree.children[p].expect("a parent is an inner node");
-    let is_left = unless(Mistake::PreimageOfTheOtherSide, v == left, v != left);
+    let is_left = v == left;
     let up = |q: u8| match is_left {
         true => rules.inner(q, plan.labels[p], states[right]),
         false => rules.inner(states[left], plan.labels[p], q),
@@ -145,14 +138,10 @@ fn led(tree: &Tree, plan: &Plan, rules: &Rules, states: &[u8], v: usize, set: u8
 pub fn build(plan: &[u8], rules: &[u8], numbers_len: usize, bytes_len: usize) -> Result<ColourTables, u32> {
     let plan = read_plan(plan)?;
     let rules = read_rules(rules)?;
-    let many = rules.states > MOST_STATES;
-    if many && !made(Mistake::StatesAfterLabels) {
+    if rules.states > MOST_STATES {
         return Err(27);
     }
     plan.labels_below(rules.labels)?;
-    if many {
-        return Err(27);
-    }
     let (n, s) = (plan.nodes(), rules.states);
     let (numbers, bytes) = lens(n, s);
     if numbers_len < numbers || bytes_len < bytes {
@@ -172,8 +161,8 @@ pub fn lens(n: usize, s: usize) -> (usize, usize) {
 
 /// What is lent: that of a question in the session, and the colour tables.
 #[derive(Clone, Copy)]
-pub struct Lends<'a> {
-    pub tables: panel::Lends<'a>,
+pub struct Inputs<'a> {
+    pub tables: panel::Inputs<'a>,
     pub numbers: &'a [u16],
     pub bytes: &'a [u8],
 }
@@ -189,13 +178,13 @@ pub enum Said {
 
 /// "A rule table with S above 4 gives 27, .. after 17 in a question, which goes on with 12 to 14 and 18." With S above 4 no
 /// length is asked of the colour tables.
-pub fn question(lends: &Lends, nodes: &[u16], labels: &[u8]) -> Said {
-    if let Err(number) = checks(lends, nodes, labels) {
+pub fn question(inputs: &Inputs, nodes: &[u16], labels: &[u8]) -> Said {
+    if let Err(number) = checks(inputs, nodes, labels) {
         return Said::Refused(number);
     }
-    let (plan, rules) = (lends.tables.plan, lends.tables.rules);
-    match build(plan, rules, lends.numbers.len(), lends.bytes.len()) {
-        Ok(built) if is_as_built(lends, &built) => {
+    let (plan, rules) = (inputs.tables.plan, inputs.tables.rules);
+    match build(plan, rules, inputs.numbers.len(), inputs.bytes.len()) {
+        Ok(built) if is_as_built(inputs, &built) => {
             let coloured = Coloured::new(read_plan(plan).expect("built"), read_rules(rules).expect("built"));
             let (answer, parts) = coloured.by_path(nodes, labels);
             Said::Answered(answer, parts)
@@ -204,25 +193,25 @@ pub fn question(lends: &Lends, nodes: &[u16], labels: &[u8]) -> Said {
     }
 }
 
-fn checks(lends: &Lends, nodes: &[u16], labels: &[u8]) -> Result<(), u32> {
-    let sizes = named(&lends.tables).ok_or(17u32)?;
-    sizes.fit(&lends.tables)?;
+fn checks(inputs: &Inputs, nodes: &[u16], labels: &[u8]) -> Result<(), u32> {
+    let sizes = named(&inputs.tables).ok_or(17u32)?;
+    sizes.fit(&inputs.tables)?;
     if sizes.s > MOST_STATES {
         return Err(27);
     }
     let (numbers, bytes) = lens(sizes.n, sizes.s);
-    if lends.numbers.len() < numbers || lends.bytes.len() < bytes {
+    if inputs.numbers.len() < numbers || inputs.bytes.len() < bytes {
         return Err(17);
     }
     check_list(nodes, labels, sizes.n, sizes.k)
 }
 
-fn is_as_built(lends: &Lends, built: &ColourTables) -> bool {
-    let rules = read_rules(lends.tables.rules).expect("built");
+fn is_as_built(inputs: &Inputs, built: &ColourTables) -> bool {
+    let rules = read_rules(inputs.tables.rules).expect("built");
     let n = (built.numbers.len() / 4) >> rules.states;
     // both begin with the session's tables
-    lends.numbers.starts_with(&built.numbers)
-        && lends.bytes.starts_with(&built.bytes)
-        && lends.tables.node_table.starts_with(&built.numbers[..4 * n])
-        && lends.tables.state_table.starts_with(&built.bytes[..n * (rules.states + 1)])
+    inputs.numbers.starts_with(&built.numbers)
+        && inputs.bytes.starts_with(&built.bytes)
+        && inputs.tables.node_table.starts_with(&built.numbers[..4 * n])
+        && inputs.tables.state_table.starts_with(&built.bytes[..n * (rules.states + 1)])
 }

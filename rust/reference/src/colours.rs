@@ -5,7 +5,6 @@
 //! Colours are numbered from 0 here: document 02's colour is one more. None of the numbers is told.
 
 use crate::climb::{climb, Lent, Links, Move};
-use crate::mistakes::{made, unless, Mistake};
 use crate::tree::Tree;
 
 /// The colours of all nodes.
@@ -28,8 +27,7 @@ pub struct Way {
 
 impl Way {
     pub fn drops(&self) -> usize {
-        let drops = self.searches.len();
-        unless(Mistake::LastDropFree, drops, drops.saturating_sub(1))
+        self.searches.len()
     }
 
     pub fn links(&self) -> usize {
@@ -42,8 +40,7 @@ impl Way {
 fn taken(led: &[u8]) -> Vec<u8> {
     let mut taken: Vec<u8> = Vec::new();
     for &q in led {
-        let has = |x: &u8| taken.contains(x) || made(Mistake::FreeOfAll) && led.contains(x);
-        let lowest = || (0..).find(|x| !has(x)).expect("a state is free");
+        let lowest = || (0..).find(|x| !taken.contains(x)).expect("a state is free");
         taken.push(if taken.contains(&q) { lowest() } else { q });
     }
     taken
@@ -123,8 +120,6 @@ impl Colours {
             }
             let above = tree.parent[v];
             depth[v] = depth[above] + usize::from(self.falls(above, c));
-            let wrong = depth[v] + usize::from(self.falls(v, c));
-            depth[v] = unless(Mistake::DepthsWithTheNode, depth[v], wrong);
             if self.falls(above, c) {
                 parent[v] = above;
             } else if depth[above] > 0 {

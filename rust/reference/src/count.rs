@@ -7,8 +7,7 @@
 use crate::climb::{climb, Move};
 use crate::formats::{number, read_plan, read_rules, Plan, Rules, MAX_LABELS, MAX_NODES, MAX_STATES};
 use crate::fresh::MAX_CHANGES;
-use crate::mistakes::{made, unless, Mistake};
-use crate::panel::{Lends, Sizes};
+use crate::panel::{Inputs, Sizes};
 use crate::ready::by_marks;
 use crate::tables::{run, Tables};
 use crate::tree::Tree;
@@ -37,17 +36,14 @@ pub enum Said {
 
 /// "17, then 12, 13 and 15 (which is met here) for the node list, then 26 for more than 1,000,000,000,000,000,000
 /// assignments": N, S and K are those of the lent headers.
-pub fn checks(lends: &Lends, nodes: &[u16]) -> Result<Sizes, u32> {
-    let sizes = named(lends).ok_or(17u32)?;
-    sizes.fit(lends)?;
+pub fn checks(inputs: &Inputs, nodes: &[u16]) -> Result<Sizes, u32> {
+    let sizes = named(inputs).ok_or(17u32)?;
+    sizes.fit(inputs)?;
     if nodes.len() > MAX_CHANGES {
         return Err(12);
     }
     let below = nodes.iter().all(|&v| (v as usize) < sizes.n);
     let different = nodes.iter().enumerate().all(|(i, v)| !nodes[..i].contains(v));
-    if made(Mistake::TwiceBeforeNodes) && !different {
-        return Err(15);
-    }
     if !below {
         return Err(13);
     }
@@ -55,7 +51,7 @@ pub fn checks(lends: &Lends, nodes: &[u16]) -> Result<Sizes, u32> {
         return Err(15);
     }
     let all = (0..nodes.len()).try_fold(1u64, |all, _| all.checked_mul(sizes.k as u64));
-    let few = |all: u64| unless(Mistake::LimitRefused, all <= MOST_ASSIGNMENTS, all < MOST_ASSIGNMENTS);
+    let few = |all: u64| all <= MOST_ASSIGNMENTS;
     if !all.map_or(false, few) {
         return Err(26);
     }
@@ -63,29 +59,29 @@ pub fn checks(lends: &Lends, nodes: &[u16]) -> Result<Sizes, u32> {
 }
 
 /// "N, S and K from the lent headers: 17, also for a header cut short or a number outside its limits".
-pub fn named(lends: &Lends) -> Option<Sizes> {
-    if lends.plan.len() < 12 || lends.rules.len() < 20 {
+pub fn named(inputs: &Inputs) -> Option<Sizes> {
+    if inputs.plan.len() < 12 || inputs.rules.len() < 20 {
         return None;
     }
-    let (n, s, k) = (number(lends.plan, 0), number(lends.rules, 0), number(lends.rules, 4));
+    let (n, s, k) = (number(inputs.plan, 0), number(inputs.rules, 0), number(inputs.rules, 4));
     let fit = (1..=MAX_NODES).contains(&n) && (1..=MAX_STATES).contains(&s) && (1..=MAX_LABELS).contains(&k);
     Some(Sizes { n: n as usize, s: s as usize, k: k as usize }).filter(|_| fit)
 }
 
-/// What the documents say of a call with these lends.
-pub fn count(lends: &Lends, nodes: &[u16]) -> Said {
-    let sizes = match checks(lends, nodes) {
+/// What the documents say of a call with these inputs.
+pub fn count(inputs: &Inputs, nodes: &[u16]) -> Said {
+    let sizes = match checks(inputs, nodes) {
         Err(number) => return Said::Refused(number),
         Ok(sizes) => sizes,
     };
-    let (plan, rules) = match (read_plan(lends.plan), read_rules(lends.rules)) {
+    let (plan, rules) = match (read_plan(inputs.plan), read_rules(inputs.rules)) {
         (Ok(plan), Ok(rules)) if plan.labels_below(rules.labels).is_ok() => (plan, rules),
         _ => return Said::Left,
     };
     let tree = Tree::of(&plan);
-    let state_table = &lends.state_table[..(sizes.s + 1) * sizes.n];
+    let state_table = &inputs.state_table[..(sizes.s + 1) * sizes.n];
     let node_table = Tables::node_table(&tree);
-    if !lends.node_table.starts_with(&node_table) || state_table.iter().any(|&q| q as usize >= sizes.s) {
+    if !inputs.node_table.starts_with(&node_table) || state_table.iter().any(|&q| q as usize >= sizes.s) {
         return Said::Left;
     }
     Said::Answered(Given { tree: &tree, labels: plan.labels, rules: &rules, state_table }.by_parts(nodes))
@@ -174,7 +170,6 @@ impl Given<'_> {
     /// The counts of the part that v roots, and its links; `handled` are those of the members before it.
     fn part(&self, members: &[usize], handled: &[Vec<u64>], open: bool, v: usize) -> (Vec<u64>, usize) {
         let own = self.labels[v]..self.labels[v] + 1;
-        let open = open && !made(Mistake::OwnLabelOnly);
         let labels = if open { 0..self.rules.labels as u8 } else { own };
         let mut counts = vec![0; self.rules.states];
         let (left, right) = match self.tree.children[v] {
@@ -201,8 +196,7 @@ impl Given<'_> {
         for a in labels {
             for (p, x) in some(&at_left) {
                 for (q, y) in some(&at_right) {
-                    let ways = unless(Mistake::ForkAdded, x * y, x + y);
-                    counts[self.rules.inner(p, a, q) as usize] += ways;
+                    counts[self.rules.inner(p, a, q) as usize] += x * y;
                 }
             }
         }
@@ -228,7 +222,7 @@ impl Given<'_> {
         let carry = |q: u8| moves.iter().fold(q, |q, &one| self.moved(one, q));
         let mut counts = vec![0; self.rules.states];
         for (q, x) in some(from) {
-            counts[unless(Mistake::CountsNotCarried, carry(q), q) as usize] += x;
+            counts[carry(q) as usize] += x;
         }
         (counts, moves.len())
     }

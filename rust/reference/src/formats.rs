@@ -1,7 +1,5 @@
 //! Plans, rule tables and branch tables as bytes, and the checks 2 to 10 on them, in document 01's order.
 
-use crate::mistakes::{unless, Mistake};
-
 pub const MAX_NODES: u32 = 65_535;
 pub const MAX_STATES: u32 = 16;
 pub const MAX_LABELS: u32 = 64;
@@ -31,8 +29,7 @@ pub struct Branch<'a> {
 
 /// The 32-bit little-endian number at a place.
 pub fn number(bytes: &[u8], at: usize) -> u32 {
-    let number = u32::from_le_bytes([bytes[at], bytes[at + 1], bytes[at + 2], bytes[at + 3]]);
-    unless(Mistake::NumbersCut, number, number & 0xffff)
+    u32::from_le_bytes([bytes[at], bytes[at + 1], bytes[at + 2], bytes[at + 3]])
 }
 
 /// 2 to 5.
@@ -144,7 +141,6 @@ impl Rules<'_> {
 
     /// "the state for left p, label a, right q at (p×K+a)×S+q"
     pub fn inner(&self, p: u8, a: u8, q: u8) -> u8 {
-        let (p, q) = unless(Mistake::ChildrenExchanged, (p, q), (q, p));
         self.inner[(p as usize * self.labels + a as usize) * self.states + q as usize]
     }
 

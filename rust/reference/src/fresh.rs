@@ -1,7 +1,6 @@
 //! The fresh run: "a fresh run without tables (it tells state, yes or no)". Checks 2 to 10, then 12 to 14.
 
 use crate::formats::{read_plan, read_rules};
-use crate::mistakes::{made, Mistake};
 use crate::tables::run;
 
 pub const MAX_CHANGES: usize = 64;
@@ -25,10 +24,8 @@ pub fn fresh_run(plan: &[u8], rules: &[u8], nodes: &[u16], labels: &[u8]) -> Res
 /// The plan's labels with the listed ones changed; of two entries for a node the last holds.
 pub fn changed(labels: &[u8], nodes: &[u16], new: &[u8]) -> Vec<u8> {
     let mut changed = labels.to_vec();
-    for (i, (&v, &a)) in nodes.iter().zip(new).enumerate() {
-        if !(made(Mistake::FirstTapHolds) && nodes[..i].contains(&v)) {
-            changed[v as usize] = a;
-        }
+    for (&v, &a) in nodes.iter().zip(new) {
+        changed[v as usize] = a;
     }
     changed
 }
@@ -39,14 +36,10 @@ pub fn check_list(nodes: &[u16], labels: &[u8], n: usize, k: usize) -> Result<()
     if nodes.len() != labels.len() || nodes.len() > MAX_CHANGES {
         return Err(12);
     }
-    let labels_fit = labels.iter().all(|&a| (a as usize) < k);
-    if made(Mistake::LabelsBeforeNodes) && !labels_fit {
-        return Err(14);
-    }
     if nodes.iter().any(|&v| v as usize >= n) {
         return Err(13);
     }
-    if !labels_fit {
+    if labels.iter().any(|&a| a as usize >= k) {
         return Err(14);
     }
     Ok(())

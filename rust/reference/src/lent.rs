@@ -1,12 +1,9 @@
-//! A question on lent tables: the roots of its parts, where they are as built; and one part, whatever they hold, or 18,
-//! where "a value read leads outside the plan, the states or the labels, or a climb doesn't rise". N, S and K are the
-//! record's; no header is read.
+//! One part of a question on lent tables, whatever they hold, or 18, where "a value read leads outside the plan, the
+//! states or the labels, or a climb doesn't rise". N, S and K are the record's; no header is read.
 
 use crate::climb::{climb, passed, Lent, Links, Move};
-use crate::mistakes::{made, unless, Mistake};
-use crate::panel::{Lends, Sizes};
+use crate::panel::{Inputs, Sizes};
 use crate::parts::Part;
-use std::collections::BTreeSet;
 
 /// What is lent, cut by N, S and K.
 pub struct View<'a> {
@@ -21,44 +18,14 @@ pub struct View<'a> {
 }
 
 impl<'a> View<'a> {
-    /// Of lends that fit.
-    pub fn new(sizes: Sizes, lends: &Lends<'a>) -> View<'a> {
+    /// Of inputs that fit.
+    pub fn new(sizes: Sizes, inputs: &Inputs<'a>) -> View<'a> {
         let Sizes { n, s, k } = sizes;
-        let (labels, kinds) = lends.plan[12..].split_at(n);
-        let (leaf, rest) = lends.rules[20..].split_at(k);
+        let (labels, kinds) = inputs.plan[12..].split_at(n);
+        let (leaf, rest) = inputs.rules[20..].split_at(k);
         let (inner, marks) = rest.split_at(s * k * s);
-        let tree = Lent { nodes: n, node_table: &lends.node_table[..4 * n] };
-        View { sizes, labels, kinds, leaf, inner, marks, tree, state_table: &lends.state_table[..(s + 1) * n] }
-    }
-
-    /// The listed nodes and the root; for each two neighbours of these, the root apart, the lowest node at or above the
-    /// second that has the first below it and, where that is not the second, its two children. On tables as built.
-    pub fn roots(&self, listed: &[u16]) -> Vec<usize> {
-        let root = self.sizes.n - 1;
-        let mut wanted: BTreeSet<usize> = listed.iter().map(|&v| v as usize).collect();
-        wanted.insert(root);
-        let in_order: Vec<usize> = wanted.iter().copied().collect();
-        for pair in in_order.windows(2).filter(|pair| pair[1] != root) {
-            let x = self.meet(pair[0], pair[1]);
-            if x != pair[1] {
-                let (left, right) = self.children(x).expect("as built");
-                wanted.insert(x);
-                if !made(Mistake::ChildrenLeftOut) {
-                    wanted.extend([left, right]);
-                }
-            }
-        }
-        wanted.into_iter().collect()
-    }
-
-    /// From v up, by the jump unless that has u below it, else to the parent, until a node has u below it.
-    fn meet(&self, u: usize, v: usize) -> usize {
-        let mut x = v;
-        while !self.is_below(u, x) {
-            let jump = self.tree.jump(x);
-            x = if self.is_below(u, jump) { self.tree.parent(x) } else { jump };
-        }
-        x
+        let tree = Lent { nodes: n, node_table: &inputs.node_table[..4 * n] };
+        View { sizes, labels, kinds, leaf, inner, marks, tree, state_table: &inputs.state_table[..(s + 1) * n] }
     }
 
     /// By the lent size of c.
@@ -85,8 +52,6 @@ impl<'a> View<'a> {
         let depth = self.tree.depth(v) + 1;
         let unmoved = |state: u8| Part { state, links: 0, passed: 0 };
         let (l, r) = match (last_below(left), last_below(right)) {
-            (Some(w), None) | (None, Some(w)) if made(Mistake::ClimbToTheRoot) => return self.climbed(w, depth - 1),
-            (Some(f), Some(_)) if made(Mistake::SiblingFromOldRun) => (unmoved(f.1), unmoved(self.run(right)?)),
             (None, None) => (unmoved(self.run(left)?), unmoved(self.run(right)?)),
             (Some(f), None) => (self.climbed(f, depth)?, unmoved(self.run(right)?)),
             (None, Some(g)) => (unmoved(self.run(left)?), self.climbed(g, depth)?),
@@ -98,9 +63,8 @@ impl<'a> View<'a> {
 
     /// "v's own label, as changed": the last entry of a node holds.
     fn own_label(&self, nodes: &[u16], labels: &[u8], v: usize) -> u8 {
-        let entries: Vec<u8> = nodes.iter().zip(labels).filter(|(&w, _)| w as usize == v).map(|(_, &a)| a).collect();
-        let entry = unless(Mistake::FirstEntryHolds, entries.last(), entries.first());
-        unless(Mistake::OldLabel, entry, None).copied().unwrap_or(self.labels[v])
+        let entries = nodes.iter().zip(labels).filter(|(&w, _)| w as usize == v);
+        entries.last().map_or(self.labels[v], |(_, &a)| a)
     }
 
     /// The climb from a root and its state to a depth.
@@ -113,16 +77,13 @@ impl<'a> View<'a> {
                 Move::ToParent(v) => self.to_parent(v, q)?,
             };
         }
-        // the part's own root, above the node where the climb ends
-        let from_upper = self.tree.depth(w).saturating_sub(depth.saturating_sub(1));
-        let passed = unless(Mistake::PassedFromUpper, passed(&self.tree, w, &moves, depth), from_upper);
-        Ok(Part { state: q, links: moves.len(), passed })
+        Ok(Part { state: q, links: moves.len(), passed: passed(&self.tree, w, &moves) })
     }
 
     /// v is the right child where its parent is the next node.
     fn to_parent(&self, v: usize, q: u8) -> Result<u8, u32> {
         let p = self.tree.parent(v);
-        let a = self.labels[unless(Mistake::LabelOfTheNode, p, v)] as usize;
+        let a = self.labels[p] as usize;
         if p == v + 1 {
             let left = v.checked_sub(self.tree.size(v)).ok_or(18u32)?;
             self.rule(self.run(left)?, a, q)
@@ -134,12 +95,10 @@ impl<'a> View<'a> {
 
     /// Yes exactly where the mark is 1.
     pub fn accepts(&self, state: u8) -> bool {
-        let mark = self.marks[state as usize];
-        unless(Mistake::AnyMarkIsYes, mark == 1, mark != 0)
+        self.marks[state as usize] == 1
     }
 
     fn rule(&self, p: u8, a: usize, q: u8) -> Result<u8, u32> {
-        let (p, q) = unless(Mistake::ChildrenExchanged, (p, q), (q, p));
         let at = (p as usize * self.sizes.k + self.label(a)?) * self.sizes.s + q as usize;
         self.state(self.inner[at])
     }

@@ -6,14 +6,13 @@
 //! tables), `planner` (the bridge planner's files); `ready` (the ready set), `parts` (the
 //! rule for a part, on a tree), `count` (how many choices end in each state), `lent` (parts on lent tables, whatever they
 //! hold); `panel` (the session's calls and
-//! answers), `record` (its record as bytes), `session` (the five calls), `causes` (what 18 is given for), `book` (the
+//! answers), `record` (its record as bytes), `session` (the five calls), `causes` (what 18 is given for), `model` (the
 //! panel book), `screens` (eight of both); `colours` (document 02's colours, by the path and on lent tables), `colour_branch` (branch questions by
 //! them), `colour_rules` (questions by them, over sets of states).
-//! The calls without a session are in this file. `mistakes` is for a test of the comparison; it does nothing else.
+//! The calls without a session are in this file.
 //! A refusal is its number. Nothing here is fast, and nothing is shared with the library.
 
 pub mod agree;
-pub mod book;
 pub mod branch;
 pub mod causes;
 pub mod climb;
@@ -26,7 +25,7 @@ pub mod fresh;
 pub mod lent;
 pub mod lists;
 pub mod merge;
-pub mod mistakes;
+pub mod model;
 pub mod panel;
 pub mod parts;
 pub mod planner;

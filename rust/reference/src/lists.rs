@@ -2,7 +2,6 @@
 //! labels.
 
 use crate::fresh::MAX_CHANGES;
-use crate::mistakes::{made, Mistake};
 use std::collections::BTreeMap;
 
 /// "All nodes of both, the upper list's label where both name one, .. in rising node number", or the refusal: 12 for either
@@ -13,14 +12,12 @@ pub fn lay_over(lower: (&[u16], &[u8]), upper: (&[u16], &[u8]), room: (usize, us
             return Err(12);
         }
     }
-    let order = if made(Mistake::UpperUnderLower) { [upper, lower] } else { [lower, upper] };
     let mut laid = BTreeMap::new();
-    for (nodes, labels) in order {
+    for (nodes, labels) in [lower, upper] {
         // a later entry takes the place of an earlier one
         laid.extend(nodes.iter().copied().zip(labels.iter().copied()));
     }
-    let remain = if made(Mistake::EntriesRemain) { lower.0.len() + upper.0.len() } else { laid.len() };
-    if remain > MAX_CHANGES {
+    if laid.len() > MAX_CHANGES {
         return Err(22);
     }
     if room.0.min(room.1) < laid.len() {
@@ -34,11 +31,7 @@ pub fn lay_over(lower: (&[u16], &[u8]), upper: (&[u16], &[u8]), room: (usize, us
 pub fn differing(own: &[u8], nodes: &[u16], labels: &[u8]) -> Vec<u16> {
     let mut last = BTreeMap::new();
     for (&v, &a) in nodes.iter().zip(labels) {
-        let counts = a != own[v as usize] || !made(Mistake::EntriesCompared);
-        if counts {
-            last.insert(v, a);
-        }
+        last.insert(v, a);
     }
-    let stays = |v: u16, a: u8| a != own[v as usize] || made(Mistake::OwnLabelListed);
-    last.into_iter().filter(|&(v, a)| stays(v, a)).map(|(v, _)| v).collect()
+    last.into_iter().filter(|&(v, a)| a != own[v as usize]).map(|(v, _)| v).collect()
 }

@@ -2,7 +2,6 @@
 //! pairs, listed one by one; a pair's number is its place in the list.
 
 use crate::formats::{read_rules, MAX_STATES};
-use crate::mistakes::{made, unless, Mistake};
 use crate::write;
 
 /// A state of the first table and one of the second.
@@ -16,9 +15,6 @@ fn pairs(s1: usize, s2: usize) -> Vec<Pair> {
             all.push((p, q));
         }
     }
-    if made(Mistake::PairsExchanged) {
-        all.sort_by_key(|&(p, q)| (q, p));
-    }
     all
 }
 
@@ -28,15 +24,11 @@ pub fn merge(first: &[u8], second: &[u8], output_len: usize) -> Result<Vec<u8>, 
     let a = read_rules(first)?;
     let b = read_rules(second)?;
     let pairs = pairs(a.states, b.states);
-    let same_labels = a.labels == b.labels;
-    if !same_labels && !made(Mistake::ProductBeforeLabels) {
+    if a.labels != b.labels {
         return Err(23);
     }
     if pairs.len() > MAX_STATES as usize {
         return Err(24);
-    }
-    if !same_labels {
-        return Err(23);
     }
     let number = |pair: Pair| pairs.iter().position(|&other| other == pair).expect("a pair of states") as u8;
     let labels = || 0..a.labels as u8;
@@ -49,11 +41,7 @@ pub fn merge(first: &[u8], second: &[u8], output_len: usize) -> Result<Vec<u8>, 
             }
         }
     }
-    let both = |&(p, q): &Pair| {
-        let marked = (a.accepts(p), b.accepts(q));
-        unless(Mistake::EitherMark, marked.0 && marked.1, marked.0 || marked.1) as u8
-    };
-    let marks: Vec<u8> = pairs.iter().map(both).collect();
+    let marks: Vec<u8> = pairs.iter().map(|&(p, q)| (a.accepts(p) && b.accepts(q)) as u8).collect();
     let merged = write::rules(pairs.len(), a.labels, &leaf, &inner, &marks);
     if output_len < merged.len() {
         return Err(11);

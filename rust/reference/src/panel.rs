@@ -2,7 +2,7 @@
 
 /// Plan, rule table, node table and state table.
 #[derive(Clone, Copy)]
-pub struct Lends<'a> {
+pub struct Inputs<'a> {
     pub plan: &'a [u8],
     pub rules: &'a [u8],
     pub node_table: &'a [u16],
@@ -11,10 +11,10 @@ pub struct Lends<'a> {
 
 #[derive(Clone, Copy)]
 pub enum Call<'a> {
-    Load(Lends<'a>),
+    Load(Inputs<'a>),
     /// With the listed nodes and their labels.
-    Start(Lends<'a>, &'a [u16], &'a [u8]),
-    Advance(Lends<'a>),
+    Start(Inputs<'a>, &'a [u16], &'a [u8]),
+    Advance(Inputs<'a>),
     Cancel,
     Read,
 }
@@ -26,12 +26,12 @@ pub enum Answer {
     Parts(u32),
     More,
     Finished,
-    Told(Told),
+    Outcome(Outcome),
 }
 
 /// "state, yes or no, parts, links", and the nodes passed over (document 02, S-7), last
 #[derive(Clone, Copy, Debug, PartialEq, Eq)]
-pub struct Told {
+pub struct Outcome {
     pub state: u32,
     pub yes: bool,
     pub parts: u32,
@@ -61,10 +61,10 @@ impl Sizes {
     pub const NONE: Sizes = Sizes { n: 0, s: 0, k: 0 };
 
     /// "lent plan, rules and tables at least as long as N, S and K need, plan and rules exactly?"
-    pub fn fit(&self, lends: &Lends) -> Result<(), u32> {
+    pub fn fit(&self, inputs: &Inputs) -> Result<(), u32> {
         let Sizes { n, s, k } = *self;
-        let exact = lends.plan.len() == 12 + 2 * n && lends.rules.len() == 20 + k + s * k * s + s;
-        if exact && lends.node_table.len() >= 4 * n && lends.state_table.len() >= (s + 1) * n {
+        let exact = inputs.plan.len() == 12 + 2 * n && inputs.rules.len() == 20 + k + s * k * s + s;
+        if exact && inputs.node_table.len() >= 4 * n && inputs.state_table.len() >= (s + 1) * n {
             Ok(())
         } else {
             Err(17)

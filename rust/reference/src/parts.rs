@@ -3,7 +3,6 @@
 
 use crate::climb::{climb, Move};
 use crate::formats::Rules;
-use crate::mistakes::{made, unless, Mistake};
 use crate::tree::Tree;
 
 /// What the rule reads: `labels` are the plan's, `changed` those with the changes.
@@ -41,7 +40,7 @@ impl Given<'_> {
 
     /// The part that v roots; `handled` are the parts of the members before it.
     pub fn part(&self, members: &[usize], handled: &[Part], v: usize) -> Part {
-        let a = unless(Mistake::OldLabel, self.changed[v], self.labels[v]);
+        let a = self.changed[v];
         let (left, right) = match self.tree.children[v] {
             None => return Part { state: self.rules.leaf(a), links: 0, passed: 0 },
             Some(children) => children,
@@ -49,12 +48,6 @@ impl Given<'_> {
         let unmoved = |state: u8| Part { state, links: 0, passed: 0 };
         let (l, r) = match (self.highest(members, left), self.highest(members, right)) {
             (None, None) => (unmoved(self.run(left)), unmoved(self.run(right))),
-            (Some(w), None) | (None, Some(w)) if made(Mistake::ClimbToTheRoot) => {
-                return self.climbed(w, state(members, handled, w), self.tree.depth[v]);
-            }
-            (Some(_), Some(_)) if made(Mistake::SiblingFromOldRun) => {
-                (unmoved(state(members, handled, left)), unmoved(self.run(right)))
-            }
             // "With members below both children it takes theirs": both children are members
             (Some(_), Some(_)) => (unmoved(state(members, handled, left)), unmoved(state(members, handled, right))),
             (Some(w), None) => {
@@ -88,7 +81,7 @@ impl Given<'_> {
                 Move::ToParent(v) => {
                     let p = self.tree.parent[v];
                     let (left, right) = self.tree.children[p].expect("a parent is an inner node");
-                    let a = self.labels[unless(Mistake::LabelOfTheNode, p, v)];
+                    let a = self.labels[p];
                     if v == left {
                         self.rules.inner(q, a, self.run(right))
                     } else {

@@ -2,7 +2,6 @@
 //! A planner's tree is kept as lists of children; ours is its image, one inner node for each of its nodes.
 
 use crate::formats::{number, read_plan, Plan};
-use crate::mistakes::{made, unless, Mistake};
 use crate::tree::Tree;
 use crate::write;
 
@@ -76,19 +75,18 @@ fn image(planned: &Planned) -> Out {
     while let Some(task) = tasks.pop() {
         match task {
             Task::List([]) => {
-                labels.push(unless(Mistake::EmptyLabel, EMPTY, 0));
+                labels.push(EMPTY);
                 kinds.push(0);
             }
             Task::List(list) => {
                 let (first, rest) = (list[0], &list[1..]);
                 let (left, right) = (Task::List(&planned.children[first]), Task::List(rest));
-                let (left, right) = if made(Mistake::ListsExchanged) { (right, left) } else { (left, right) };
                 tasks.push(Task::Node(first));
                 tasks.push(right);
                 tasks.push(left);
             }
             Task::Node(v) => {
-                places[v] = unless(Mistake::PlacesEarly, labels.len(), labels.len() - 1) as u16;
+                places[v] = labels.len() as u16;
                 labels.push(planned.labels[v]);
                 kinds.push(1);
             }
@@ -103,9 +101,6 @@ pub fn out(file: &[u8], plan_len: usize, places_len: usize) -> Result<Out, u32> 
     let planned = read_file(file)?;
     let n = planned.labels.len();
     let room = n <= MAX_NODES && plan_len >= 12 + 2 * (2 * n + 1) && places_len >= n;
-    if !room && made(Mistake::RoomBeforeLabels) {
-        return Err(21);
-    }
     if planned.labels.iter().any(|&label| label >= EMPTY) {
         return Err(20);
     }
@@ -134,7 +129,7 @@ fn file_of(plan: &Plan) -> Option<Vec<u8>> {
     let tree = Tree::of(plan);
     let (mut labels, mut counts) = (Vec::new(), Vec::new());
     let top = siblings(&tree, tree.root());
-    if top.len() != 1 && !(made(Mistake::TwoTrees) && top.len() == 2) {
+    if top.len() != 1 {
         return None;
     }
     // nodes of our plan still to be written, the next one last

@@ -27,8 +27,7 @@
 
 use crate::formats::{MAX_LABELS, MAX_STATES};
 use crate::fresh::MAX_CHANGES;
-use crate::mistakes::{made, Mistake};
-use crate::panel::{Phase, Sizes, Told};
+use crate::panel::{Outcome, Phase, Sizes};
 
 pub const RECORD_BYTES: usize = 983;
 /// 4 × 64 - 2.
@@ -46,7 +45,7 @@ pub struct Record {
     pub roots: Vec<u16>,
     pub states: Vec<u8>,
     /// The last finished answer.
-    pub last: Option<Told>,
+    pub last: Option<Outcome>,
 }
 
 impl Record {
@@ -60,7 +59,7 @@ impl Record {
     }
 
     /// "Loaded after Cancel .. equals it in all but that answer".
-    pub fn loaded_with(sizes: Sizes, last: Option<Told>) -> Record {
+    pub fn loaded_with(sizes: Sizes, last: Option<Outcome>) -> Record {
         Record { last, ..Record::loaded(sizes) }
     }
 
@@ -70,10 +69,10 @@ impl Record {
     }
 
     /// What the record of an answered question has of its answer.
-    pub fn answer(&self) -> Option<Told> {
+    pub fn answer(&self) -> Option<Outcome> {
         let state = *self.states.last()? as u32;
         let parts = self.roots.len() as u32;
-        Some(Told { state, yes: self.yes, parts, links: self.links, passed: self.passed })
+        Some(Outcome { state, yes: self.yes, parts, links: self.links, passed: self.passed })
     }
 
     pub fn bytes(&self) -> Vec<u8> {
@@ -124,7 +123,7 @@ impl Record {
             last: last_of(bytes),
         };
         // bytes that no record has: entries in use no more, a yes of 2, values of an answer that is not there
-        if (record.bytes() == bytes || made(Mistake::TailsFree)) && record.holds() {
+        if record.bytes() == bytes && record.holds() {
             Some(record)
         } else {
             None
@@ -142,8 +141,7 @@ impl Record {
                 self.question_holds() && self.last_holds() && self.states.len() < self.roots.len() && !self.yes
             }
             Phase::Answered => {
-                let own = self.last == self.answer() || made(Mistake::LastFree) && self.last_holds();
-                self.question_holds() && self.states.len() == self.roots.len() && own
+                self.question_holds() && self.states.len() == self.roots.len() && self.last == self.answer()
             }
         }
     }
@@ -175,22 +173,22 @@ impl Record {
     }
 }
 
-fn last_bytes(last: &Told) -> [u8; 8] {
+fn last_bytes(last: &Outcome) -> [u8; 8] {
     let [a, b, c, d] = last.links.to_le_bytes();
     [1, last.state as u8, last.yes as u8, last.parts as u8, a, b, c, d]
 }
 
 /// Any bytes but a 0 at first are taken for an answer: `bytes` then tells whether they are one.
-fn last_of(bytes: &[u8]) -> Option<Told> {
+fn last_of(bytes: &[u8]) -> Option<Outcome> {
     let [there, state, yes, parts] = [967, 968, 969, 970].map(|at| bytes[at]);
     let (links, passed) = (double(bytes, 971), double(bytes, 979));
-    let told = Told { state: state as u32, yes: yes == 1, parts: parts as u32, links, passed };
+    let told = Outcome { state: state as u32, yes: yes == 1, parts: parts as u32, links, passed };
     Some(told).filter(|_| there != 0)
 }
 
 /// Each move passes over a node at least, and each climb over 65,535 at most: "links ≤ passed ≤ 65,535 for each part".
 fn counts_hold(links: u32, passed: u32, parts: usize) -> bool {
-    (links <= passed || made(Mistake::PassedFree)) && passed as usize <= 65_535 * parts
+    links <= passed && passed as usize <= 65_535 * parts
 }
 
 fn double(bytes: &[u8], at: usize) -> u32 {

@@ -1,6 +1,6 @@
 //! Document 01's sample clearance.
 
-use crate::panel::Told;
+use crate::panel::Outcome;
 use crate::write;
 
 /// "Plan A: N 7, labels 1 1 1 0 1 0 1, kinds 0 0 1 0 0 1 1 (26 bytes)."
@@ -22,7 +22,7 @@ pub fn plan_with_a_gap() -> Vec<u8> {
 pub struct Row {
     pub nodes: &'static [u16],
     pub labels: &'static [u8],
-    pub told: Result<Told, u32>,
+    pub told: Result<Outcome, u32>,
 }
 
 /// "For the questions (none); 0→0; 0→0 2→0; 0→0 3→1; 4→0; 6→0; 7→0; 0→2; 0→0 0→1 it prints": state, yes or no, parts,
@@ -39,12 +39,12 @@ pub const ROWS: [Row; 9] = [
     row(&[0, 0], &[0, 1], told(1, true, 1, 0, 0)),
 ];
 
-const fn row(nodes: &'static [u16], labels: &'static [u8], told: Result<Told, u32>) -> Row {
+const fn row(nodes: &'static [u16], labels: &'static [u8], told: Result<Outcome, u32>) -> Row {
     Row { nodes, labels, told }
 }
 
-const fn told(state: u32, yes: bool, parts: u32, links: u32, passed: u32) -> Result<Told, u32> {
-    Ok(Told { state, yes, parts, links, passed })
+const fn told(state: u32, yes: bool, parts: u32, links: u32, passed: u32) -> Result<Outcome, u32> {
+    Ok(Outcome { state, yes, parts, links, passed })
 }
 
 impl Row {

@@ -1,10 +1,9 @@
-//! Eight screens on one mill (document 02, S-8): the five calls on a run of eight records, and eight panel books beside
+//! Eight screens on one mill (document 02, S-8): the five calls on a run of eight records, and eight reference models beside
 //! it. Each is eight of what a single session has, and what the document says of who is meant, who is served and which
 //! number is told.
 
-use crate::book::{self, Book};
-use crate::mistakes::{made, unless, Mistake};
-use crate::panel::{Answer, Call, Lends, Phase};
+use crate::model::{self, Reference};
+use crate::panel::{Answer, Call, Inputs, Phase};
 use crate::record::{Record, RECORD_BYTES};
 use crate::session;
 use crate::tables::Tables;
@@ -18,11 +17,11 @@ pub const RUN_BYTES: usize = SCREENS * RECORD_BYTES;
 /// "Start, Cancel and Read name a screen." A deal is handed the screen to try first.
 #[derive(Clone, Copy)]
 pub enum ScreenCall<'a> {
-    Load(Lends<'a>),
-    Start(u32, Lends<'a>, &'a [u16], &'a [u8]),
+    Load(Inputs<'a>),
+    Start(u32, Inputs<'a>, &'a [u16], &'a [u8]),
     Cancel(u32),
     Read(u32),
-    Deal(u32, Lends<'a>),
+    Deal(u32, Inputs<'a>),
 }
 
 #[derive(Clone, Copy, Debug, PartialEq, Eq)]
@@ -75,66 +74,42 @@ pub fn whose(
     busy: impl Fn(usize) -> bool,
     runs: impl Fn(usize) -> bool,
 ) -> Whose {
-    let screen = |number: u32| unless(Mistake::ScreenCut, number as usize, number as u8 as usize);
     let named = match *call {
         ScreenCall::Load(_) => 0,
-        ScreenCall::Start(number, ..) | ScreenCall::Cancel(number) | ScreenCall::Read(number) => screen(number),
-        ScreenCall::Deal(number, _) => screen(number),
+        ScreenCall::Start(number, ..) | ScreenCall::Cancel(number) | ScreenCall::Read(number) => number as usize,
+        ScreenCall::Deal(number, _) => number as usize,
     };
-    let wrong = !right_length || named >= SCREENS;
-    let late = made(Mistake::StateBeforeScreen);
-    if wrong && !late {
+    if !right_length || named >= SCREENS {
         return Whose::Nobody(25);
     }
-    let whose = match *call {
+    match *call {
         ScreenCall::Load(_) if (0..SCREENS).any(busy) => Whose::Nobody(1),
         ScreenCall::Load(_) => Whose::All,
-        ScreenCall::Deal(..) => {
-            let from = unless(Mistake::ServedFromZero, named, 0);
-            next(from, runs).map_or(Whose::Nobody(1), Whose::Turn)
-        }
+        ScreenCall::Deal(..) => next(named, runs).map_or(Whose::Nobody(1), Whose::Turn),
         _ => Whose::Screen(named),
-    };
-    match whose {
-        Whose::Nobody(_) => whose,
-        _ if wrong => Whose::Nobody(25),
-        _ => whose,
     }
 }
 
 /// "the next running screen .., going from 7 back to 0", the one to try first included
 fn next(first: usize, runs: impl Fn(usize) -> bool) -> Option<usize> {
-    (first..SCREENS).chain(0..first.min(SCREENS)).find(|&i| runs(i))
+    (first..SCREENS).chain(0..first).find(|&i| runs(i))
 }
 
 /// "one past the screen served, 0 past 7"
 fn after(served: usize) -> u32 {
-    let past = (served as u32 + 1) % unless(Mistake::EightToldPastSeven, 8, 9);
-    unless(Mistake::ServedTold, past, served as u32)
+    (served as u32 + 1) % 8
 }
 
 /// A call on the run's bytes.
 pub fn call(run: &[u8], call: &ScreenCall) -> Done {
-    let right_length = run.len() == RUN_BYTES || run.len() == RUN_BYTES + 1 && made(Mistake::LongerRun);
     let record = |i: usize| run.get(RECORD_BYTES * i..RECORD_BYTES * (i + 1)).unwrap_or(&[]);
     let is_running = |i: usize| record(i).first() == Some(&2);
     let whole = |i: usize| Record::of(record(i)).is_some();
     let busy = |i: usize| is_running(i) || !whole(i);
-    let runs = |i: usize| is_running(i) && (whole(i) || !made(Mistake::BrokenPassedOver));
-    let answer = |whose| match whose {
+    match whose(call, run.len() == RUN_BYTES, busy, is_running) {
         Whose::Nobody(number) => refused(run, number),
         Whose::All => load_all(run, call),
         Whose::Screen(i) | Whose::Turn(i) => on_screen(run, i, record(i), call),
-    };
-    let whose = whose(call, right_length, busy, runs);
-    let broken = (0..SCREENS).any(|i| !whole(i));
-    match (whose, answer(whose)) {
-        (Whose::Turn(_), _) if broken && made(Mistake::DealAsksAll) => refused(run, 1),
-        // a deal refused with 17 or 18 goes on to the next screen
-        (Whose::Turn(i), done) if done.answer.number().is_none() && made(Mistake::RefusedGoesOn) => {
-            next(i + 1, runs).map_or(done, |other| on_screen(run, other, record(other), call))
-        }
-        (_, done) => done,
     }
 }
 
@@ -144,26 +119,15 @@ fn refused(run: &[u8], number: u32) -> Done {
 
 /// "Load .. clears them all", each as a first Load leaves a session.
 fn load_all(run: &[u8], call: &ScreenCall) -> Done {
-    let lends = match *call {
-        ScreenCall::Load(lends) => lends,
+    let inputs = match *call {
+        ScreenCall::Load(inputs) => inputs,
         _ => unreachable!("a Load is for all"),
     };
-    let one = session::call(&Record::fresh().bytes(), &Call::Load(lends));
+    let one = session::call(&Record::fresh().bytes(), &Call::Load(inputs));
     if let Answer::Refused(number) = one.answer {
         return refused(run, number);
     }
-    let mut all = one.record.repeat(SCREENS);
-    all.extend(&run[RUN_BYTES..]);
-    if made(Mistake::OneCleared) {
-        all[RECORD_BYTES..].copy_from_slice(&run[RECORD_BYTES..]);
-    }
-    if made(Mistake::AnswersStay) {
-        for (now, was) in all.chunks_exact_mut(RECORD_BYTES).zip(run.chunks_exact(RECORD_BYTES)) {
-            now[967..975].copy_from_slice(&was[967..975]);
-            now[979..983].copy_from_slice(&was[979..983]);
-        }
-    }
-    Done { answer: ScreenAnswer::Loaded(0), run: all, tables: one.tables }
+    Done { answer: ScreenAnswer::Loaded(0), run: one.record.repeat(SCREENS), tables: one.tables }
 }
 
 /// The call of a single session on the record of a screen; the others stay.
@@ -171,11 +135,6 @@ fn on_screen(run: &[u8], i: usize, record: &[u8], call: &ScreenCall) -> Done {
     let one = session::call(record, &alone(call));
     let mut run = run.to_vec();
     run[RECORD_BYTES * i..RECORD_BYTES * (i + 1)].copy_from_slice(&one.record);
-    let refused = matches!(one.answer, Answer::Refused(_));
-    if made(Mistake::NextOneWritten) && !refused && !matches!(call, ScreenCall::Read(_)) {
-        let other = (i + 1) % SCREENS;
-        run.copy_within(RECORD_BYTES * i..RECORD_BYTES * (i + 1), RECORD_BYTES * other);
-    }
     Done { answer: told(call, i, one.answer), run, tables: None }
 }
 
@@ -190,43 +149,43 @@ fn told(call: &ScreenCall, served: usize, answer: Answer) -> ScreenAnswer {
 /// The call as a single session has it: "its own calls and its turns as advances".
 pub fn alone<'a>(call: &ScreenCall<'a>) -> Call<'a> {
     match *call {
-        ScreenCall::Load(lends) => Call::Load(lends),
-        ScreenCall::Start(_, lends, nodes, labels) => Call::Start(lends, nodes, labels),
+        ScreenCall::Load(inputs) => Call::Load(inputs),
+        ScreenCall::Start(_, inputs, nodes, labels) => Call::Start(inputs, nodes, labels),
         ScreenCall::Cancel(_) => Call::Cancel,
         ScreenCall::Read(_) => Call::Read,
-        ScreenCall::Deal(_, lends) => Call::Advance(lends),
+        ScreenCall::Deal(_, inputs) => Call::Advance(inputs),
     }
 }
 
 /// "Each screen has a panel book of its own, fed with the accepted Loads, its own calls and its turns as advances."
 /// They are fed the calls and what is lent, never the run.
 #[derive(Clone)]
-pub struct Books {
+pub struct References {
     /// Eight.
-    books: Vec<Book>,
+    models: Vec<Reference>,
 }
 
-impl Default for Books {
-    fn default() -> Books {
-        Books { books: vec![Book::default(); SCREENS] }
+impl Default for References {
+    fn default() -> References {
+        References { models: vec![Reference::default(); SCREENS] }
     }
 }
 
-/// The books' reply to a call.
-pub enum Next {
-    /// The answer, and the books then.
-    Settled(ScreenAnswer, Books),
-    /// Left to the program: the books after its answer; none where that answer is not allowed.
-    Left(Box<dyn Fn(ScreenAnswer) -> Option<Books>>),
+/// The reference models' reply to a call.
+pub enum Reply {
+    /// The answer, and the reference models then.
+    Settled(ScreenAnswer, References),
+    /// Left to the program: the reference models after its answer; none where that answer is not allowed.
+    Unsettled(Box<dyn Fn(ScreenAnswer) -> Option<References>>),
 }
 
-impl Books {
-    pub fn of(&self, screen: usize) -> &Book {
-        &self.books[screen]
+impl References {
+    pub fn of(&self, screen: usize) -> &Reference {
+        &self.models[screen]
     }
 
     pub fn runs(&self, screen: usize) -> bool {
-        self.books[screen].phase() == Phase::Running
+        self.models[screen].phase() == Phase::Running
     }
 
     /// Whose a call on a run of the right length is.
@@ -234,47 +193,47 @@ impl Books {
         whose(call, true, |i| self.runs(i), |i| self.runs(i))
     }
 
-    pub fn next(&self, call: &ScreenCall) -> Next {
+    pub fn reply(&self, call: &ScreenCall) -> Reply {
         match self.whose(call) {
-            Whose::Nobody(number) => Next::Settled(ScreenAnswer::refused(number), self.clone()),
+            Whose::Nobody(number) => Reply::Settled(ScreenAnswer::refused(number), self.clone()),
             Whose::All => self.load(call),
             Whose::Screen(i) | Whose::Turn(i) => self.on_screen(i, call),
         }
     }
 
-    /// "the accepted Loads": each book takes it; a refused one is nobody's.
-    fn load(&self, call: &ScreenCall) -> Next {
+    /// "the accepted Loads": each model takes it; a refused one is nobody's.
+    fn load(&self, call: &ScreenCall) -> Reply {
         let mut after = self.clone();
-        for at in &mut after.books {
-            match at.next(&alone(call)) {
-                book::Next::Settled(Answer::Accepted, book) => *at = book,
-                book::Next::Settled(answer, _) => return Next::Settled(ScreenAnswer::One(answer), self.clone()),
-                book::Next::Left(_) => unreachable!("a Load is settled"),
+        for at in &mut after.models {
+            match at.reply(&alone(call)) {
+                model::Reply::Settled(Answer::Accepted, model) => *at = model,
+                model::Reply::Settled(answer, _) => return Reply::Settled(ScreenAnswer::One(answer), self.clone()),
+                model::Reply::Unsettled(_) => unreachable!("a Load is settled"),
             }
         }
-        Next::Settled(ScreenAnswer::Loaded(0), after)
+        Reply::Settled(ScreenAnswer::Loaded(0), after)
     }
 
-    fn on_screen(&self, i: usize, call: &ScreenCall) -> Next {
-        match self.books[i].next(&alone(call)) {
-            book::Next::Settled(answer, book) => Next::Settled(told(call, i, answer), self.with(i, book)),
-            book::Next::Left(after) => {
+    fn on_screen(&self, i: usize, call: &ScreenCall) -> Reply {
+        match self.models[i].reply(&alone(call)) {
+            model::Reply::Settled(answer, model) => Reply::Settled(told(call, i, answer), self.with(i, model)),
+            model::Reply::Unsettled(after) => {
                 let (as_is, is_deal) = (Rc::new(self.clone()), matches!(call, ScreenCall::Deal(..)));
-                Next::Left(Box::new(move |answer| {
+                Reply::Unsettled(Box::new(move |answer| {
                     let one = match answer {
                         ScreenAnswer::Dealt(number, answer) if is_deal && number == self::after(i) => answer,
                         ScreenAnswer::One(answer) if !is_deal || matches!(answer, Answer::Refused(_)) => answer,
                         _ => return None,
                     };
-                    after(one).map(|book| as_is.with(i, book))
+                    after(one).map(|model| as_is.with(i, model))
                 }))
             }
         }
     }
 
-    fn with(&self, i: usize, book: Book) -> Books {
-        let mut books = self.clone();
-        books.books[i] = book;
-        books
+    fn with(&self, i: usize, model: Reference) -> References {
+        let mut models = self.clone();
+        models.models[i] = model;
+        models
     }
 }

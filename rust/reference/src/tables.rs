@@ -2,7 +2,6 @@
 //! and bytes, S+1 for each node (its state in the run, then its map)". Maps go by parents, one node at a time.
 
 use crate::formats::{Branch, Plan, Rules};
-use crate::mistakes::{made, unless, Mistake};
 use crate::tree::Tree;
 
 /// Both tables, exactly as long as they need to be.
@@ -20,10 +19,7 @@ impl Tables {
 
     /// Do the lent buffers start with these tables? Their excess is not looked at.
     pub fn starts(&self, node_table: &[u16], state_table: &[u8]) -> bool {
-        let looked_at = self.state_table.len() - unless(Mistake::LastByteFree, 0, 1);
-        let starts =
-            node_table.starts_with(&self.node_table) && state_table.starts_with(&self.state_table[..looked_at]);
-        unless(Mistake::ExcessCompared, starts, node_table == self.node_table && state_table == self.state_table)
+        node_table.starts_with(&self.node_table) && state_table.starts_with(&self.state_table)
     }
 }
 
@@ -118,8 +114,6 @@ pub fn labels_down(tree: &Tree, labels: &[u8], above: usize, v: usize) -> Vec<u8
         word.push(labels[node]);
         node = tree.parent[node];
     }
-    if !made(Mistake::WordsUpward) {
-        word.reverse();
-    }
+    word.reverse();
     word
 }

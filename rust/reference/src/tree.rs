@@ -1,7 +1,6 @@
 //! The tree of a plan: children, parents, depths, sizes and jumps, each by its own sentence of document 01.
 
 use crate::formats::Plan;
-use crate::mistakes::{unless, Mistake};
 
 /// Nodes are numbered in post-order from 0, so a parent's number is greater than its children's.
 pub struct Tree {
@@ -97,7 +96,7 @@ fn jumps(parent: &[usize], depth: &[usize]) -> Vec<usize> {
         let j = jump[p];
         let jj = jump[j];
         let (near, far) = (depth[p] - depth[j], depth[j] - depth[jj]);
-        jump[v] = if unless(Mistake::JumpRule, near == far, near > far) { jj } else { p };
+        jump[v] = if near == far { jj } else { p };
     }
     jump
 }

@@ -2,7 +2,7 @@
 //! them.
 
 use reference::branch::{by_word, Reading, READINGS};
-use reference::colour_branch::{build, by_path, colours, on_tables, Lends};
+use reference::colour_branch::{build, by_path, colours, on_tables, Inputs};
 use reference::formats::{read_branch, read_plan};
 use reference::sample::plan_a;
 use reference::tables::Tables;
@@ -27,7 +27,7 @@ fn the_sample() {
     assert_eq!((&colours.copies[6][..], &colours.lands[6][..]), (&[1, 0, 2][..], &[0, 0, 2][..]));
     // node 5 has label 0, which leads 1 0 2 to 2 0 2: the third colour falls and takes 1
     assert_eq!((&colours.copies[5][..], &colours.lands[5][..]), (&[2, 0, 1][..], &[0, 1, 0][..]));
-    let lends = Lends {
+    let inputs = Inputs {
         plan: &plan,
         branch: &branch,
         node_table: &built.numbers,
@@ -38,7 +38,7 @@ fn the_sample() {
         for upper in 0..8 {
             for lower in 0..8 {
                 let told = by_path(reading, &tree, &colours, &branch_of, upper, lower);
-                assert_eq!(on_tables(reading, lends, upper, lower), told);
+                assert_eq!(on_tables(reading, inputs, upper, lower), told);
                 let word = by_word(reading, &tree, &plan_of, &branch_of, upper, lower);
                 assert_eq!(told.map(|told| (told.state, told.yes)), word.map(|told| (told.state, told.yes)));
                 assert!(told.map_or(true, |told| told.drops <= 2 && told.links <= 45 * told.drops));

@@ -2,7 +2,7 @@
 
 use reference::count::{by_sums, by_trying, checks, count, Answer, Given, Said, MOST_ASSIGNMENTS};
 use reference::formats::{read_plan, read_rules};
-use reference::panel::Lends;
+use reference::panel::Inputs;
 use reference::sample::{plan_a, table_a};
 use reference::tables::rule_tables;
 use reference::tree::Tree;
@@ -31,12 +31,12 @@ fn the_three_agree_on_the_sample() {
 
 #[test]
 fn checks_in_their_order() {
-    let lends = |plan, rules, node_table, state_table| Lends { plan, rules, node_table, state_table };
+    let inputs = |plan, rules, node_table, state_table| Inputs { plan, rules, node_table, state_table };
     // ten labels, one state, 19 leaves
     let (kinds, rules) = ([vec![0; 19], vec![1; 18]].concat(), write::rules(1, 10, &[0; 10], &[0; 10], &[1]));
     let plan = write::plan(&[0; 37], &kinds);
     let tables = rule_tables(&read_plan(&plan).unwrap(), &read_rules(&rules).unwrap());
-    let lent = lends(&plan, &rules, &tables.node_table, &tables.state_table);
+    let lent = inputs(&plan, &rules, &tables.node_table, &tables.state_table);
     let nodes: Vec<u16> = (0..19).collect();
     assert!(checks(&lent, &nodes[..18]).is_ok());
     match count(&lent, &nodes[..18]) {
@@ -47,6 +47,6 @@ fn checks_in_their_order() {
     assert_eq!(checks(&lent, &[36, 0, 36]).err(), Some(15));
     assert_eq!(checks(&lent, &[37, 0, 0]).err(), Some(13));
     assert_eq!(checks(&lent, &[37; 65]).err(), Some(12));
-    let short = lends(&plan, &rules, &tables.node_table[1..], &tables.state_table);
+    let short = inputs(&plan, &rules, &tables.node_table[1..], &tables.state_table);
     assert_eq!(checks(&short, &[37; 65]).err(), Some(17));
 }

@@ -1,15 +1,15 @@
 //! The reference implementation against what document 02, S-8, says of eight screens, on document 01's sample.
 
-use reference::panel::{Answer, Lends};
+use reference::panel::{Answer, Inputs};
 use reference::sample::{plan_a, table_a};
-use reference::screens::{call, Books, Next, ScreenAnswer, ScreenCall, RUN_BYTES};
+use reference::screens::{call, References, Reply, ScreenAnswer, ScreenCall, RUN_BYTES};
 use reference::tables::Tables;
 
-/// A run, the number, and the books, which must settle every answer here.
+/// A run, the number, and the reference models, which must settle every answer here.
 struct Lab {
     run: Vec<u8>,
     first: u32,
-    books: Books,
+    models: References,
     plan: Vec<u8>,
     rules: Vec<u8>,
     tables: Tables,
@@ -19,21 +19,21 @@ impl Lab {
     fn new() -> Lab {
         let (plan, rules) = (plan_a(), table_a());
         let tables = reference::build(&plan, &rules, 28, 21).unwrap();
-        Lab { run: vec![0; RUN_BYTES], first: 5, books: Books::default(), plan, rules, tables }
+        Lab { run: vec![0; RUN_BYTES], first: 5, models: References::default(), plan, rules, tables }
     }
 
-    fn told(&mut self, make: impl Fn(Lends<'_>, &mut dyn FnMut(ScreenCall<'_>))) -> ScreenAnswer {
-        let Lab { run, first, books, plan, rules, tables } = self;
-        let lends = Lends { plan, rules, node_table: &tables.node_table, state_table: &tables.state_table };
+    fn told(&mut self, make: impl Fn(Inputs<'_>, &mut dyn FnMut(ScreenCall<'_>))) -> ScreenAnswer {
+        let Lab { run, first, models, plan, rules, tables } = self;
+        let inputs = Inputs { plan, rules, node_table: &tables.node_table, state_table: &tables.state_table };
         let mut told = ScreenAnswer::refused(0);
-        make(lends, &mut |one| {
+        make(inputs, &mut |one| {
             let done = call(run, &one);
-            match books.next(&one) {
-                Next::Settled(answer, after) => {
+            match models.reply(&one) {
+                Reply::Settled(answer, after) => {
                     assert_eq!(answer, done.answer);
-                    *books = after;
+                    *models = after;
                 }
-                Next::Left(_) => panic!("tables as built leave nothing to the program"),
+                Reply::Unsettled(_) => panic!("tables as built leave nothing to the program"),
             }
             (*run, told) = (done.run, done.answer);
         });
@@ -42,16 +42,16 @@ impl Lab {
     }
 
     fn load(&mut self) -> ScreenAnswer {
-        self.told(|lends, make| make(ScreenCall::Load(lends)))
+        self.told(|inputs, make| make(ScreenCall::Load(inputs)))
     }
 
     fn start(&mut self, screen: u32, nodes: &[u16], labels: &[u8]) -> ScreenAnswer {
-        self.told(|lends, make| make(ScreenCall::Start(screen, lends, nodes, labels)))
+        self.told(|inputs, make| make(ScreenCall::Start(screen, inputs, nodes, labels)))
     }
 
     fn deal(&mut self) -> ScreenAnswer {
         let first = self.first;
-        self.told(|lends, make| make(ScreenCall::Deal(first, lends)))
+        self.told(|inputs, make| make(ScreenCall::Deal(first, inputs)))
     }
 }
 

@@ -1,6 +1,6 @@
 //! examples/sample.txt is document 01's sample, and examples/sample.expected what is told of it.
 
-use reference::panel::{Answer, Call, Lends};
+use reference::panel::{Answer, Call, Inputs};
 use reference::record::Record;
 use reference::sample::{plan_a, table_a, ROWS};
 use reference::session::call;
@@ -33,20 +33,21 @@ fn the_text_is_the_sample() {
 fn answers(nodes: &[u16], labels: &[u8]) -> String {
     let (plan, rules) = (plan_a(), table_a());
     let tables = reference::build(&plan, &rules, 28, 21).unwrap();
-    let lends = Lends { plan: &plan, rules: &rules, node_table: &tables.node_table, state_table: &tables.state_table };
+    let inputs =
+        Inputs { plan: &plan, rules: &rules, node_table: &tables.node_table, state_table: &tables.state_table };
     let mut record = Record::fresh().bytes();
     let mut step = |next: Call| {
         let done = call(&record, &next);
         record = done.record;
         done.answer
     };
-    assert_eq!(step(Call::Load(lends)), Answer::Accepted);
-    if let Answer::Refused(number) = step(Call::Start(lends, nodes, labels)) {
+    assert_eq!(step(Call::Load(inputs)), Answer::Accepted);
+    if let Answer::Refused(number) = step(Call::Start(inputs, nodes, labels)) {
         return format!("refused {}\n", number);
     }
-    while step(Call::Advance(lends)) == Answer::More {}
+    while step(Call::Advance(inputs)) == Answer::More {}
     match step(Call::Read) {
-        Answer::Told(t) => {
+        Answer::Outcome(t) => {
             let yes = if t.yes { "yes" } else { "no" };
             format!("{} {} {} {} {}\n", t.state, yes, t.parts, t.links, t.passed)
         }

@@ -1,6 +1,6 @@
 //! Whole lists of calls, as chance has them, from fresh records: refused calls, exchanged plans, altered and restored
-//! lends, short and long buffers, broken record bytes. Every answer is held to the reference implementation on the
-//! record's bytes, and to the book, which never sees the record.
+//! inputs, short and long buffers, broken record bytes. Every answer is held to the reference implementation on the
+//! record's bytes, and to the reference model, which never sees the record.
 //!
 //! Two sessions go on by turns, over the same plans; now and then one goes back to where the other is.
 
@@ -15,7 +15,7 @@ use crate::panel::{Lent, Panel};
 use crate::random::Random;
 use crate::shapes::SHAPES;
 use crate::sides;
-use reference::book::Standing;
+use reference::model::Settlement;
 use reference::panel::{Answer, Call, Phase};
 use reference::record::Record;
 
@@ -81,7 +81,7 @@ struct World<'a> {
 impl World<'_> {
     /// A call, mostly one that the state allows.
     fn turn(&mut self, session: &mut Session, random: &mut Random) {
-        let usual = match session.panel.book.phase() {
+        let usual = match session.panel.model.phase() {
             Phase::Empty => 0,
             Phase::Loaded => *random.pick(&[1, 1, 1, 4]),
             Phase::Running => *random.pick(&[2, 2, 2, 2, 2, 2, 2, 4]),
@@ -97,11 +97,11 @@ impl World<'_> {
             }
             4 => {
                 let answer = session.panel.call(&Call::Read, random);
-                let book = &session.panel.book;
-                let standing = book.last_standing();
-                self.counts.add(format!("Read {} {:?}", name(answer), standing));
-                self.counts.add(format!("Read {} in {:?}", name(answer), book.phase()));
-                if book.phase() == Phase::Running && standing.is_some() && standing != book.standing() {
+                let model = &session.panel.model;
+                let settlement = model.last_settlement();
+                self.counts.add(format!("Read {} {:?}", name(answer), settlement));
+                self.counts.add(format!("Read {} in {:?}", name(answer), model.phase()));
+                if model.phase() == Phase::Running && settlement.is_some() && settlement != model.settlement() {
                     self.counts.add("Read beside a question that stands otherwise");
                 }
             }
@@ -147,7 +147,7 @@ impl World<'_> {
         }
         let (node_table, state_table) = (random.numbers(input.node_table_len), random.bytes(input.state_table_len));
         let lent = Lent { plan: input.plan, rules: input.table, node_table, state_table };
-        let answer = session.panel.call(&Call::Load(lent.lends()), random);
+        let answer = session.panel.call(&Call::Load(lent.inputs()), random);
         if answer == Answer::Accepted {
             // what Load wrote
             session.usual = built.clone();
@@ -168,12 +168,12 @@ impl World<'_> {
     }
 
     fn advance(&mut self, session: &mut Session, random: &mut Random) {
-        let (before, kept) = (session.panel.book.standing(), session.panel.book.last_standing());
+        let (before, kept) = (session.panel.model.settlement(), session.panel.model.last_settlement());
         let (_, lent) = self.lent(session, random);
         let answer = session.panel.advance(&lent, random);
-        let after = session.panel.book.standing();
+        let after = session.panel.model.settlement();
         self.counts.add(format!("advance {}", name(answer)));
-        if (before, answer) == (Some(Standing::Clean), Answer::Refused(18)) {
+        if (before, answer) == (Some(Settlement::Clean), Answer::Refused(18)) {
             assert_eq!(after, before);
             self.counts.add("18 in a clean question");
         }
@@ -181,10 +181,10 @@ impl World<'_> {
         if accepted && before != after {
             self.counts.add(format!("{:?} to {:?}", before.unwrap(), after.unwrap()));
         }
-        if answer == Answer::Finished && kept == Some(Standing::Clean) && after != kept {
+        if answer == Answer::Finished && kept == Some(Settlement::Clean) && after != kept {
             self.counts.add("an unclean finish replaces a clean answer");
         }
-        if accepted && session.refused && after == Some(Standing::Clean) {
+        if accepted && session.refused && after == Some(Settlement::Clean) {
             self.counts.add("18, then restored and still clean");
         }
         session.refused = answer == Answer::Refused(18);
@@ -195,9 +195,9 @@ impl World<'_> {
         let record = damaged_records::altered(&session.panel.record, random);
         let (at, lent) = self.lent(session, random);
         let (nodes, labels) = self.changes(at, random);
-        let lends = lent.lends();
-        let start = Call::Start(lends, &nodes, &labels);
-        let call = *random.pick(&[Call::Load(lends), start, Call::Advance(lends), Call::Cancel, Call::Read]);
+        let inputs = lent.inputs();
+        let start = Call::Start(inputs, &nodes, &labels);
+        let call = *random.pick(&[Call::Load(inputs), start, Call::Advance(inputs), Call::Cancel, Call::Read]);
         let done = sides::call(&record, &call, random);
         if Record::of(&record).is_some() {
             self.counts.add("altered record, still a session's");
@@ -212,7 +212,7 @@ pub fn name(answer: Answer) -> String {
     match answer {
         Answer::Refused(number) => format!("refused {}", number),
         Answer::Parts(_) => "parts".to_string(),
-        Answer::Told(_) => "told".to_string(),
+        Answer::Outcome(_) => "told".to_string(),
         other => format!("{:?}", other),
     }
 }

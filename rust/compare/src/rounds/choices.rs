@@ -49,10 +49,10 @@ pub fn as_built(case: Case, random: &mut Random, counts: &mut Counts) {
     Alteration::Excess.lay(&mut lent, &case, random);
     let len = case.s + random.below(3);
     trace::say(format!("open nodes {:?}", nodes));
-    let told = calls::count(&lent.lends(), &nodes, len, random).expect("accepted");
+    let told = calls::count(&lent.inputs(), &nodes, len, random).expect("accepted");
     by_definition(&case, &nodes, &told, counts);
     nodes.reverse();
-    assert_eq!(calls::count(&lent.lends(), &nodes, len, random), Ok(told.clone()), "the nodes in another order");
+    assert_eq!(calls::count(&lent.inputs(), &nodes, len, random), Ok(told.clone()), "the nodes in another order");
     as_a_question(case, &nodes, told.1, random, counts);
 }
 
@@ -116,7 +116,7 @@ pub fn refused(faults: &[u32], random: &mut Random, counts: &mut Counts) {
             _ => wrong_length(&mut lent, &case, random.below(WRONG_LENGTHS), random),
         }
     }
-    let answer = calls::count(&lent.lends(), &nodes, len, random).err();
+    let answer = calls::count(&lent.inputs(), &nodes, len, random).err();
     let wanted = faults.first().copied();
     assert_eq!(answer, wanted, "the count with {:?}", faults);
     counts.add(wanted.map_or("accepted".to_string(), |number| format!("refused {}", number)));
@@ -151,21 +151,21 @@ pub fn at_the_limit(k: usize, random: &mut Random, counts: &mut Counts) {
     let most = if k == 1 { 64 } else { 18 };
     let (nodes, _) = case.list(most + 1, random);
     let lent = Lent::built(&case, random);
-    let told = calls::count(&lent.lends(), &nodes[..most], case.s, random).expect("at the limit");
+    let told = calls::count(&lent.inputs(), &nodes[..most], case.s, random).expect("at the limit");
     assert_eq!(told.0.iter().sum::<u64>(), (k as u64).pow(most as u32));
-    let more = calls::count(&lent.lends(), &nodes, case.s, random).err();
+    let more = calls::count(&lent.inputs(), &nodes, case.s, random).err();
     assert_eq!(more, Some(if k == 1 { 12 } else { 26 }), "one node more");
     counts.add(format!("at the limit, {} labels", k));
 }
 
-/// Lends that are not as built: what the rule gives on bytes below S, else 18 with a cause or what plain Rust tells.
+/// Inputs that are not as built: what the rule gives on bytes below S, else 18 with a cause or what plain Rust tells.
 pub fn altered(kind: Alteration, case: Case, random: &mut Random, counts: &mut Counts) {
     let most = most_nodes(case.k);
     let m = random.between(0, most.min(12));
     let (nodes, _) = case.list(m, random);
     let mut lent = Lent::built(&case, random);
     kind.lay(&mut lent, &case, random);
-    let answer = calls::count(&lent.lends(), &nodes, case.s.max(16), random);
+    let answer = calls::count(&lent.inputs(), &nodes, case.s.max(16), random);
     if matches!(kind, Alteration::BytesBelow | Alteration::Excess) {
         let told = answer.as_ref().expect("bytes below S");
         assert_eq!(told.0.iter().sum::<u64>(), (case.k as u64).pow(nodes.len() as u32), "K to the power m");
@@ -182,7 +182,7 @@ pub fn tangled(random: &mut Random, counts: &mut Counts) {
     let (nodes, _) = case.list(random.between(1, 18), random);
     let mut lent = Lent::built(&case, random);
     damage(&mut lent.node_table, *random.pick(&[2, 10, 40]), random, |random| random.below(case.n) as u16);
-    counts.add(match calls::count(&lent.lends(), &nodes, 16, random) {
+    counts.add(match calls::count(&lent.inputs(), &nodes, 16, random) {
         Ok((told, _)) if told.contains(&MOST_ASSIGNMENTS) => "a count at the limit".to_string(),
         Ok(_) => "answered".to_string(),
         Err(number) => format!("refused {}", number),

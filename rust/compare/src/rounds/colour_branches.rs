@@ -15,7 +15,7 @@ use crate::random::Random;
 use crate::shapes::SHAPES;
 use crate::trace;
 use reference::branch::READINGS;
-use reference::colour_branch::{by_path, colours, Lends};
+use reference::colour_branch::{by_path, colours, Inputs};
 use reference::colours::Colours;
 use reference::formats::{read_branch, read_plan};
 use reference::tree::Tree;
@@ -65,8 +65,8 @@ impl Coloured {
         Coloured { built: Built::with_excess(Kind::Branch, case, random), numbers, bytes }
     }
 
-    pub fn lends(&self) -> Lends<'_> {
-        Lends {
+    pub fn inputs(&self) -> Inputs<'_> {
+        Inputs {
             plan: &self.built.case.plan,
             branch: &self.built.case.branch,
             node_table: &self.built.node_table,
@@ -96,7 +96,7 @@ impl Coloured {
     ) {
         let branch = read_branch(&self.built.case.branch).unwrap();
         for reading in READINGS {
-            let answer = colour_calls::branch(reading, self.lends(), upper, lower, random);
+            let answer = colour_calls::branch(reading, self.inputs(), upper, lower, random);
             let want = by_path(reading, tree, colours, &branch, upper, lower);
             let want = want.map(|told| [told.state as u32, told.yes as u32, told.drops as u32, told.links as u32]);
             assert_eq!(answer, want, "the path itself, {:?} from {} to {}", reading, upper, lower);
@@ -177,7 +177,7 @@ pub fn refusals(case: Case, way: usize, random: &mut Random, counts: &mut Counts
     let faulty = Faulty { good: &good, damaged: &damaged, short: &short, both: &both };
     for (lent, upper, lower, wanted, what) in faulty_pairs(faulty, root, v, out) {
         for reading in READINGS {
-            let answer = colour_calls::branch(reading, lent.lends(), upper, lower, random);
+            let answer = colour_calls::branch(reading, lent.inputs(), upper, lower, random);
             assert_eq!(answer.err().unwrap_or(0), wanted, "{}, in way {}", what, way);
         }
         counts.add(format!("answer {}: {}", wanted, what));
@@ -213,8 +213,8 @@ pub fn damaged(case: Case, random: &mut Random, counts: &mut Counts) {
         let lower = random.below(n) as u32;
         let upper = random.between(lower as usize, n - 1) as u32;
         for reading in READINGS {
-            let answer = colour_calls::branch(reading, lent.lends(), upper, lower, random);
-            let again = colour_calls::branch(reading, lent.lends(), upper, lower, random);
+            let answer = colour_calls::branch(reading, lent.inputs(), upper, lower, random);
+            let again = colour_calls::branch(reading, lent.inputs(), upper, lower, random);
             assert_eq!(answer, again, "the same again");
             counts.add(match answer {
                 Ok(_) => "damaged: answered".to_string(),

@@ -13,7 +13,7 @@ use crate::panel::Lent;
 use crate::random::Random;
 use crate::shapes::SHAPES;
 use crate::trace;
-use reference::colour_rules::{self, Lends, MOST_STATES};
+use reference::colour_rules::{self, Inputs, MOST_STATES};
 use reference::formats::{read_plan, read_rules};
 use reference::fresh::changed;
 use reference::tables::run;
@@ -70,8 +70,8 @@ impl Coloured {
         Coloured { lent, numbers, bytes }
     }
 
-    pub fn lends(&self) -> Lends<'_> {
-        Lends { tables: self.lent.lends(), numbers: &self.numbers, bytes: &self.bytes }
+    pub fn inputs(&self) -> Inputs<'_> {
+        Inputs { tables: self.lent.inputs(), numbers: &self.numbers, bytes: &self.bytes }
     }
 }
 
@@ -103,7 +103,7 @@ pub fn ask(
     counts: &mut Counts,
 ) {
     trace::say(format!("by colours, nodes {:?}, labels {:?}", nodes, labels));
-    let told = colour_calls::question(&coloured.lends(), nodes, labels, random).expect("accepted");
+    let told = colour_calls::question(&coloured.inputs(), nodes, labels, random).expect("accepted");
     let [state, yes, drops, links, parts] = told;
     let session = asked.ask(nodes, labels, random);
     assert_eq!((state, yes == 1, parts), (session.state, session.yes, session.parts), "the session's answer");
@@ -167,7 +167,7 @@ pub fn refused(faults: &[u32], random: &mut Random, counts: &mut Counts) {
             _ => lay_on_list(fault, &mut nodes, &mut labels, (case.n, case.k), random),
         }
     }
-    let answer = colour_calls::question(&lent.lends(), &nodes, &labels, random).err();
+    let answer = colour_calls::question(&lent.inputs(), &nodes, &labels, random).err();
     let wanted = faults.first().copied();
     assert_eq!(answer, wanted, "the question by colours with {:?}", faults);
     counts.add(wanted.map_or("accepted".to_string(), |number| format!("refused {}", number)));
@@ -220,8 +220,8 @@ fn told(lent: &Coloured, case: &Case, what: &str, random: &mut Random, counts: &
     for _ in 0..2 {
         let m = random.between(0, 12);
         let (nodes, labels) = case.list(m, random);
-        let answer = colour_calls::question(&lent.lends(), &nodes, &labels, random);
-        let again = colour_calls::question(&lent.lends(), &nodes, &labels, random);
+        let answer = colour_calls::question(&lent.inputs(), &nodes, &labels, random);
+        let again = colour_calls::question(&lent.inputs(), &nodes, &labels, random);
         assert_eq!(answer, again, "the same again");
         counts.add(match answer {
             Ok(_) => format!("{}: answered", what),

@@ -6,7 +6,7 @@ use crate::inputs::Case;
 use crate::panel::{Lent, Panel};
 use crate::random::Random;
 use crate::sides;
-use reference::panel::{Answer, Call, Phase, Sizes, Told};
+use reference::panel::{Answer, Call, Outcome, Phase, Sizes};
 use reference::record::{Record, MAX_PARTS, RECORD_BYTES};
 
 pub fn round(random: &mut Random, counts: &mut Counts) {
@@ -39,9 +39,9 @@ impl Beside {
     /// All five calls on a record. Whether it can be a session's; where not, all five say 1 and leave it.
     pub fn all_calls(&self, record: &[u8], random: &mut Random) -> bool {
         let valid = Record::of(record).is_some();
-        let lends = self.lent.lends();
-        let start = Call::Start(lends, &self.nodes, &self.labels);
-        for call in [Call::Load(lends), start, Call::Advance(lends), Call::Cancel, Call::Read] {
+        let inputs = self.lent.inputs();
+        let start = Call::Start(inputs, &self.nodes, &self.labels);
+        for call in [Call::Load(inputs), start, Call::Advance(inputs), Call::Cancel, Call::Read] {
             let done = sides::call(record, &call, random);
             if !valid {
                 assert_eq!(done.answer, Answer::Refused(1));
@@ -64,7 +64,7 @@ impl Beside {
     pub fn records(&self, random: &mut Random) -> Vec<Vec<u8>> {
         let mut panel = Panel::default();
         let mut records = vec![panel.record.clone()];
-        panel.call(&Call::Load(self.lent.lends()), random);
+        panel.call(&Call::Load(self.lent.inputs()), random);
         records.push(panel.record.clone());
         panel.start(&self.lent, &self.nodes, &self.labels, random);
         records.push(panel.record.clone());
@@ -129,7 +129,8 @@ pub fn made_up(case: &Case, random: &mut Random) -> Record {
     let handled = if phase == Phase::Running { random.below(roots.len()) } else { roots.len() };
     let parts = random.between(1, MAX_PARTS) as u32;
     let (state, (links, passed)) = (random.below(s) as u32, climbed(parts as usize, random));
-    let last = Some(Told { state, yes: random.below(2) == 0, parts, links, passed }).filter(|_| random.below(2) == 0);
+    let last =
+        Some(Outcome { state, yes: random.below(2) == 0, parts, links, passed }).filter(|_| random.below(2) == 0);
     let (links, passed) = climbed(handled, random);
     let record = Record {
         phase,

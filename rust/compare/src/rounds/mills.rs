@@ -6,7 +6,7 @@ use crate::inputs::Case;
 use crate::random::Random;
 use crate::trace;
 use reference::formats::{read_plan, read_rules};
-use reference::panel::{Answer, Lends, Phase};
+use reference::panel::{Answer, Inputs, Phase};
 use reference::record::{Record, RECORD_BYTES};
 use reference::screens::{self, Done, ScreenAnswer, ScreenCall, RUN_BYTES, SCREENS};
 use reference::tables::{rule_tables, Tables};
@@ -35,15 +35,15 @@ impl Beside {
         let (plan, rules) = checked(&case);
         let mill = Mill::new(plan, rules).expect("accepted");
         let mut beside = Beside { case, tables, mill, run: vec![0; RUN_BYTES], first: 0 };
-        let done = screens::call(&beside.run, &ScreenCall::Load(beside.lends()));
+        let done = screens::call(&beside.run, &ScreenCall::Load(beside.inputs()));
         beside.keep(done);
         beside.same();
         beside
     }
 
-    fn lends(&self) -> Lends<'_> {
+    fn inputs(&self) -> Inputs<'_> {
         let Tables { node_table, state_table } = &self.tables;
-        Lends { plan: &self.case.plan, rules: &self.case.rules, node_table, state_table }
+        Inputs { plan: &self.case.plan, rules: &self.case.rules, node_table, state_table }
     }
 
     fn keep(&mut self, done: Done) -> ScreenAnswer {
@@ -102,7 +102,7 @@ impl Beside {
         let (nodes, labels): (Vec<u16>, Vec<u8>) = list.iter().copied().unzip();
         trace::say(format!("screen {}: start {:?}", screen, list));
         let got = self.mill.start(screen, &list).map_err(Refusal::number);
-        let done = screens::call(&self.run, &ScreenCall::Start(screen, self.lends(), &nodes, &labels));
+        let done = screens::call(&self.run, &ScreenCall::Start(screen, self.inputs(), &nodes, &labels));
         let want = match self.keep(done) {
             ScreenAnswer::One(Answer::Parts(parts)) => Ok(parts),
             other => Err(refused(other)),
@@ -115,7 +115,7 @@ impl Beside {
     fn deal(&mut self) -> String {
         trace::say("deal".into());
         let got = self.mill.deal().expect("no record is damaged");
-        let done = screens::call(&self.run, &ScreenCall::Deal(self.first, self.lends()));
+        let done = screens::call(&self.run, &ScreenCall::Deal(self.first, self.inputs()));
         let want = match self.keep(done) {
             ScreenAnswer::Dealt(next, answer) => Some(((next + 7) % 8, answer == Answer::Finished)),
             other => {
@@ -136,7 +136,7 @@ impl Beside {
             self.mill.deals().take(most).map(|deal| deal.expect("no record is damaged").screen).collect();
         for &screen in &served {
             assert_eq!(self.next(), Some(screen), "whose turn it is");
-            let done = screens::call(&self.run, &ScreenCall::Deal(self.first, self.lends()));
+            let done = screens::call(&self.run, &ScreenCall::Deal(self.first, self.inputs()));
             self.keep(done);
         }
         assert!(served.len() == most || self.running().is_empty(), "the iterator goes on to the end");
@@ -159,7 +159,7 @@ impl Beside {
         let screen = self.screen(random);
         trace::say(format!("screen {}: answers", screen));
         let last = match screens::call(&self.run, &ScreenCall::Read(screen)).answer {
-            ScreenAnswer::One(Answer::Told(told)) => Ok((told.state, told.yes, told.parts, told.links, told.passed)),
+            ScreenAnswer::One(Answer::Outcome(told)) => Ok((told.state, told.yes, told.parts, told.links, told.passed)),
             other => Err(refused(other)),
         };
         let answered = screen < 8 && self.record(screen as usize).phase == Phase::Answered;
@@ -209,8 +209,8 @@ impl Beside {
         let (plan, rules) = checked(&other);
         let got = self.mill.load(plan, rules).map_err(Refusal::number);
         let Tables { node_table, state_table } = &own;
-        let lends = Lends { plan: &other.plan, rules: &other.rules, node_table, state_table };
-        let want = match self.keep(screens::call(&self.run, &ScreenCall::Load(lends))) {
+        let inputs = Inputs { plan: &other.plan, rules: &other.rules, node_table, state_table };
+        let want = match self.keep(screens::call(&self.run, &ScreenCall::Load(inputs))) {
             ScreenAnswer::Loaded(_) => Ok(()),
             other => Err(refused(other)),
         };
@@ -218,7 +218,7 @@ impl Beside {
         if want.is_ok() {
             (self.case, self.tables) = (other, own);
         }
-        let (lent, own) = (self.mill.lent(), self.lends());
+        let (lent, own) = (self.mill.lent(), self.inputs());
         assert!(lent.plan == own.plan && lent.rules == own.rules, "the plan and the rules that are loaded");
         assert!(lent.node_table == own.node_table && lent.state_table == own.state_table, "the mill's tables");
         outcome("load", want)

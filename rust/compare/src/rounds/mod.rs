@@ -8,7 +8,7 @@ pub mod call_lists;
 pub mod choices;
 pub mod colour_branches;
 pub mod colour_questions;
-pub mod damaged_lends;
+pub mod damaged_inputs;
 pub mod damaged_records;
 pub mod damaged_tables;
 pub mod fresh_runs;
@@ -47,7 +47,7 @@ pub const ROUNDS: [Round; 24] = [
     Round { name: "damaged tables", compare: damaged_tables::round },
     Round { name: "questions", compare: questions::round },
     Round { name: "other bytes", compare: other_bytes::round },
-    Round { name: "damaged lends", compare: damaged_lends::round },
+    Round { name: "damaged inputs", compare: damaged_inputs::round },
     Round { name: "call lists", compare: call_lists::round },
     Round { name: "session refusals", compare: session_refusals::round },
     Round { name: "damaged records", compare: damaged_records::round },

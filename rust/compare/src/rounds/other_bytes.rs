@@ -1,5 +1,5 @@
 //! Run states and maps that are any bytes below S, under plan, rules and node table as built: 18 at Start; "an advance
-//! goes on as always and stores and counts what this rule gives on those bytes". The book replays the rule on the tree.
+//! goes on as always and stores and counts what this rule gives on those bytes". The reference model replays the rule on the tree.
 
 use crate::alterations::Alteration;
 use crate::counts::Counts;
@@ -7,7 +7,7 @@ use crate::inputs::Case;
 use crate::panel::{Lent, Panel};
 use crate::random::Random;
 use crate::shapes::SHAPES;
-use reference::panel::{Answer, Call, Told};
+use reference::panel::{Answer, Call, Outcome};
 
 pub fn round(random: &mut Random, counts: &mut Counts) {
     let (shape, each) = (*random.pick(&SHAPES), random.below(2) == 0);
@@ -55,8 +55,8 @@ pub fn ask(case: &Case, lent: &Lent, m: usize, each: bool, random: &mut Random, 
         assert_eq!(panel.advance(&now, random), wanted);
     }
     match panel.call(&Call::Read, random) {
-        Answer::Told(told) => {
-            let moved = |told: &Told| (told.parts, told.links, told.passed);
+        Answer::Outcome(told) => {
+            let moved = |told: &Outcome| (told.parts, told.links, told.passed);
             assert_eq!(moved(&told), moved(&as_built));
             assert_eq!(panel.left, 0, "all of it is settled");
             counts.add(if told == as_built { "the same answer" } else { "another answer" });

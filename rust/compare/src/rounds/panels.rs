@@ -10,7 +10,7 @@ use crate::trace;
 use reference::count::Said;
 use reference::formats::{read_plan, read_rules};
 use reference::fresh::{changed, check_list};
-use reference::panel::{Answer, Call, Lends, Phase, Told};
+use reference::panel::{Answer, Call, Inputs, Outcome, Phase};
 use reference::record::Record;
 use reference::session::{self, Done};
 use reference::tables::{rule_tables, run, Tables};
@@ -38,13 +38,13 @@ impl Given {
         Given { case, tables }
     }
 
-    fn lends(&self) -> Lends<'_> {
+    fn inputs(&self) -> Inputs<'_> {
         let (case, Tables { node_table, state_table }) = (&self.case, &self.tables);
-        Lends { plan: &case.plan, rules: &case.rules, node_table, state_table }
+        Inputs { plan: &case.plan, rules: &case.rules, node_table, state_table }
     }
 
     fn lent(&self) -> Lent<'_> {
-        let Lends { plan, rules, node_table, state_table } = self.lends();
+        let Inputs { plan, rules, node_table, state_table } = self.inputs();
         Lent { plan, rules, node_table, state_table }
     }
 }
@@ -118,10 +118,10 @@ impl Beside {
         trace::say(format!("ask {:?}", list));
         let got = self.panel.ask(&list).map(told).map_err(Refusal::number);
         let plain = self.plain_question(&nodes, &labels).map(told).map_err(Refusal::number);
-        let want = match self.keep(session::call(&self.record, &Call::Start(self.given.lends(), &nodes, &labels))) {
+        let want = match self.keep(session::call(&self.record, &Call::Start(self.given.inputs(), &nodes, &labels))) {
             Answer::Refused(number) => Err(number),
             _ => {
-                while self.keep(session::call(&self.record, &Call::Advance(self.given.lends()))) == Answer::More {}
+                while self.keep(session::call(&self.record, &Call::Advance(self.given.inputs()))) == Answer::More {}
                 self.read()
             }
         };
@@ -143,7 +143,7 @@ impl Beside {
         trace::say(format!("start {:?}", list));
         let got = self.panel.start(&list).map_err(Refusal::number);
         let plain = self.plain.start(&self.given.lent(), &nodes, &labels).map_err(Refusal::number);
-        let want = match self.keep(session::call(&self.record, &Call::Start(self.given.lends(), &nodes, &labels))) {
+        let want = match self.keep(session::call(&self.record, &Call::Start(self.given.inputs(), &nodes, &labels))) {
             Answer::Parts(parts) => Ok(parts),
             Answer::Refused(number) => Err(number),
             other => panic!("a Start answered {:?}", other),
@@ -155,7 +155,7 @@ impl Beside {
     /// By the plain session and by the reference.
     fn plain_advance(&mut self) -> Result<Progress, u32> {
         let plain = self.plain.advance(&self.given.lent()).map_err(Refusal::number);
-        let want = match self.keep(session::call(&self.record, &Call::Advance(self.given.lends()))) {
+        let want = match self.keep(session::call(&self.record, &Call::Advance(self.given.inputs()))) {
             Answer::More => Ok(Progress::More),
             Answer::Finished => Ok(Progress::Finished),
             Answer::Refused(number) => Err(number),
@@ -204,9 +204,9 @@ impl Beside {
         outcome("cancel", want)
     }
 
-    fn read(&self) -> Result<Told, u32> {
+    fn read(&self) -> Result<Outcome, u32> {
         match session::call(&self.record, &Call::Read).answer {
-            Answer::Told(told) => Ok(told),
+            Answer::Outcome(told) => Ok(told),
             Answer::Refused(number) => Err(number),
             other => panic!("a Read answered {:?}", other),
         }
@@ -286,7 +286,7 @@ impl Beside {
         }
         trace::say(format!("count {:?}", nodes));
         let got = self.panel.count(&nodes);
-        match reference::count::count(&self.given.lends(), &nodes) {
+        match reference::count::count(&self.given.inputs(), &nodes) {
             Said::Refused(number) => {
                 assert_eq!(got.map_err(Refusal::number), Err(number), "the count");
                 format!("count refused {}", number)
@@ -329,8 +329,8 @@ impl Beside {
     fn load_plain(&mut self, case: &Case) -> Result<(), u32> {
         let (mut nodes, mut states) = (vec![7; case.node_table_len()], vec![7; case.state_table_len()]);
         let got = self.plain.load(&case.plan, &case.rules, &mut nodes, &mut states).map_err(Refusal::number);
-        let lends = Lends { plan: &case.plan, rules: &case.rules, node_table: &nodes, state_table: &states };
-        let want = match self.keep(session::call(&self.record, &Call::Load(lends))) {
+        let inputs = Inputs { plan: &case.plan, rules: &case.rules, node_table: &nodes, state_table: &states };
+        let want = match self.keep(session::call(&self.record, &Call::Load(inputs))) {
             Answer::Refused(number) => Err(number),
             _ => Ok(()),
         };
@@ -354,9 +354,9 @@ impl Beside {
     }
 }
 
-fn told(answer: whatif::Answer) -> Told {
+fn told(answer: whatif::Answer) -> Outcome {
     let whatif::Answer { state, yes, parts, links, passed } = answer;
-    Told { state: state.into(), yes, parts, links, passed }
+    Outcome { state: state.into(), yes, parts, links, passed }
 }
 
 fn outcome(call: &str, answer: Result<(), u32>) -> String {

@@ -1,4 +1,4 @@
-//! Questions on tables as built, through the session's calls: roots, states, answer, parts, links and nodes passed over. The book holds
+//! Questions on tables as built, through the session's calls: roots, states, answer, parts, links and nodes passed over. The reference model holds
 //! every answer to a fresh run of the changed plan; here the record is looked at too.
 
 use super::any_case;
@@ -7,11 +7,11 @@ use crate::faults::repeat_nodes;
 use crate::inputs::Case;
 use crate::panel::{Lent, Panel};
 use crate::random::Random;
-use reference::book::Standing;
 use reference::formats::{read_plan, read_rules};
 use reference::fresh::changed;
 use reference::lists::differing;
-use reference::panel::{Answer, Told};
+use reference::model::Settlement;
+use reference::panel::{Answer, Outcome};
 use reference::ready::{by_marks, closure};
 use reference::tables::run;
 use reference::tree::Tree;
@@ -106,7 +106,7 @@ impl Asked {
     }
 
     /// A whole question; every part's state is the changed run's at its root, and its root is the ready set's.
-    pub fn ask(&mut self, nodes: &[u16], labels: &[u8], random: &mut Random) -> Told {
+    pub fn ask(&mut self, nodes: &[u16], labels: &[u8], random: &mut Random) -> Outcome {
         let plan = read_plan(&self.case.plan).unwrap();
         let labels_then = changed(plan.labels, nodes, labels);
         // "A listed node whose label equals the plan's is left out of W"
@@ -119,7 +119,7 @@ impl Asked {
         assert_eq!(self.panel.says().states, [], "no state yet");
         let (advances, told) = self.panel.finish(&self.lent, random);
         assert_eq!((advances, told.parts), (parts, parts));
-        assert_eq!(self.panel.book.standing(), Some(Standing::Clean));
+        assert_eq!(self.panel.model.settlement(), Some(Settlement::Clean));
         let record = self.panel.says();
         assert!(record.roots.iter().map(|&v| v as usize).eq(members.iter().copied()));
         assert_eq!((&record.nodes[..], &record.labels[..]), (nodes, labels), "the changes as listed");

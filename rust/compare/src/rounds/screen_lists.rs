@@ -1,7 +1,7 @@
 //! Whole lists of screen calls, as chance has them, from fresh runs: screens that start, cancel and read beside each
 //! other, deals with what was lent before, with other plans and with altered tables, Loads while screens run, screen
 //! numbers that there are not, numbers to try first that were not told, runs of other lengths and broken records.
-//! Every answer is held to the reference implementation, to eight books and to single sessions (`screens::Lab`).
+//! Every answer is held to the reference implementation, to eight reference models and to single sessions (`screens::Lab`).
 
 use super::call_lists::{name, plans};
 use super::damaged_records;
@@ -55,10 +55,10 @@ struct World<'a> {
 impl World<'_> {
     /// A call, mostly one that is allowed.
     fn turn(&mut self, random: &mut Random) {
-        let books = &self.lab.books;
-        let running = (0..SCREENS).filter(|&i| books.runs(i)).count();
+        let models = &self.lab.models;
+        let running = (0..SCREENS).filter(|&i| models.runs(i)).count();
         let usual = match running {
-            _ if books.of(0).phase() == Phase::Empty => 0,
+            _ if models.of(0).phase() == Phase::Empty => 0,
             0 => *random.pick(&[1, 1, 1, 1, 4, 0]),
             _ if running < self.used => *random.pick(&[1, 1, 2, 2, 2, 2, 3, 4]),
             _ => *random.pick(&[2, 2, 2, 2, 2, 2, 2, 2, 3, 4]),
@@ -83,7 +83,8 @@ impl World<'_> {
 
     /// A screen that runs, or one that does not, mostly; now and then any other, or one that there is not.
     fn screen(&self, running: bool, random: &mut Random) -> u32 {
-        let fitting: Vec<u32> = (0..SCREENS).filter(|&i| self.lab.books.runs(i) == running).map(|i| i as u32).collect();
+        let fitting: Vec<u32> =
+            (0..SCREENS).filter(|&i| self.lab.models.runs(i) == running).map(|i| i as u32).collect();
         match random.below(12) {
             0 => *random.pick(&NO_SCREENS),
             1 | 2 => random.below(SCREENS) as u32,
@@ -117,7 +118,7 @@ impl World<'_> {
     }
 
     fn load(&mut self, random: &mut Random) {
-        let kept = (0..SCREENS).filter(|&i| self.lab.books.of(i).last_standing().is_some()).count();
+        let kept = (0..SCREENS).filter(|&i| self.lab.models.of(i).last_settlement().is_some()).count();
         let at = random.below(self.at_hand.len());
         let mut input = Input::new(&self.at_hand[at].0, Kind::Rules, random);
         if random.below(3) == 0 {
@@ -126,7 +127,7 @@ impl World<'_> {
         }
         let (node_table, state_table) = (random.numbers(input.node_table_len), random.bytes(input.state_table_len));
         let lent = Lent { plan: input.plan, rules: input.table, node_table, state_table };
-        let answer = self.lab.call(&ScreenCall::Load(lent.lends()), random);
+        let answer = self.lab.call(&ScreenCall::Load(lent.inputs()), random);
         self.count("Load", answer);
         if answer == ScreenAnswer::Loaded(0) {
             // what Load wrote
@@ -155,7 +156,7 @@ impl World<'_> {
             _ => self.lab.first,
         };
         let waited: Vec<usize> = (0..SCREENS).map(|i| self.lab.waits(i).len()).collect();
-        let answer = self.lab.call(&ScreenCall::Deal(first, lent.lends()), random);
+        let answer = self.lab.call(&ScreenCall::Deal(first, lent.inputs()), random);
         self.count("deal", answer);
         if let ScreenAnswer::Dealt(next, _) = answer {
             let served = (next as usize + SCREENS - 1) % SCREENS;
@@ -169,11 +170,16 @@ impl World<'_> {
         let mut run = self.lab.run.clone();
         let (at, lent) = self.lent(random);
         let (nodes, labels) = self.changes(at, random);
-        let (lends, screen) = (lent.lends(), random.below(SCREENS) as u32);
-        let start = ScreenCall::Start(screen, lends, &nodes, &labels);
-        let deal = ScreenCall::Deal(random.below(SCREENS) as u32, lends);
-        let call =
-            *random.pick(&[ScreenCall::Load(lends), start, deal, ScreenCall::Cancel(screen), ScreenCall::Read(screen)]);
+        let (inputs, screen) = (lent.inputs(), random.below(SCREENS) as u32);
+        let start = ScreenCall::Start(screen, inputs, &nodes, &labels);
+        let deal = ScreenCall::Deal(random.below(SCREENS) as u32, inputs);
+        let call = *random.pick(&[
+            ScreenCall::Load(inputs),
+            start,
+            deal,
+            ScreenCall::Cancel(screen),
+            ScreenCall::Read(screen),
+        ]);
         if random.below(4) == 0 {
             run.resize(*random.pick(&OTHER_LENGTHS), 0);
             assert_eq!(compared(&run, &call, random).answer, ScreenAnswer::refused(25));

@@ -96,7 +96,7 @@ fn load(faults: &[u32], random: &mut Random) -> ScreenAnswer {
     // one screen runs, or has a broken record
     let mut run = Run::new(&scene, &scene.record(&AT_REST, faults, random), true, random);
     run.lay(faults, false, random);
-    compared(&run.bytes, &ScreenCall::Load(lent.lends()), random).answer
+    compared(&run.bytes, &ScreenCall::Load(lent.inputs()), random).answer
 }
 
 fn start(faults: &[u32], random: &mut Random) -> ScreenAnswer {
@@ -107,7 +107,7 @@ fn start(faults: &[u32], random: &mut Random) -> ScreenAnswer {
     scene.lay(faults, random);
     let mut run = Run::new(&scene, &scene.record(&[Phase::Loaded, Phase::Answered], faults, random), false, random);
     run.lay(faults, true, random);
-    let call = ScreenCall::Start(run.screen, scene.lent.lends(), &scene.nodes, &scene.labels);
+    let call = ScreenCall::Start(run.screen, scene.lent.inputs(), &scene.nodes, &scene.labels);
     compared(&run.bytes, &call, random).answer
 }
 
@@ -125,7 +125,7 @@ fn deal(faults: &[u32], random: &mut Random) -> ScreenAnswer {
     // the one that runs is the next from any number on
     run.screen = random.below(SCREENS) as u32;
     run.lay(faults, true, random);
-    compared(&run.bytes, &ScreenCall::Deal(run.screen, scene.lent.lends()), random).answer
+    compared(&run.bytes, &ScreenCall::Deal(run.screen, scene.lent.inputs()), random).answer
 }
 
 fn cancel(faults: &[u32], random: &mut Random) -> ScreenAnswer {

@@ -55,7 +55,7 @@ fn load(faults: &[u32], random: &mut Random) -> Answer {
     let (node_table, state_table) = (random.numbers(input.node_table_len), random.bytes(input.state_table_len));
     let lent = Lent { plan: input.plan, rules: input.table, node_table, state_table };
     let record = scene.record(&[Phase::Empty, Phase::Loaded, Phase::Answered], faults, random);
-    sides::call(&record, &Call::Load(lent.lends()), random).answer
+    sides::call(&record, &Call::Load(lent.inputs()), random).answer
 }
 
 fn start(faults: &[u32], random: &mut Random) -> Answer {
@@ -65,7 +65,7 @@ fn start(faults: &[u32], random: &mut Random) -> Answer {
     }
     scene.lay(faults, random);
     let record = scene.record(&[Phase::Loaded, Phase::Answered], faults, random);
-    sides::call(&record, &Call::Start(scene.lent.lends(), &scene.nodes, &scene.labels), random).answer
+    sides::call(&record, &Call::Start(scene.lent.inputs(), &scene.nodes, &scene.labels), random).answer
 }
 
 fn advance(faults: &[u32], random: &mut Random) -> Answer {
@@ -77,7 +77,7 @@ fn advance(faults: &[u32], random: &mut Random) -> Answer {
     }
     scene.lay(faults, random);
     let record = scene.record(&[Phase::Running], faults, random);
-    sides::call(&record, &Call::Advance(scene.lent.lends()), random).answer
+    sides::call(&record, &Call::Advance(scene.lent.inputs()), random).answer
 }
 
 /// A session's record in each of the four states, with and without an earlier answer, and what is lent with its next
@@ -109,7 +109,7 @@ impl Scene {
         let labels = random.bytes_below(nodes.len(), k);
         let mut panel = Panel::default();
         let empty = panel.record.clone();
-        panel.call(&Call::Load(lent.lends()), random);
+        panel.call(&Call::Load(lent.inputs()), random);
         let loaded = panel.record.clone();
         panel.start(&lent, &nodes, &labels, random);
         let advances = random.below(panel.says().roots.len());
