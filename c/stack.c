@@ -1,7 +1,7 @@
 /*
  * The stack that each call needs, on plans of 65,535 nodes with 16 states, 64 labels and 64 changes: it is run on a
- * painted stack, and what it leaves unpainted is counted, less what an empty call leaves. It is compared with what the
- * header says.
+ * painted stack, and what it leaves unpainted is counted, less what an empty call leaves. It is compared with what
+ * interface.txt allows; the header says the same in words.
  */
 #define _POSIX_C_SOURCE 200809L
 #include "whatif.h"
@@ -45,50 +45,94 @@ static _Alignas(64) uint8_t stack[ROOM];
 #define COLOURS colour_numbers, WHATIF_COLOUR_BRANCH_NUMBERS(N, STATES), colour_bytes, sizeof colour_bytes
 #define FOUR_STATES node_table, WHATIF_NODE_TABLE_LEN(N), state_table, WHATIF_STATE_TABLE_LEN(N, 4)
 
+/* The exported calls, and the bytes of stack that each may take. */
+/* calls: generated from interface.txt by tools/interface */
+#define CALLS(CALL) \
+    CALL(load, 4 * 1024) \
+    CALL(start, 10 * 1024) \
+    CALL(advance, 4 * 1024) \
+    CALL(cancel, 4 * 1024) \
+    CALL(read, 4 * 1024) \
+    CALL(screens_load, 4 * 1024) \
+    CALL(screens_start, 10 * 1024) \
+    CALL(screens_deal, 4 * 1024) \
+    CALL(screens_cancel, 4 * 1024) \
+    CALL(screens_read, 4 * 1024) \
+    CALL(build, 5 * 1024) \
+    CALL(check, 8 * 1024) \
+    CALL(fresh_run, 40 * 1024) \
+    CALL(branch_build, 5 * 1024) \
+    CALL(branch_check, 3 * 1024) \
+    CALL(branch, 1 * 1024) \
+    CALL(branch_with_upper, 1 * 1024) \
+    CALL(colour_build, 5 * 1024) \
+    CALL(colour_ask, 3 * 1024) \
+    CALL(colour_branch_build, 5 * 1024) \
+    CALL(colour_branch, 1 * 1024) \
+    CALL(colour_branch_with_upper, 1 * 1024) \
+    CALL(count, 35 * 1024) \
+    CALL(merge, 1 * 1024) \
+    CALL(agree, 12 * 1024) \
+    CALL(lay_over, 1 * 1024) \
+    CALL(plan_of_planner, 1 * 1024) \
+    CALL(planner_of_plan, 1 * 1024) \
+    CALL(version, 1 * 1024)
+/* end of calls */
+
+#define MOST_OF(name, most) most_of_##name = most,
+enum { CALLS(MOST_OF) };
+
+/* The compiler refuses a call that is not made below, or not measured. */
+#define MADE_BELOW(name, most) static void make_##name(void);
+CALLS(MADE_BELOW)
+
 static void nothing(void) { answer = 0; }
-static void build(void) { answer = whatif_build(RULES, TABLES); }
-static void check(void) { answer = whatif_check(RULES, TABLES, out); }
-static void fresh_run(void) { answer = whatif_fresh_run(RULES, LIST, out, out + 1); }
-static void branch_build(void) { answer = whatif_branch_build(BRANCH, TABLES); }
-static void branch_check(void) { answer = whatif_branch_check(BRANCH, TABLES, out); }
-static void ask(void) { answer = whatif_branch(BRANCH, TABLES, N - 1, 1, out, out + 1, out + 2, out + 3); }
-static void ask_with_upper(void) {
+static void make_version(void) { answer = whatif_version() != WHATIF_VERSION_NUMBER; }
+static void make_build(void) { answer = whatif_build(RULES, TABLES); }
+static void make_check(void) { answer = whatif_check(RULES, TABLES, out); }
+static void make_fresh_run(void) { answer = whatif_fresh_run(RULES, LIST, out, out + 1); }
+static void make_branch_build(void) { answer = whatif_branch_build(BRANCH, TABLES); }
+static void make_branch_check(void) { answer = whatif_branch_check(BRANCH, TABLES, out); }
+static void make_branch(void) { answer = whatif_branch(BRANCH, TABLES, N - 1, 1, out, out + 1, out + 2, out + 3); }
+static void make_branch_with_upper(void) {
     answer = whatif_branch_with_upper(BRANCH, TABLES, N - 1, 1, out, out + 1, out + 2, out + 3);
 }
-static void merge(void) { answer = whatif_merge(FOUR, FOUR, merged, sizeof merged); }
-static void agree(void) { answer = whatif_agree(SIXTEEN, SIXTEEN, lines, 4 * WHATIF_MAX_LINES, out, out + 1); }
-static void planner_out(void) {
+static void make_merge(void) { answer = whatif_merge(FOUR, FOUR, merged, sizeof merged); }
+static void make_agree(void) { answer = whatif_agree(SIXTEEN, SIXTEEN, lines, 4 * WHATIF_MAX_LINES, out, out + 1); }
+static void make_plan_of_planner(void) {
     answer = whatif_plan_of_planner(planner, sizeof planner, image, sizeof image, places, N / 2);
 }
-static void planner_home(void) { answer = whatif_planner_of_plan(image, sizeof image, planner, sizeof planner); }
-static void lay_over(void) {
+static void make_planner_of_plan(void) {
+    answer = whatif_planner_of_plan(image, sizeof image, planner, sizeof planner);
+}
+static void make_lay_over(void) {
     answer = whatif_lay_over(LIST, LIST, over_nodes, WHATIF_MAX_CHANGES, over_labels, WHATIF_MAX_CHANGES, out);
 }
 /* nine nodes with 64 labels are the most that 26 lets through */
-static void count(void) {
+static void make_count(void) {
     answer = whatif_count(RULES, TABLES, nodes, 9, counts, WHATIF_MAX_STATES, out, out + 1);
 }
-static void colour_branch_build(void) { answer = whatif_colour_branch_build(BRANCH, COLOURS); }
-static void colour_ask(void) {
+static void make_colour_branch_build(void) { answer = whatif_colour_branch_build(BRANCH, COLOURS); }
+static void make_colour_branch(void) {
     answer = whatif_colour_branch(BRANCH, node_table, WHATIF_NODE_TABLE_LEN(N), COLOURS, N - 1, 1, out, out + 1, out + 2,
                                   out + 3);
 }
-static void colour_ask_with_upper(void) {
+static void make_colour_branch_with_upper(void) {
     answer = whatif_colour_branch_with_upper(BRANCH, node_table, WHATIF_NODE_TABLE_LEN(N), COLOURS, N - 1, 1, out,
                                              out + 1, out + 2, out + 3);
 }
 /* with the rule table of four states */
 static void build_of_four(void) { answer = whatif_build(plan, sizeof plan, FOUR, FOUR_STATES); }
-static void colour_build(void) { answer = whatif_colour_build(plan, sizeof plan, FOUR, COLOURS); }
-static void colour_question(void) {
+static void make_colour_build(void) { answer = whatif_colour_build(plan, sizeof plan, FOUR, COLOURS); }
+static void make_colour_ask(void) {
     answer = whatif_colour_ask(plan, sizeof plan, FOUR, FOUR_STATES, COLOURS, LIST, out, out + 1, out + 2, out + 3,
                                out + 4);
 }
-static void load(void) { answer = whatif_load(RECORD, RULES, TABLES); }
-static void start(void) { answer = whatif_start(RECORD, RULES, TABLES, LIST, out); }
-static void cancel(void) { answer = whatif_cancel(RECORD); }
-static void read_answer(void) { answer = whatif_read(RECORD, out, out + 1, out + 2, out + 3, out + 4); }
-static void advance(void) {
+static void make_load(void) { answer = whatif_load(RECORD, RULES, TABLES); }
+static void make_start(void) { answer = whatif_start(RECORD, RULES, TABLES, LIST, out); }
+static void make_cancel(void) { answer = whatif_cancel(RECORD); }
+static void make_read(void) { answer = whatif_read(RECORD, out, out + 1, out + 2, out + 3, out + 4); }
+static void make_advance(void) {
     do
         answer = whatif_advance(RECORD, RULES, TABLES, out);
     while (!answer && !out[0]);
@@ -101,56 +145,59 @@ static void confirm(void) {
 }
 static void why(void) { answer = !whatif_why_1(RECORD, WHATIF_CALL_ADVANCE); }
 static void replace(void) { answer = whatif_screens_replace(RUN, 5, RECORD); }
-static void load_all(void) { answer = whatif_screens_load(RUN, RULES, TABLES, out); }
-static void start_on(void) { answer = whatif_screens_start(RUN, 5, RULES, TABLES, LIST, out); }
-static void cancel_on(void) { answer = whatif_screens_cancel(RUN, 5); }
-static void read_on(void) { answer = whatif_screens_read(RUN, 5, out, out + 1, out + 2, out + 3, out + 4); }
-static void deal(void) {
+static void make_screens_load(void) { answer = whatif_screens_load(RUN, RULES, TABLES, out); }
+static void make_screens_start(void) { answer = whatif_screens_start(RUN, 5, RULES, TABLES, LIST, out); }
+static void make_screens_cancel(void) { answer = whatif_screens_cancel(RUN, 5); }
+static void make_screens_read(void) { answer = whatif_screens_read(RUN, 5, out, out + 1, out + 2, out + 3, out + 4); }
+static void make_screens_deal(void) {
     do
         answer = whatif_screens_deal(RUN, 0, RULES, TABLES, out, out + 1);
     while (!answer && !out[1]);
 }
 
-/* In an order in which every call is accepted; the bytes that the header allows it. */
+#define EXPORTED(name) {"whatif_" #name, make_##name, most_of_##name}
+
+/* In an order in which every call is accepted; the bytes that it may take. */
 static const struct call {
     const char *name;
     void (*make)(void);
     size_t most;
 } calls[] = {
-    {"build", build, 5 * 1024},
-    {"check", check, 8 * 1024},
-    {"fresh run", fresh_run, 40 * 1024},
-    {"load", load, 4096},
-    {"start", start, 10 * 1024},
-    {"cancel", cancel, 4096},
-    {"start", start, 10 * 1024},
-    {"advance", advance, 4096},
-    {"read", read_answer, 4096},
+    EXPORTED(build),
+    EXPORTED(check),
+    EXPORTED(fresh_run),
+    EXPORTED(load),
+    EXPORTED(start),
+    EXPORTED(cancel),
+    EXPORTED(start),
+    EXPORTED(advance),
+    EXPORTED(read),
     {"whatif_confirm", confirm, 42 * 1024},
     {"whatif_why_1", why, 6 * 1024},
     {"whatif_screens_replace", replace, 6 * 1024},
-    {"load of eight", load_all, 4096},
-    {"start on a screen", start_on, 10 * 1024},
-    {"cancel on a screen", cancel_on, 4096},
-    {"start on a screen", start_on, 10 * 1024},
-    {"deal", deal, 4096},
-    {"read on a screen", read_on, 4096},
-    {"count", count, 35 * 1024},
-    {"branch build", branch_build, 5 * 1024},
-    {"branch check", branch_check, 3072},
-    {"branch question", ask, 1024},
-    {"branch question with upper", ask_with_upper, 1024},
-    {"merge", merge, 1024},
-    {"agreement", agree, 12 * 1024},
-    {"planner out", planner_out, 1024},
-    {"planner home", planner_home, 1024},
-    {"laying over", lay_over, 1024},
-    {"colour branch build", colour_branch_build, 5 * 1024},
-    {"colour branch question", colour_ask, 1024},
-    {"colour branch question with upper", colour_ask_with_upper, 1024},
-    {"build of four states", build_of_four, 5 * 1024},
-    {"colour build", colour_build, 5 * 1024},
-    {"colour question", colour_question, 3072},
+    EXPORTED(screens_load),
+    EXPORTED(screens_start),
+    EXPORTED(screens_cancel),
+    EXPORTED(screens_start),
+    EXPORTED(screens_deal),
+    EXPORTED(screens_read),
+    EXPORTED(count),
+    EXPORTED(branch_build),
+    EXPORTED(branch_check),
+    EXPORTED(branch),
+    EXPORTED(branch_with_upper),
+    EXPORTED(merge),
+    EXPORTED(agree),
+    EXPORTED(plan_of_planner),
+    EXPORTED(planner_of_plan),
+    EXPORTED(lay_over),
+    EXPORTED(colour_branch_build),
+    EXPORTED(colour_branch),
+    EXPORTED(colour_branch_with_upper),
+    {"build of four states", build_of_four, most_of_build},
+    EXPORTED(colour_build),
+    EXPORTED(colour_ask),
+    EXPORTED(version),
 };
 
 static void *run(void *make) {
@@ -221,7 +268,7 @@ int main(void) {
         for (size_t i = 0; i < sizeof calls / sizeof *calls; i++) {
             size_t least = used(&empty), most = used(&calls[i]);
             int fits = answer == WHATIF_ACCEPTED && most - least <= calls[i].most;
-            printf("c: stack of %s: %zu bytes%s\n", calls[i].name, most - least, fits ? "" : ", NOT as the header says");
+            printf("c: stack of %s: %zu bytes%s\n", calls[i].name, most - least, fits ? "" : ", NOT accepted or too much");
             wrong |= !fits;
         }
     }

@@ -65,31 +65,13 @@ static void put(uint32_t number, size_t bytes) {
 }
 
 static const char *const folders[TRIES] = {
-    [BUILD] = "build",
-    [CHECK] = "check",
-    [FRESH_RUN] = "fresh-run",
-    [BRANCH_BUILD] = "branch-build",
-    [BRANCH_CHECK] = "branch-check",
-    [BRANCH] = "branch",
-    [LOAD] = "load",
-    [START] = "start",
-    [ADVANCE] = "advance",
-    [CANCEL] = "cancel",
-    [READ] = "read",
+#define TRY(number, constant, name, folder, answers) [constant] = folder,
+    CALL_TRIES(TRY)
+#undef TRY
     [QUESTION] = "question",
     [PANEL] = "panel",
-    [MERGE] = "merge",
-    [AGREE] = "agree",
-    [PLANNER_OUT] = "plan-of-planner",
-    [PLANNER_HOME] = "planner-of-plan",
-    [LAY_OVER] = "lay-over",
-    [COUNT] = "count",
     [SCREEN] = "screen",
     [SCREENS] = "screens",
-    [COLOUR_BRANCH_BUILD] = "colour-branch-build",
-    [COLOUR_BRANCH] = "colour-branch",
-    [COLOUR_BUILD] = "colour-build",
-    [COLOUR_ASK] = "colour-ask",
     [CONFIRM] = "confirm",
     [RECORD] = "record",
     [RUN] = "run",
@@ -292,22 +274,22 @@ static void planner_files(const char *name, const uint8_t *labels, const uint8_t
     size_t len = WHATIF_PLANNER_BYTES(n), plan_len = WHATIF_PLANNER_PLAN_BYTES(n);
     memcpy(bytes_of + 12, labels, n), memcpy(bytes_of + 12 + n, counts, n);
     must(whatif_plan_of_planner(bytes_of, len, out, plan_len, places, n) == 0);
-    begin(PLANNER_OUT, name, ""), put(BEFORE, 1), bytes(bytes_of, len), put((uint32_t)plan_len + 1, 2);
+    begin(PLAN_OF_PLANNER, name, ""), put(BEFORE, 1), bytes(bytes_of, len), put((uint32_t)plan_len + 1, 2);
     put((uint32_t)n + 1, 2), end();
-    begin(PLANNER_OUT, name, "-behind"), put(BEHIND, 1), bytes(bytes_of, len), put((uint32_t)plan_len, 2);
+    begin(PLAN_OF_PLANNER, name, "-behind"), put(BEHIND, 1), bytes(bytes_of, len), put((uint32_t)plan_len, 2);
     put((uint32_t)n, 2), end();
-    begin(PLANNER_OUT, name, "-21"), put(BEFORE, 1), bytes(bytes_of, len), put((uint32_t)plan_len, 2);
+    begin(PLAN_OF_PLANNER, name, "-21"), put(BEFORE, 1), bytes(bytes_of, len), put((uint32_t)plan_len, 2);
     put((uint32_t)n - 1, 2), end();
-    begin(PLANNER_HOME, name, ""), put(BEFORE, 1), bytes(out, plan_len), put((uint32_t)len + 1, 2), end();
-    begin(PLANNER_HOME, name, "-behind"), put(BEHIND, 1), bytes(out, plan_len), put((uint32_t)len, 2), end();
-    begin(PLANNER_HOME, name, "-21"), put(BEFORE, 1), bytes(out, plan_len), put((uint32_t)len - 1, 2), end();
+    begin(PLANNER_OF_PLAN, name, ""), put(BEFORE, 1), bytes(out, plan_len), put((uint32_t)len + 1, 2), end();
+    begin(PLANNER_OF_PLAN, name, "-behind"), put(BEHIND, 1), bytes(out, plan_len), put((uint32_t)len, 2), end();
+    begin(PLANNER_OF_PLAN, name, "-21"), put(BEFORE, 1), bytes(out, plan_len), put((uint32_t)len - 1, 2), end();
     out[12] = 62;
-    begin(PLANNER_HOME, name, "-19"), put(BEFORE, 1), bytes(out, plan_len), put((uint32_t)len, 2), end();
+    begin(PLANNER_OF_PLAN, name, "-19"), put(BEFORE, 1), bytes(out, plan_len), put((uint32_t)len, 2), end();
     bytes_of[12] = 63;
-    begin(PLANNER_OUT, name, "-20"), put(BEFORE, 1), bytes(bytes_of, len), put((uint32_t)plan_len, 2);
+    begin(PLAN_OF_PLANNER, name, "-20"), put(BEFORE, 1), bytes(bytes_of, len), put((uint32_t)plan_len, 2);
     put((uint32_t)n, 2), end();
     bytes_of[12 + n] ^= 1;
-    begin(PLANNER_OUT, name, "-19"), put(BEFORE, 1), bytes(bytes_of, len), put((uint32_t)plan_len, 2);
+    begin(PLAN_OF_PLANNER, name, "-19"), put(BEFORE, 1), bytes(bytes_of, len), put((uint32_t)plan_len, 2);
     put((uint32_t)n, 2), end();
 }
 

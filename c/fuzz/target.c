@@ -21,38 +21,20 @@ static const struct {
     uint32_t (*call)(struct input *in);
     uint32_t answers; /* those that it may give, as bits */
 } tries[TRIES] = {
-    [BUILD] = {"whatif_build", try_build, 1u | FROM(2, 11)},
-    [CHECK] = {"whatif_check", try_check, 1u | FROM(2, 11)},
-    [FRESH_RUN] = {"whatif_fresh_run", try_fresh_run, 1u | FROM(2, 10) | FROM(12, 14)},
-    [BRANCH_BUILD] = {"whatif_branch_build", try_branch_build, 1u | FROM(2, 11)},
-    [BRANCH_CHECK] = {"whatif_branch_check", try_branch_check, 1u | FROM(2, 11)},
-    [BRANCH] = {"whatif_branch, both readings", try_branch, 1u | FROM(13, 13) | FROM(16, 18)},
-    [LOAD] = {"whatif_load", try_load, FROM(0, 11)},
-    [START] = {"whatif_start", try_start, FROM(0, 1) | FROM(12, 14) | FROM(17, 18)},
-    [ADVANCE] = {"whatif_advance", try_advance, FROM(0, 1) | FROM(17, 18)},
-    [CANCEL] = {"whatif_cancel", try_cancel, FROM(0, 1)},
-    [READ] = {"whatif_read", try_read, FROM(0, 1)},
+#define TRY(number, constant, name, folder, answers) [constant] = {"whatif_" #name, try_##name, answers},
+    CALL_TRIES(TRY)
+#undef TRY
     [QUESTION] = {"a question", try_question, 1u | FROM(2, 14)},
     [PANEL] = {"a list of calls", try_panel, FROM(0, 14) | FROM(17, 18)},
-    [MERGE] = {"whatif_merge", try_merge, 1u | FROM(6, 9) | FROM(11, 11) | FROM(23, 24)},
-    [AGREE] = {"whatif_agree", try_agree, 1u | FROM(6, 9) | FROM(11, 11) | FROM(23, 23)},
-    [PLANNER_OUT] = {"whatif_plan_of_planner", try_plan_of_planner, 1u | FROM(19, 21)},
-    [PLANNER_HOME] = {"whatif_planner_of_plan", try_planner_of_plan, 1u | FROM(19, 19) | FROM(21, 21)},
-    [LAY_OVER] = {"whatif_lay_over", try_lay_over, 1u | FROM(11, 12) | FROM(22, 22)},
-    [COUNT] = {"whatif_count", try_count, 1u | FROM(11, 13) | FROM(15, 15) | FROM(17, 18) | FROM(26, 26)},
     [SCREEN] = {"a screen's call", try_screen, FROM(0, 14) | FROM(17, 18) | FROM(25, 25)},
     [SCREENS] = {"a list of screen calls", try_screens, FROM(0, 14) | FROM(17, 18) | FROM(25, 25)},
-    [COLOUR_BRANCH_BUILD] = {"whatif_colour_branch_build", try_colour_branch_build, 1u | FROM(2, 11)},
-    [COLOUR_BRANCH] = {"whatif_colour_branch, both readings", try_colour_branch, 1u | FROM(13, 13) | FROM(16, 18)},
-    [COLOUR_BUILD] = {"whatif_colour_build", try_colour_build, 1u | FROM(2, 11) | FROM(27, 27)},
-    [COLOUR_ASK] = {"whatif_colour_ask", try_colour_ask, 1u | FROM(12, 14) | FROM(17, 18) | FROM(27, 27)},
     [CONFIRM] = {"whatif_confirm (4 to 7: its reasons)", try_confirm, FROM(0, 1) | FROM(4, 7)},
     [RECORD] = {"what a record says", try_record, FROM(0, 1)},
     [RUN] = {"what a run says, a replacement", try_run, FROM(0, 1) | FROM(25, 25)},
     [WRITTEN] = {"counts and writers", try_written, 1u | FROM(3, 5) | FROM(11, 11)},
 };
 
-#define MOST 27 /* the greatest number of a refusal */
+#define MOST MOST_REFUSAL
 static size_t given[TRIES][MOST + 1];
 __attribute__((section("__libfuzzer_extra_counters"))) static uint8_t counters[TRIES][MOST + 1][16];
 

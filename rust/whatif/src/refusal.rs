@@ -57,6 +57,7 @@ macro_rules! refusals {
 }
 
 refusals! {
+    // refusals: generated from interface.txt by tools/interface
     SessionState = 1, "The session is in a state in which this call may not be made, or its record is broken.";
     PlanShort = 2, "The plan has fewer than 12 bytes.";
     NodeCount = 3, "The plan's node count is not 1 to 65,535.";
@@ -84,6 +85,7 @@ refusals! {
     Screen = 25, "A screen's number or the one to try first is above 7, or the run is not as long as eight records.";
     Assignments = 26, "There are more than 10^18 assignments of labels to the nodes listed.";
     ColourStates = 27, "The rule table has more than 4 states, too many for colours.";
+    // end of refusals
 }
 
 impl fmt::Display for Refusal {

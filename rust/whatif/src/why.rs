@@ -20,8 +20,6 @@ pub enum Call {
 }
 
 const DAMAGED: &str = "The record is damaged: put a loaded one in its place, or a fresh one and call Load.";
-const NO_ANSWER: &str = "No question was finished since the last Load: there is no answer.";
-const NO_ANSWER_YET: &str = "No question was finished since the last Load: this one is still running.";
 
 impl Session {
     /// Why this call would be refused with [`Refusal::SessionState`], and what to do; none where it would not be.
@@ -57,7 +55,8 @@ impl Session {
     }
 }
 
-/// What a call meets in a state that is not for it; of a Read where no answer is kept.
+/// What a call meets in a state that is not for it; of a Read where no answer is kept. The sentences are those of
+/// whatif_why_state in include/whatif.h, which the gate compares.
 fn refused_in(state: State, call: Call) -> Option<&'static str> {
     use State::{Answered, Empty, Loaded, Running};
     match (call, state) {
@@ -70,14 +69,15 @@ fn refused_in(state: State, call: Call) -> Option<&'static str> {
         (Call::Cancel, Empty) => Some("Nothing to cancel: no plan is loaded."),
         (Call::Cancel, Loaded) => Some("Nothing to cancel: no question is running."),
         (Call::Cancel, Answered) => Some("Nothing to cancel: the question is finished."),
-        (Call::Current | Call::Read, Empty) => Some("No plan is loaded: there is no answer."),
+        (Call::Read, Empty) => Some("No plan is loaded: there is no answer."),
+        (Call::Read, Loaded) => Some("No question was finished since the last Load: there is no answer."),
+        (Call::Read, Running) => Some("No question was finished since the last Load: this one is still running."),
+        (Call::Current, Empty) => Some("No plan is loaded: there is no answer."),
         (Call::Current, Loaded) => Some("No question is asked now: an earlier answer is not this one's."),
         (Call::Current, Running) => Some("The question is still running: an earlier answer is not this one's."),
-        (Call::Read, Loaded | Answered) => Some(NO_ANSWER),
-        (Call::Read, Running) => Some(NO_ANSWER_YET),
         (Call::Load, Empty | Loaded | Answered)
         | (Call::Start, Loaded | Answered)
         | (Call::Advance | Call::Cancel, Running)
-        | (Call::Current, Answered) => None,
+        | (Call::Current | Call::Read, Answered) => None,
     }
 }
