@@ -28,7 +28,8 @@ static uint8_t planner[WHATIF_PLANNER_BYTES(N / 2)], image[WHATIF_PLANNER_PLAN_B
 static uint16_t places[N / 2];
 static uint16_t over_nodes[WHATIF_MAX_CHANGES];
 static uint8_t over_labels[WHATIF_MAX_CHANGES];
-static uint64_t counts[WHATIF_MAX_STATES];
+static uint64_t counts[WHATIF_MAX_STATES], masks[N];
+static uint16_t sets[N];
 static uint16_t colour_numbers[WHATIF_COLOUR_BRANCH_NUMBERS(N, STATES)];
 static uint8_t colour_bytes[WHATIF_COLOUR_BYTES(N, WHATIF_MAX_COLOUR_STATES)];
 static uint32_t answer, out[5];
@@ -61,6 +62,9 @@ static _Alignas(64) uint8_t stack[ROOM];
     CALL(build, 5 * 1024) \
     CALL(check, 8 * 1024) \
     CALL(fresh_run, 40 * 1024) \
+    CALL(ask, 4 * 1024) \
+    CALL(allowed, 1 * 1024) \
+    CALL(clearing, 1 * 1024) \
     CALL(branch_build, 5 * 1024) \
     CALL(branch_check, 3 * 1024) \
     CALL(branch, 1 * 1024) \
@@ -91,6 +95,11 @@ static void make_version(void) { answer = whatif_version() != WHATIF_VERSION_NUM
 static void make_build(void) { answer = whatif_build(RULES, TABLES); }
 static void make_check(void) { answer = whatif_check(RULES, TABLES, out); }
 static void make_fresh_run(void) { answer = whatif_fresh_run(RULES, LIST, out, out + 1); }
+static void make_ask(void) {
+    answer = whatif_ask(RULES, TABLES, LIST, out, out + 1, out + 2, out + 3, out + 4);
+}
+static void make_allowed(void) { answer = whatif_allowed(RULES, masks, N); }
+static void make_clearing(void) { answer = whatif_clearing(RULES, sets, N); }
 static void make_branch_build(void) { answer = whatif_branch_build(BRANCH, TABLES); }
 static void make_branch_check(void) { answer = whatif_branch_check(BRANCH, TABLES, out); }
 static void make_branch(void) { answer = whatif_branch(BRANCH, TABLES, N - 1, 1, out, out + 1, out + 2, out + 3); }
@@ -166,6 +175,9 @@ static const struct call {
     EXPORTED(build),
     EXPORTED(check),
     EXPORTED(fresh_run),
+    EXPORTED(ask),
+    EXPORTED(allowed),
+    EXPORTED(clearing),
     EXPORTED(load),
     EXPORTED(start),
     EXPORTED(cancel),

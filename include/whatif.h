@@ -18,6 +18,8 @@
  *     up to eight panels on one mill             whatif_screens_load and the four beside it
  *     many questions, up to 4 states             whatif_colour_build once, then whatif_colour_ask
  *     the labels along one path                  whatif_branch_build once, then whatif_branch
+ *     many questions, any number of states       whatif_build once, then whatif_ask
+ *     which labels would do, at each node        whatif_allowed; why: whatif_clearing
  *     how many choices of labels clear a plan    whatif_build once, then whatif_count
  *     two rule tables joined, or compared        whatif_merge, whatif_agree
  *     a bridge planner's file                    whatif_plan_of_planner, whatif_planner_of_plan
@@ -228,6 +230,52 @@ WHATIF_NODISCARD
 uint32_t whatif_fresh_run(const uint8_t *plan, size_t plan_len, const uint8_t *rules, size_t rules_len,
                           const uint16_t *nodes, size_t nodes_len, const uint8_t *labels, size_t labels_len,
                           uint32_t *state, uint32_t *yes);
+
+/*
+ * Ask: a whole question at once, outside the session: what would the plan's state be if node nodes[i] took labels[i],
+ * for every i?
+ * Lent:    the plan, the rule table, the tables of whatif_build and the list, read. N, S and K are those of the headers
+ *          of the plan and the rule table. nodes_len and labels_len are equal, 0 to 64; of two entries for a node the
+ *          last holds, and a node that ends with the label it has is no change, as in whatif_start.
+ * Written: *state, the root's state; *yes, 1 where its mark is 1, else 0; *parts, *links and *passed: all five are those
+ *          that whatif_read gives after a Start with this list and all its advances, on tables as built.
+ * Answers: WHATIF_ACCEPTED, or the first of 17, 12, 13, 14, 18. 17 is given too where a header is cut short or names a
+ *          number outside its limits. 18 is never given on tables as whatif_build wrote them for what is lent. On other
+ *          tables the call ends as well, with 18 or an answer: unlike whatif_start it checks only what it reads.
+ *          Refused, the five are as they were.
+ */
+WHATIF_NODISCARD
+uint32_t whatif_ask(const uint8_t *plan, size_t plan_len, const uint8_t *rules, size_t rules_len,
+                    const uint16_t *node_table, size_t node_table_len, const uint8_t *state_table,
+                    size_t state_table_len, const uint16_t *nodes, size_t nodes_len, const uint8_t *labels,
+                    size_t labels_len, uint32_t *state, uint32_t *yes, uint32_t *parts, uint32_t *links,
+                    uint32_t *passed);
+
+/*
+ * Allowed labels: with which labels of each node, all other nodes as they are, is the plan cleared?
+ * Lent:    the plan and the rule table, read; masks, written.
+ * Written: masks[v] for each of the N nodes: bit a is 1 where the plan with node v alone relabelled to a is cleared, for
+ *          every label a below K; the bits from K on are 0. So the bit of a node's own label is the plan's own verdict.
+ *          The rest of a longer buffer is untouched.
+ * Answers: WHATIF_ACCEPTED, or the first of 2, 3, 4, 5, 6, 7, 8, 9, 10, 11: 11 where masks is shorter than N. Refused,
+ *          masks is as it was.
+ */
+WHATIF_NODISCARD
+uint32_t whatif_allowed(const uint8_t *plan, size_t plan_len, const uint8_t *rules, size_t rules_len, uint64_t *masks,
+                        size_t masks_len);
+
+/*
+ * Clearing states: with which states of each node's subtree, all else as it is, is the plan cleared?
+ * Lent:    the plan and the rule table, read; sets, written.
+ * Written: sets[v] for each of the N nodes: bit q is 1 where the plan is cleared with state q in the place of the
+ *          subtree at v, for every state q below S; the bits from S on are 0. A label is allowed at a node where the
+ *          state that it leads to there is one of these. The rest of a longer buffer is untouched.
+ * Answers: WHATIF_ACCEPTED, or the first of 2, 3, 4, 5, 6, 7, 8, 9, 10, 11: 11 where sets is shorter than N. Refused,
+ *          sets is as it was.
+ */
+WHATIF_NODISCARD
+uint32_t whatif_clearing(const uint8_t *plan, size_t plan_len, const uint8_t *rules, size_t rules_len, uint16_t *sets,
+                         size_t sets_len);
 
 /*
  * Writes the tables of a plan and a branch table: those on which branch questions are answered.
@@ -1102,6 +1150,21 @@ WHATIF_NODISCARD static inline uint32_t whatif_fresh_run_told(const uint8_t *pla
     struct whatif_told now = whatif_nothing_told();
     uint32_t answer =
         whatif_fresh_run(plan, plan_len, rules, rules_len, nodes, nodes_len, labels, labels_len, &now.state, &now.yes);
+    if (answer == WHATIF_ACCEPTED)
+        *told = now;
+    return answer;
+}
+
+WHATIF_NODISCARD static inline uint32_t whatif_ask_told(const uint8_t *plan, size_t plan_len, const uint8_t *rules,
+                                                        size_t rules_len, const uint16_t *node_table,
+                                                        size_t node_table_len, const uint8_t *state_table,
+                                                        size_t state_table_len, const uint16_t *nodes, size_t nodes_len,
+                                                        const uint8_t *labels, size_t labels_len,
+                                                        struct whatif_told *told) {
+    struct whatif_told now = whatif_nothing_told();
+    uint32_t answer =
+        whatif_ask(plan, plan_len, rules, rules_len, node_table, node_table_len, state_table, state_table_len, nodes,
+                   nodes_len, labels, labels_len, &now.state, &now.yes, &now.parts, &now.links, &now.passed);
     if (answer == WHATIF_ACCEPTED)
         *told = now;
     return answer;

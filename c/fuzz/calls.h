@@ -33,8 +33,11 @@
     TRY(21, COLOUR_BRANCH_BUILD, colour_branch_build, "colour-branch-build", 1u | FROM(2, 11)) \
     TRY(22, COLOUR_BRANCH, colour_branch, "colour-branch", 1u | FROM(13, 13) | FROM(16, 18)) \
     TRY(23, COLOUR_BUILD, colour_build, "colour-build", 1u | FROM(2, 11) | FROM(27, 27)) \
-    TRY(24, COLOUR_ASK, colour_ask, "colour-ask", 1u | FROM(12, 14) | FROM(17, 18) | FROM(27, 27))
-#define TRIES 29
+    TRY(24, COLOUR_ASK, colour_ask, "colour-ask", 1u | FROM(12, 14) | FROM(17, 18) | FROM(27, 27)) \
+    TRY(29, ASK, ask, "ask", 1u | FROM(12, 14) | FROM(17, 18)) \
+    TRY(30, ALLOWED, allowed, "allowed", 1u | FROM(2, 11)) \
+    TRY(31, CLEARING, clearing, "clearing", 1u | FROM(2, 11))
+#define TRIES 32
 #define MOST_REFUSAL 27
 /* end of tries */
 

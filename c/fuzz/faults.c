@@ -26,6 +26,10 @@ uint32_t __real_whatif_agree(const uint8_t *first, size_t first_len, const uint8
                              uint16_t *lines, size_t lines_len, uint32_t *agree, uint32_t *count);
 uint32_t __real_whatif_count(PLAN_RULES, READ, const uint16_t *listed, size_t listed_len, uint64_t *counts,
                              size_t counts_len, uint32_t *parts, uint32_t *links);
+uint32_t __real_whatif_ask(PLAN_RULES, READ, LIST, uint32_t *state, uint32_t *yes, uint32_t *parts, uint32_t *links,
+                           uint32_t *passed);
+uint32_t __real_whatif_allowed(PLAN_RULES, uint64_t *masks, size_t masks_len);
+uint32_t __real_whatif_clearing(PLAN_RULES, uint16_t *sets, size_t sets_len);
 uint32_t __real_whatif_plan_of_planner(PLANNER_OUT);
 uint32_t __real_whatif_planner_of_plan(const uint8_t *plan, size_t plan_len, uint8_t *file, size_t file_len);
 uint32_t __real_whatif_start(uint8_t *record, size_t record_len, PLAN_RULES, READ, LIST, uint32_t *parts);
@@ -265,5 +269,35 @@ uint32_t __wrap_whatif_colour_ask(PLAN_RULES, READ, COLOURS, LIST, uint32_t *sta
         *yes = 1;
     if (laid(43) && answer != 0) /* refused, and told */
         *parts = 1;
+    return answer;
+}
+
+uint32_t __wrap_whatif_ask(PLAN_RULES, READ, LIST, uint32_t *state, uint32_t *yes, uint32_t *parts, uint32_t *links,
+                           uint32_t *passed) {
+    uint32_t answer = __real_whatif_ask(ALL, listed, listed_len, labels, labels_len, state, yes, parts, links, passed);
+    if (laid(45) && answer == 0) /* yes to everything */
+        *yes = 1;
+    if (laid(46) && answer == 0) /* the last part is not counted */
+        --*parts;
+    if (laid(47) && answer == 18) /* refused, and told */
+        *state = 0;
+    return answer;
+}
+
+uint32_t __wrap_whatif_allowed(PLAN_RULES, uint64_t *masks, size_t masks_len) {
+    uint32_t answer = __real_whatif_allowed(plan, plan_len, rules, rules_len, masks, masks_len);
+    if (laid(48) && answer == 0) /* every label would do at the first leaf */
+        masks[0] = (2ull << (rules[4] - 1)) - 1;
+    if (laid(49) && answer != 0 && masks_len > 0) /* a refused call writes */
+        masks[0] = 0;
+    return answer;
+}
+
+uint32_t __wrap_whatif_clearing(PLAN_RULES, uint16_t *sets, size_t sets_len) {
+    uint32_t answer = __real_whatif_clearing(plan, plan_len, rules, rules_len, sets, sets_len);
+    if (laid(50) && answer == 0) /* the first leaf's set is turned round */
+        sets[0] ^= (uint16_t)((2u << (rules[0] - 1)) - 1);
+    if (laid(51) && answer == 0 && sets_len > plan[0]) /* the excess is written */
+        sets[sets_len - 1] = 0;
     return answer;
 }

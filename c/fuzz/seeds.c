@@ -375,6 +375,35 @@ static void counts(const struct plan *p) {
     count_of(p, "-18", BEFORE, 3, list, p->s);
 }
 
+/* Masks and sets with some excess, exact behind a page, and one too short. */
+static void for_every_node(const struct plan *p) {
+    const enum try calls[] = {ALLOWED, CLEARING};
+    for (size_t i = 0; i < 2; i++) {
+        begin(calls[i], p->name, ""), put(BEFORE, 1), put(0, 4), plan_and_rules(p), put((uint32_t)p->n + 1, 2), end();
+        begin(calls[i], p->name, "-behind"), put(BEHIND, 1), put(5, 4), plan_and_rules(p), put((uint32_t)p->n, 2), end();
+        begin(calls[i], p->name, "-11"), put(BEFORE, 1), put(0, 4), plan_and_rules(p), put((uint32_t)p->n - 1, 2), end();
+    }
+}
+
+static void ask_of(const struct plan *p, const char *which, enum side side, const struct question *list) {
+    begin(ASK, p->name, which), put(side, 1), changes(list), plan_and_rules(p), tables(p, p->s), end();
+}
+
+/* A question on the tables, before and behind a page; each refusal but 17. */
+static void asks(const struct plan *p, const struct question *list) {
+    static const struct question no_label = {1, {0}, {63}};
+    const struct question outside = {1, {(uint16_t)p->n}, {0}};
+    size_t numbers_len = WHATIF_NODE_TABLE_LEN(p->n);
+    must(whatif_build(PLAN(p), RULES(p), nodes, numbers_len, states, WHATIF_STATE_TABLE_LEN(p->n, p->s)) == 0);
+    ask_of(p, "", BEFORE, list), ask_of(p, "-behind", BEHIND, list);
+    ask_of(p, "-13", BEFORE, &outside), ask_of(p, "-14", BEFORE, &no_label);
+    begin(ASK, p->name, "-12"), put(BEFORE, 1), numbers(list->nodes, list->m), bytes(list->labels, list->m - 1);
+    plan_and_rules(p), tables(p, p->s), end();
+    for (size_t i = 0; i < numbers_len; i++)
+        nodes[i] = 1;
+    ask_of(p, "-18", BEFORE, list);
+}
+
 static void screen_call(const char *name, const char *which, enum side side, enum screen_step call, uint32_t number) {
     begin(SCREEN, name, which), put(side, 1), put(call == ON_DEAL ? 4 : call, 1), put(number, 4);
 }
@@ -636,6 +665,8 @@ int main(int argc, char **argv) {
     planner_files("nine", (const uint8_t[]){5, 6, 8, 7, 0, 62, 1, 1, 9}, (const uint8_t[]){3, 1, 0, 0, 2, 1, 1, 0, 0}, 9);
     lists_over();
     counts(&sample), counts(&comb);
+    for_every_node(&sample), for_every_node(&comb);
+    asks(&sample, &questions[1]), asks(&comb, &far);
     on_screens(&sample, &questions[1]), screens_list(&sample, &questions[3]);
     on_screens(&comb, &far), screens_list(&comb, &far);
     colours(&sample), colours(&comb), sets();

@@ -5,7 +5,7 @@ use crate::cases::{list, List};
 use crate::measure::{by_turns, Pair};
 use crate::table::Single;
 use crate::tables::pair;
-use compare::inputs::{branch, lasting_branch, plan, random_branch, Case};
+use compare::inputs::{branch, lasting_branch, lasting_rules, plan, random_branch, random_rules, Case};
 use compare::random::Random;
 use compare::shapes::{kinds, Shape};
 use reference::formats::read_plan;
@@ -13,8 +13,9 @@ use reference::tree::Tree;
 use whatif::sizes::{colour_branch_bytes, colour_branch_numbers, colour_bytes, colour_numbers};
 
 const LABELS: usize = 64;
-/// Of a branch question by colours; for the other works none is set.
+/// The greatest ratios that are wanted: of a question, and of a build.
 const GOAL: f64 = 2.0;
+const BUILD_GOAL: f64 = 1.3;
 /// Questions of a turn, on one plan.
 const QUESTIONS: usize = 2_000;
 /// Those by lists of changes.
@@ -205,9 +206,19 @@ impl Questions {
     }
 }
 
-fn question_times(shape: Shape, m: usize) -> Pair {
+/// A plan with a rule table of four states under which colours fall often, or never.
+fn case_of(shape: Shape, falls: Falls, random: &mut Random) -> Case {
+    let mut case = Case::new(shape, 32_768, 4, LABELS, random);
+    case.rules = match falls {
+        Falls::Never => lasting_rules(4, LABELS, random),
+        Falls::Often | Falls::Seldom => random_rules(4, LABELS, random),
+    };
+    case
+}
+
+fn question_times(shape: Shape, falls: Falls, m: usize) -> Pair {
     let random = &mut Random::new(15);
-    let case = Case::new(shape, 32_768, 4, LABELS, random);
+    let case = case_of(shape, falls, random);
     let lists = (0..LISTS).map(|_| list(&case, m, random)).collect();
     let questions = Questions::new(case, lists);
     let wanted = questions.by_library();
@@ -218,9 +229,9 @@ fn question_times(shape: Shape, m: usize) -> Pair {
     )
 }
 
-fn build_times() -> Pair {
+fn build_times(falls: Falls) -> Pair {
     let random = &mut Random::new(15);
-    let case = Case::new(Shape::Uniform, 32_768, 4, LABELS, random);
+    let case = case_of(Shape::Uniform, falls, random);
     let buffers = || (vec![0; colour_numbers(case.n, 4)], vec![0; colour_bytes(case.n, 4)]);
     let (mut mine, mut other) = (buffers(), buffers());
     by_turns(
@@ -241,10 +252,13 @@ const SHAPES: [(&str, Shape, usize, Falls); 6] = [
     ("random, N 65,535, S 16, falls often", Shape::Uniform, 16, Falls::Often),
     ("balanced, N 65,535, S 16, falls often", Shape::Balanced, 16, Falls::Often),
 ];
-const LISTS_OF: [(&str, Shape, usize); 3] = [
-    ("random, N 65,535, S 4, K 64, m 1", Shape::Uniform, 1),
-    ("random, N 65,535, S 4, K 64, m 8", Shape::Uniform, 8),
-    ("left comb, N 65,535, S 4, K 64, m 8", Shape::LeftComb, 8),
+const LISTS_OF: [(&str, Shape, Falls, usize); 6] = [
+    ("random, N 65,535, S 4, K 64, m 1, falls often", Shape::Uniform, Falls::Often, 1),
+    ("random, N 65,535, S 4, K 64, m 8, falls often", Shape::Uniform, Falls::Often, 8),
+    ("random, N 65,535, S 4, K 64, m 8, falls never", Shape::Uniform, Falls::Never, 8),
+    ("left comb, N 65,535, S 4, K 64, m 1, falls often", Shape::LeftComb, Falls::Often, 1),
+    ("left comb, N 65,535, S 4, K 64, m 8, falls often", Shape::LeftComb, Falls::Often, 8),
+    ("left comb, N 65,535, S 4, K 64, m 8, falls never", Shape::LeftComb, Falls::Never, 8),
 ];
 
 /// Those whose work has this text in its name, each handed on when it is measured.
@@ -256,22 +270,20 @@ pub fn singles(wanted: &str, keep: &mut dyn FnMut(Single)) {
             keep(Single { work: question, on, goal: GOAL, times: branches.question() });
             keep(Single { work: BESIDE, on, goal: f64::INFINITY, times: branches.beside_the_climb() });
             if falls == Falls::Often {
-                keep(Single { work: build, on, goal: f64::INFINITY, times: branches.build() });
+                keep(Single { work: build, on, goal: BUILD_GOAL, times: branches.build() });
             }
         }
     }
     if "question by colours".contains(wanted) {
-        for (on, shape, m) in LISTS_OF {
-            keep(Single { work: "question by colours", on, goal: f64::INFINITY, times: question_times(shape, m) });
+        for (on, shape, falls, m) in LISTS_OF {
+            keep(Single { work: "question by colours", on, goal: GOAL, times: question_times(shape, falls, m) });
         }
     }
     if "colour build".contains(wanted) {
-        keep(Single {
-            work: "colour build",
-            on: "random, N 65,535, S 4, K 64",
-            goal: f64::INFINITY,
-            times: build_times(),
-        });
+        let (often, never) = ("random, N 65,535, S 4, K 64, falls often", "random, N 65,535, S 4, K 64, falls never");
+        for (on, falls) in [(often, Falls::Often), (never, Falls::Never)] {
+            keep(Single { work: "colour build", on, goal: BUILD_GOAL, times: build_times(falls) });
+        }
     }
 }
 

@@ -24,6 +24,7 @@ mod screens;
 mod sessions;
 mod table;
 mod tables;
+mod whole;
 
 use std::process::exit;
 use table::{Row, Single};
@@ -102,10 +103,11 @@ fn rows(wanted: &str, mut measured: impl FnMut(&Row)) -> Vec<Row> {
     table::in_order(rows)
 }
 
-/// What is measured without a question: counts of choices, on rule tables alone, on planner's files; eight screens beside
+/// What is measured without a session: whole questions, allowed labels, counts of choices, on rule tables alone, on planner's files; eight screens beside
 /// single sessions; and by colours.
 fn singles(wanted: &str) -> Vec<Single> {
     let mut singles = Vec::new();
+    whole::singles(wanted, &mut |single| singles.push(single));
     choices::singles(wanted, &mut |single| singles.push(single));
     rule_tables::singles(wanted, &mut |single| singles.push(single));
     planner::singles(wanted, &mut |single| singles.push(single));

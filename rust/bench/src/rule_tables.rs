@@ -1,11 +1,11 @@
-//! The calls on two rule tables, without a plan: merge, and whether they agree.
+//! The calls on two rule tables, without a plan: merge, and whether they agree; and one list of changes laid over another.
 
 use crate::measure::{by_turns, Pair};
 use crate::table::Single;
 use compare::inputs::random_rules;
 use compare::random::Random;
 use compare::slices;
-use whatif::sizes::{rules_bytes, MAX_LINES, MAX_STATES};
+use whatif::sizes::{rules_bytes, MAX_CHANGES, MAX_LINES, MAX_STATES};
 
 /// Pairs of tables in a turn.
 const PAIRS: usize = 65;
@@ -40,6 +40,10 @@ fn merge() -> Pair {
     times
 }
 
+/// The greatest ratios that are wanted; plain Rust lays over by one sort, the library by insertion.
+const AGREE_GOAL: f64 = 1.5;
+const LAY_OVER_GOAL: f64 = 10.0;
+
 /// Pairs of the largest tables in a turn: the search for each is long.
 const FEW: usize = 3;
 
@@ -57,17 +61,74 @@ fn largest(random: &mut Random) -> Tables {
     }
 }
 
-fn agree() -> Pair {
+/// A table of 16 states, and the same with one entry edited: the next state.
+fn edited(random: &mut Random) -> Tables {
+    let table = random_rules(MAX_STATES, LABELS, random);
+    let mut other = table.clone();
+    let at = 20 + LABELS + random.below(MAX_STATES * LABELS * MAX_STATES);
+    other[at] = (other[at] + 1) % MAX_STATES as u8;
+    [table, other]
+}
+
+/// By each side: whether the pairs agree, and the lines shown for each.
+fn agree(count: usize, pair: fn(&mut Random) -> Tables) -> Pair {
     let random = &mut Random::new(6);
-    let pairs: Vec<Tables> = (0..FEW).map(|_| largest(random)).collect();
-    let mut lines = [0; 4 * MAX_LINES];
+    let pairs: Vec<Tables> = (0..count).map(|_| pair(random)).collect();
+    let (mut mine, mut other) = ([0; 4 * MAX_LINES], [0; 4 * MAX_LINES]);
+    let mut library = || {
+        let told = pairs.iter().map(|[first, second]| {
+            let mut out = [0; 2];
+            assert_eq!(slices::agree(first, second, &mut mine, &mut out), 0, "accepted");
+            out[0] + 2 * out[1]
+        });
+        told.sum::<u32>()
+    };
+    let mut plain = || {
+        let told = pairs.iter().map(|[first, second]| {
+            let (agree, count) = yardstick::agree(first, second, &mut other).expect("accepted");
+            u32::from(agree) + 2 * count as u32
+        });
+        told.sum::<u32>()
+    };
+    let wanted = library();
     by_turns(
-        FEW,
-        || assert!(pairs.iter().all(|[first, second]| whatif::agree(first, second) == Ok(None)), "they agree"),
-        || {
-            let mut agree = |first: &[u8], second: &[u8]| yardstick::agree(first, second, &mut lines) == Ok((true, 0));
-            assert!(pairs.iter().all(|[first, second]| agree(first, second)), "they agree");
-        },
+        count,
+        || assert_eq!(library(), wanted, "both show as much"),
+        || assert_eq!(plain(), wanted, "both show as much"),
+    )
+}
+
+/// Two lists of so many entries, some nodes in both.
+fn lay_over(entries: usize) -> Pair {
+    let random = &mut Random::new(9);
+    let mut list = || {
+        let nodes: Vec<u16> = (0..entries).map(|_| random.below(2 * entries) as u16).collect();
+        (nodes, random.bytes_below(entries, LABELS))
+    };
+    let pairs: Vec<_> = (0..PAIRS).map(|_| [list(), list()]).collect();
+    let (mut nodes, mut labels) = ([0; MAX_CHANGES], [0; MAX_CHANGES]);
+    let (mut plain_nodes, mut plain_labels) = (nodes, labels);
+    let mut library = || {
+        let laid = pairs.iter().map(|[lower, upper]| {
+            let (lower, upper) = ((&lower.0[..], &lower.1[..]), (&upper.0[..], &upper.1[..]));
+            let count = whatif::lay_over(lower, upper, &mut nodes, &mut labels).expect("accepted");
+            count + usize::from(nodes[count - 1]) + usize::from(labels[count - 1])
+        });
+        laid.sum::<usize>()
+    };
+    let mut plain = || {
+        let laid = pairs.iter().map(|[lower, upper]| {
+            let (lower, upper) = ((&lower.0[..], &lower.1[..]), (&upper.0[..], &upper.1[..]));
+            let count = yardstick::lay_over(lower, upper, &mut plain_nodes, &mut plain_labels).expect("accepted");
+            count + usize::from(plain_nodes[count - 1]) + usize::from(plain_labels[count - 1])
+        });
+        laid.sum::<usize>()
+    };
+    let wanted = library();
+    by_turns(
+        PAIRS,
+        || assert_eq!(library(), wanted, "both lay the same"),
+        || assert_eq!(plain(), wanted, "both lay the same"),
     )
 }
 
@@ -77,7 +138,14 @@ pub fn singles(wanted: &str, keep: &mut dyn FnMut(Single)) {
         keep(Single { work: "merge", on: "4 and 4 states, K 64", goal: 2.0, times: merge() });
     }
     if "agree".contains(wanted) {
-        keep(Single { work: "agree", on: "16 and 16 states, all 256 pairs, K 64", goal: 1.5, times: agree() });
+        let (all, one) = ("16 and 16 states, all 256 pairs, they agree, K 64", "16 states, one entry edited, K 64");
+        keep(Single { work: "agree", on: all, goal: AGREE_GOAL, times: agree(FEW, largest) });
+        keep(Single { work: "agree", on: one, goal: AGREE_GOAL, times: agree(PAIRS, edited) });
+    }
+    if "lay over".contains(wanted) {
+        for (on, entries) in [("1 entry each", 1), ("8 entries each", 8), ("32 entries each", 32)] {
+            keep(Single { work: "lay over", on, goal: LAY_OVER_GOAL, times: lay_over(entries) });
+        }
     }
 }
 

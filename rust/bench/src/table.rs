@@ -31,7 +31,7 @@ const fn work(name: &'static str, goal: Option<f64>, of: For) -> Work {
 /// What is measured, in the order of the table. All but two are compared with plain Rust.
 const WORKS: [Work; 16] = [
     work("Load", Some(1.5), For::All),
-    work("full check", None, For::All),
+    work("full check", Some(1.1), For::All),
     work("fresh run", Some(1.1), For::All),
     work("roots", Some(2.0), For::All),
     work("part", Some(2.0), For::All),
@@ -43,7 +43,7 @@ const WORKS: [Work; 16] = [
     work(START_BESIDE, None, For::Largest),
     work(ADVANCES_BESIDE, Some(1.0), For::Largest),
     work("branch build", Some(2.0), For::All),
-    work("branch check", None, For::All),
+    work("branch check", Some(1.1), For::All),
     work("branch question", Some(1.3), For::All),
     work("branch question with upper", Some(1.3), For::All),
 ];

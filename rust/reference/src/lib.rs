@@ -13,6 +13,7 @@
 //! A refusal is its number. Nothing here is fast, and nothing is shared with the library.
 
 pub mod agree;
+pub mod allowed;
 pub mod branch;
 pub mod causes;
 pub mod climb;
@@ -36,6 +37,7 @@ pub mod screens;
 pub mod session;
 pub mod tables;
 pub mod tree;
+pub mod whole;
 pub mod write;
 
 use formats::{read_branch, read_plan, read_rules, Plan};

@@ -250,6 +250,50 @@ extern "C" {
         yes: *mut u32,
     ) -> u32;
 
+    /// Ask: a whole question at once, outside the session.
+    /// Answers 0, or the first of 17, 12, 13, 14, 18.
+    pub fn whatif_ask(
+        plan: *const u8,
+        plan_len: usize,
+        rules: *const u8,
+        rules_len: usize,
+        node_table: *const u16,
+        node_table_len: usize,
+        state_table: *const u8,
+        state_table_len: usize,
+        nodes: *const u16,
+        nodes_len: usize,
+        labels: *const u8,
+        labels_len: usize,
+        state: *mut u32,
+        yes: *mut u32,
+        parts: *mut u32,
+        links: *mut u32,
+        passed: *mut u32,
+    ) -> u32;
+
+    /// Allowed labels: for each node, with which labels is the plan cleared?
+    /// Answers 0, or the first of 2, 3, 4, 5, 6, 7, 8, 9, 10, 11.
+    pub fn whatif_allowed(
+        plan: *const u8,
+        plan_len: usize,
+        rules: *const u8,
+        rules_len: usize,
+        masks: *mut u64,
+        masks_len: usize,
+    ) -> u32;
+
+    /// Clearing states: for each node, with which states of its subtree is the plan cleared?
+    /// Answers 0, or the first of 2, 3, 4, 5, 6, 7, 8, 9, 10, 11.
+    pub fn whatif_clearing(
+        plan: *const u8,
+        plan_len: usize,
+        rules: *const u8,
+        rules_len: usize,
+        sets: *mut u16,
+        sets_len: usize,
+    ) -> u32;
+
     /// Build of branch tables: writes the tables of a plan and a branch table.
     /// Answers 0, or the first of 2, 3, 4, 5, 6, 7, 8, 9, 10, 11.
     pub fn whatif_branch_build(

@@ -2,7 +2,8 @@
 
 use crate::lists::Split;
 use crate::sizes::{node_table_len, state_table_len};
-use crate::{count, fresh_run, Change, Counts, Kind, Lent, Plan, Refusal, Rules, Verdict};
+use crate::{allowed, ask, clearing, count, fresh_run};
+use crate::{Answer, Change, Counts, Kind, LabelSet, Lent, Plan, Refusal, Rules, StateSet, Verdict};
 use alloc::vec;
 use alloc::vec::Vec;
 
@@ -67,6 +68,23 @@ impl Buffers {
     pub(crate) fn fresh_run(&self, changes: &[Change]) -> Result<Verdict, Refusal> {
         let list = Split::of(changes);
         fresh_run(self.plan.as_bytes(), self.rules.as_bytes(), list.nodes(), list.labels())
+    }
+
+    pub(crate) fn what_if(&self, changes: &[Change]) -> Result<Answer, Refusal> {
+        let list = Split::of(changes);
+        ask(&self.lent(), list.nodes(), list.labels())
+    }
+
+    pub(crate) fn allowed(&self) -> Result<Vec<LabelSet>, Refusal> {
+        let mut masks = vec![0; self.plan.nodes()];
+        allowed(self.plan.as_bytes(), self.rules.as_bytes(), &mut masks)?;
+        Ok(masks.into_iter().map(LabelSet::from_bits).collect())
+    }
+
+    pub(crate) fn clearing(&self) -> Result<Vec<StateSet>, Refusal> {
+        let mut sets = vec![0; self.plan.nodes()];
+        clearing(self.plan.as_bytes(), self.rules.as_bytes(), &mut sets)?;
+        Ok(sets.into_iter().map(StateSet::from_bits).collect())
     }
 
     pub(crate) fn count(&self, nodes: &[u16]) -> Result<Counts, Refusal> {

@@ -27,6 +27,8 @@
 //! | the same on up to eight screens | [`Mill`] |
 //! | one verdict, without tables | [`Panel::fresh_run`], [`fresh_run`] |
 //! | a go-ahead before a blank is cut | [`Panel::confirm`] |
+//! | many whole questions on tables of one's own, any number of states | [`Panel::what_if`], [`ask()`] |
+//! | which labels would do, for every node at once | [`Panel::allowed`], [`Panel::clearing`] |
 //! | many whole questions, fast, with at most four states | [`RuleColours`] |
 //! | what the labels on the way down to a node come to | [`Branches`], or [`BranchColours`] on deep plans |
 //! | how many choices of labels clear the plan | [`Panel::count`] |
@@ -56,6 +58,8 @@ extern crate std;
 
 mod advances;
 mod agree;
+mod allowed;
+mod ask;
 mod branch;
 mod colours;
 mod confirm;
@@ -74,6 +78,8 @@ mod why;
 
 pub use advances::{Advances, Part};
 pub use agree::{agree, Line, SeparatingPlan};
+pub use allowed::{allowed, clearing, LabelSet, Members, StateSet};
+pub use ask::ask;
 pub use branch::{branch, branch_build, branch_check, branch_with_upper, BranchVerdict};
 pub use colours::{colour_ask, colour_build, ColourAnswer};
 pub use colours::{colour_branch, colour_branch_build, colour_branch_with_upper, ColourVerdict};

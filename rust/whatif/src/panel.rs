@@ -2,7 +2,9 @@
 
 use crate::buffers::{Buffers, Node};
 use crate::lists::Split;
-use crate::{Advances, Answer, Change, Counts, Lent, Plan, Progress, Refusal, Rules, Session, Unconfirmed, Verdict};
+use crate::{Advances, Answer, Change, Counts, LabelSet, Lent, Plan, Progress, Refusal, Rules, Session, StateSet};
+use crate::{Unconfirmed, Verdict};
+use alloc::vec::Vec;
 use core::fmt;
 
 /// A panel with a plan loaded: it owns the plan, the rules, their tables and the session. So nothing can be exchanged
@@ -174,6 +176,57 @@ impl Panel {
     /// 12, 13, 14.
     pub fn fresh_run(&self, changes: &[Change]) -> Result<Verdict, Refusal> {
         self.buffers.fresh_run(changes)
+    }
+
+    /// A whole question at once on the tables, outside the session: the answer that [`ask`](Panel::ask) gives. It does
+    /// not check the tables first, so that it takes microseconds. [`confirm`](Panel::confirm) knows nothing of it: before
+    /// a blank is cut, ask in the session.
+    ///
+    /// # Errors
+    /// 12, 13, 14.
+    ///
+    /// ```
+    /// # use whatif::{Kind::Leaf, Panel, Plan, Rules};
+    /// # let mut panel = Panel::new(Plan::new(&[0], &[Leaf])?, Rules::new(&[0, 1, 1], &[0; 12], &[false, true])?)?;
+    /// for label in 0..3 {
+    ///     assert_eq!(panel.what_if(&[(0, label)])?.yes, label > 0);
+    /// }
+    /// assert_eq!(panel.what_if(&[(0, 1)])?, panel.ask(&[(0, 1)])?);
+    /// # Ok::<(), whatif::Refusal>(())
+    /// ```
+    pub fn what_if(&self, changes: &[Change]) -> Result<Answer, Refusal> {
+        self.buffers.what_if(changes)
+    }
+
+    /// Which labels may each node take, all other nodes as they are, so that the plan is cleared? A set for each node,
+    /// by one run up the plan and one down. A node's own label is in its set exactly where the plan is cleared as it is.
+    ///
+    /// # Errors
+    /// None comes unless the memory itself is damaged.
+    ///
+    /// ```
+    /// # use whatif::{Kind::{Inner, Leaf}, Panel, Plan, Rules};
+    /// let plan = Plan::new(&[1, 0, 0], &[Leaf, Leaf, Inner])?;
+    /// let panel = Panel::new(plan, Rules::from_fn(2, 2, |a| a, |p, _, q| p.min(q), |state| state == 1)?)?;
+    /// for (node, labels) in panel.allowed()?.into_iter().enumerate() {
+    ///     for label in labels {
+    ///         println!("node {} may take label {}", node, label); // node 1 may take label 1
+    ///         assert!(panel.what_if(&[(node as u16, label)])?.yes);
+    ///     }
+    /// }
+    /// # Ok::<(), whatif::Refusal>(())
+    /// ```
+    pub fn allowed(&self) -> Result<Vec<LabelSet>, Refusal> {
+        self.buffers.allowed()
+    }
+
+    /// With which states of each node's subtree is the plan cleared, all else as it is? A set for each node: why a
+    /// change is enough where it is.
+    ///
+    /// # Errors
+    /// None comes unless the memory itself is damaged.
+    pub fn clearing(&self) -> Result<Vec<StateSet>, Refusal> {
+        self.buffers.clearing()
     }
 
     /// How many choices of labels for these nodes, each listed once, end in each state?

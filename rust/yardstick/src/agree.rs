@@ -1,8 +1,11 @@
-//! Whether two rule tables agree: a search of the pairs of states that plans reach, in the library's order.
+//! Whether two rule tables agree: a search of the pairs of states that plans reach, in the library's order. It ends at the
+//! first pair whose marks differ.
 
 use crate::checks::{self, Rules};
 
-struct Search {
+struct Search<'a> {
+    a: &'a Rules<'a>,
+    b: &'a Rules<'a>,
     /// Kind, label, left line, right line.
     lines: [[u8; 4]; 256],
     /// The pair of states of each line, as a number.
@@ -11,26 +14,45 @@ struct Search {
     count: usize,
 }
 
-impl Search {
+impl Search<'_> {
+    /// A line for the states x and y, if there is none yet. Do their marks differ?
     #[inline]
-    fn found(&mut self, code: u8, line: [u8; 4]) {
-        if !self.seen[code as usize] {
-            self.seen[code as usize] = true;
-            self.lines[self.count] = line;
-            self.codes[self.count] = code;
-            self.count += 1;
+    fn found(&mut self, x: u8, y: u8, line: [u8; 4]) -> bool {
+        let code = x * self.b.s as u8 + y;
+        if self.seen[code as usize] {
+            return false;
         }
+        self.seen[code as usize] = true;
+        self.lines[self.count] = line;
+        self.codes[self.count] = code;
+        self.count += 1;
+        self.a.marks[x as usize] != self.b.marks[y as usize]
     }
 
-    /// Every label over two lines.
-    fn over_labels(&mut self, a: &Rules, b: &Rules, left: usize, right: usize) {
+    /// Every label over two lines, until a pair differs.
+    fn over_labels(&mut self, left: usize, right: usize) -> bool {
         let (p, q) = (self.codes[left] as usize, self.codes[right] as usize);
-        let (k, s2) = (a.k, b.s);
-        for l in 0..k {
-            let x = a.inner[((p / s2) * k + l) * a.s + q / s2];
-            let y = b.inner[((p % s2) * k + l) * s2 + q % s2];
-            self.found(x * s2 as u8 + y, [1, l as u8, left as u8, right as u8]);
+        let (k, s1, s2) = (self.a.k, self.a.s, self.b.s);
+        (0..k).any(|l| {
+            let x = self.a.inner[((p / s2) * k + l) * s1 + q / s2];
+            let y = self.b.inner[((p % s2) * k + l) * s2 + q % s2];
+            self.found(x, y, [1, l as u8, left as u8, right as u8])
+        })
+    }
+
+    /// Does some plan separate the tables? Then the last line is its root.
+    fn separates(&mut self) -> bool {
+        if (0..self.a.k).any(|l| self.found(self.a.leaf[l], self.b.leaf[l], [0, l as u8, 0, 0])) {
+            return true;
         }
+        let mut n = 0;
+        while n < self.count {
+            if (0..=n).any(|j| self.over_labels(n, j) || self.over_labels(j, n)) {
+                return true;
+            }
+            n += 1;
+        }
+        false
     }
 }
 
@@ -41,28 +63,15 @@ pub fn agree(first: &[u8], second: &[u8], lines: &mut [u16]) -> Result<(bool, us
     if a.k != b.k {
         return Err(23);
     }
-    let mut search = Search { lines: [[0; 4]; 256], codes: [0; 256], seen: [false; 256], count: 0 };
-    for l in 0..a.k {
-        search.found(a.leaf[l] * b.s as u8 + b.leaf[l], [0, l as u8, 0, 0]);
+    let mut search = Search { a: &a, b: &b, lines: [[0; 4]; 256], codes: [0; 256], seen: [false; 256], count: 0 };
+    if !search.separates() {
+        return Ok((true, 0));
     }
-    let mut n = 0;
-    while n < search.count {
-        for j in 0..=n {
-            search.over_labels(&a, &b, n, j);
-            search.over_labels(&a, &b, j, n);
-        }
-        n += 1;
-    }
-    let differs = |code: &u8| a.marks[*code as usize / b.s] != b.marks[*code as usize % b.s];
-    let shown = match search.codes[..search.count].iter().position(differs) {
-        None => return Ok((true, 0)),
-        Some(at) => at + 1,
-    };
-    if lines.len() < 4 * shown {
+    if lines.len() < 4 * search.count {
         return Err(11);
     }
-    for (to, line) in lines.chunks_exact_mut(4).zip(&search.lines[..shown]) {
+    for (to, line) in lines.chunks_exact_mut(4).zip(&search.lines[..search.count]) {
         to.iter_mut().zip(line).for_each(|(to, &number)| *to = u16::from(number));
     }
-    Ok((false, shown))
+    Ok((false, search.count))
 }

@@ -1,7 +1,7 @@
 //! Branch questions by colours: the build of their tables and the question, in both readings.
 
 use crate::checks::{self, number};
-use crate::colours::{self, descend, take_in_turn};
+use crate::colours::{self, descend, node};
 use crate::node_tables::{PARENT, SIZE};
 
 pub fn colour_branch_build(plan: &[u8], branch: &[u8], numbers: &mut [u16], bytes: &mut [u8]) -> Result<(), u32> {
@@ -14,24 +14,20 @@ pub fn colour_branch_build(plan: &[u8], branch: &[u8], numbers: &mut [u16], byte
     }
     let (numbers, bytes) = (&mut numbers[..4 * n * s], &mut bytes[..n * s]);
     colours::node_table(plan.kinds, numbers);
-    let mut above: [u8; 16] = std::array::from_fn(|q| q as u8);
-    let mut led = [0; 16];
-    for v in (0..n).rev() {
-        if v + 1 < n {
-            let p = numbers[4 * v + PARENT] as usize;
-            above[..s].copy_from_slice(&bytes[p * s..(p + 1) * s]);
-        }
-        let a = plan.labels[v] as usize;
-        for (to, &q) in led.iter_mut().zip(&above[..s]) {
-            *to = branch.steps[q as usize * k + a];
-        }
-        take_in_turn(&led[..s], &mut bytes[v * s..(v + 1) * s], |c, d| {
-            if c > 0 {
-                numbers[(c * n + v) * 4 + colours::LANDS] = u16::from(d);
-            }
-        });
+    // for each label, the state that each state leads to
+    let mut steps = [[0; 16]; 64];
+    for (q, row) in branch.steps.chunks_exact(k).enumerate() {
+        steps.iter_mut().zip(row).for_each(|(step, &to)| step[q] = to);
     }
-    colours::rows(numbers, n, s);
+    let each: [u8; 16] = std::array::from_fn(|q| q as u8);
+    let top = &steps[plan.labels[n - 1] as usize];
+    node(top, &each[..s], &mut bytes[(n - 1) * s..], numbers, n, n - 1, None);
+    for v in (0..n - 1).rev() {
+        let p = numbers[4 * v + PARENT] as usize;
+        let (before, own_on) = bytes.split_at_mut(p * s);
+        let step = &steps[plan.labels[v] as usize];
+        node(step, &own_on[..s], &mut before[v * s..(v + 1) * s], numbers, n, v, Some(p));
+    }
     Ok(())
 }
 

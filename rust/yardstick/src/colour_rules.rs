@@ -1,7 +1,7 @@
 //! Questions by colours, over sets of at most four states as bits of a byte: the build of their tables and the question.
 
 use crate::checks;
-use crate::colours::{self, descend, take_in_turn};
+use crate::colours::{descend, node};
 use crate::count::lent;
 use crate::node_tables::{PARENT, SIZE};
 use crate::question::Lent;
@@ -25,34 +25,35 @@ pub fn colour_build(plan: &[u8], rules: &[u8], numbers: &mut [u16], bytes: &mut 
     let (numbers, bytes) = (&mut numbers[..4 * n * sets], &mut bytes[..base + n * sets]);
     rules::build(plan, rules, numbers, bytes)?;
     let (states, copies) = bytes.split_at_mut(base);
-    let mut above: [u8; 16] = std::array::from_fn(|set| set as u8);
-    let mut led = [0; 16];
-    for v in (0..n).rev() {
-        // the state at the parent for each state at v; of the root itself
-        let mut up: [u8; 4] = [0, 1, 2, 3];
-        if v + 1 < n {
-            let p = numbers[4 * v + PARENT] as usize;
-            above[..sets].copy_from_slice(&copies[p * sets..(p + 1) * sets]);
-            let a = parts.labels[p] as usize;
-            let right = p == v + 1;
-            let sibling = if right { v - numbers[4 * v + SIZE] as usize } else { p - 1 };
-            let beside = states[sibling * (s + 1)] as usize;
-            for (q, to) in up[..s].iter_mut().enumerate() {
-                let (l, r) = if right { (beside, q) } else { (q, beside) };
-                *to = table.inner[(l * k + a) * s + r];
-            }
-        }
-        for (to, &set) in led.iter_mut().zip(&above[..sets]) {
-            *to = up[..s].iter().enumerate().fold(0, |led, (q, &up)| led | (set >> up & 1) << q);
-        }
-        take_in_turn(&led[..sets], &mut copies[v * sets..(v + 1) * sets], |c, d| {
-            if c > 0 {
-                numbers[(c * n + v) * 4 + colours::LANDS] = u16::from(d);
-            }
-        });
+    let each: [u8; 16] = std::array::from_fn(|set| set as u8);
+    node(&each, &each[..sets], &mut copies[(n - 1) * sets..], numbers, n, n - 1, None);
+    for v in (0..n - 1).rev() {
+        let p = numbers[4 * v + PARENT] as usize;
+        let a = parts.labels[p] as usize;
+        let right = p == v + 1;
+        let sibling = if right { v - numbers[4 * v + SIZE] as usize } else { p - 1 };
+        let beside = states[sibling * (s + 1)] as usize;
+        let (first, stride) = if right { ((beside * k + a) * s, 1) } else { (a * s + beside, k * s) };
+        let step = preimages((0..s).map(|q| table.inner[first + q * stride]));
+        let (before, own_on) = copies.split_at_mut(p * sets);
+        node(&step, &own_on[..sets], &mut before[v * sets..(v + 1) * sets], numbers, n, v, Some(p));
     }
-    colours::rows(numbers, n, sets);
     Ok(())
+}
+
+/// For each set of states at a node, the set of the states at its child that lead into it: eight sets in a number.
+#[inline(always)]
+fn preimages(ups: impl Iterator<Item = u8>) -> [u8; 16] {
+    const ONES: u64 = 0x0101_0101_0101_0101;
+    let (mut low, mut high) = (0u64, 0u64);
+    for (q, up) in ups.enumerate() {
+        low |= ((0x0706_0504_0302_0100 >> (up & 7)) & ONES) << q;
+        high |= ((0x0f0e_0d0c_0b0a_0908 >> (up & 7)) & ONES) << q;
+    }
+    let mut step = [0; 16];
+    step[..8].copy_from_slice(&low.to_le_bytes());
+    step[8..].copy_from_slice(&high.to_le_bytes());
+    step
 }
 
 /// What a question by colours tells, or one part of it.

@@ -10,22 +10,75 @@ use crate::node_tables::{self, DEPTH, JUMP, PARENT, SIZE};
 /// The place of the colour that a colour lands on, in its table.
 pub const LANDS: usize = SIZE;
 
-/// A node's copy from the states that the colours' states above lead to; `lands(c, d)` is handed what each lands on.
-#[inline]
-pub fn take_in_turn(led: &[u8], copy: &mut [u8], mut lands: impl FnMut(usize, u8)) {
-    let mut owner = [u8::MAX; 16];
-    let mut free = 0;
-    for (c, (&q, to)) in led.iter().zip(copy).enumerate() {
-        let mut taken = q;
-        if owner[q as usize] != u8::MAX {
-            while owner[free] != u8::MAX {
-                free += 1;
-            }
-            taken = free as u8;
+/// For a parent of depth d: all bits where its jump and the jump after it are equally long, so that its children's jump
+/// leads over both; else 0. Deeper parents compare depths.
+static FAR: [u16; 1023] = far_masks();
+
+const fn far_masks() -> [u16; 1023] {
+    let (mut masks, mut jumps, mut d) = ([0; 1023], [0usize; 1024], 0);
+    while d < 1023 {
+        let j = jumps[d];
+        let far = d - j == j - jumps[j];
+        masks[d] = if far { u16::MAX } else { 0 };
+        jumps[d + 1] = if far { jumps[j] } else { d };
+        d += 1;
+    }
+    masks
+}
+
+/// The state q where it is free, else the lowest free one; it is taken.
+#[inline(always)]
+fn take(free: &mut u16, q: usize) -> usize {
+    let taken = if *free >> q & 1 == 1 { q } else { free.trailing_zeros() as usize } & 15;
+    *free &= !(1 << taken);
+    taken
+}
+
+/// Parent, jump and depth of node v among the nodes where colour c falls, below its parent p in the plan. Chosen by masks:
+/// whether a colour falls is hard to predict.
+#[inline(always)]
+fn row_below(table: &[u16], c: usize, v: usize, p: usize) -> [u16; 3] {
+    let above = &table[4 * p..][..4];
+    let (up, jump, depth) = (above[PARENT], above[JUMP], above[DEPTH]);
+    let over = &table[4 * jump as usize..][..4];
+    let beyond = over[JUMP];
+    let far = match FAR.get(depth as usize) {
+        Some(&mask) => mask,
+        None => u16::from(depth - over[DEPTH] == over[DEPTH] - table[4 * beyond as usize + DEPTH]).wrapping_neg(),
+    };
+    let falls = u16::from(usize::from(above[LANDS]) < c).wrapping_neg();
+    let none = u16::from(depth == 0).wrapping_neg() & !falls;
+    let (v, p) = (v as u16, p as u16);
+    let choose = |mask: u16, yes: u16, no: u16| no ^ ((no ^ yes) & mask);
+    let to = choose(far, beyond, p);
+    [choose(none, v, choose(falls, p, up)), choose(none, v, choose(falls, to, jump)), depth.wrapping_sub(falls)]
+}
+
+/// Node v's copy, what each of its colours lands on, and its row in the table of each colour but the lowest; `step` has the
+/// state that each state above leads to, `above` the parent's copy. For the root `parent` is none.
+#[inline(always)]
+pub fn node(
+    step: &[u8; 16],
+    above: &[u8],
+    copy: &mut [u8],
+    numbers: &mut [u16],
+    n: usize,
+    v: usize,
+    parent: Option<usize>,
+) {
+    let (mut owner, mut free) = ([0u8; 16], u16::MAX);
+    for (c, ((&state, to), table)) in above.iter().zip(copy).zip(numbers.chunks_exact_mut(4 * n)).enumerate() {
+        let q = usize::from(step[usize::from(state & 15)] & 15);
+        let taken = take(&mut free, q);
+        owner[taken] = c as u8;
+        *to = taken as u8;
+        if c > 0 {
+            let [up, jump, depth] = match parent {
+                Some(p) => row_below(table, c, v, p),
+                None => node_tables::root(n),
+            };
+            table[4 * v..][..4].copy_from_slice(&[up, jump, depth, u16::from(owner[q])]);
         }
-        owner[taken as usize] = c as u8;
-        *to = taken;
-        lands(c, owner[q as usize]);
     }
 }
 
@@ -47,34 +100,6 @@ pub fn node_table(kinds: &[u8], numbers: &mut [u16]) {
         let jump = node_tables::jump(numbers, numbers[4 * v + PARENT] as usize);
         numbers[4 * v + JUMP] = jump.to;
         numbers[4 * v + DEPTH] = jump.depth;
-    }
-}
-
-/// The rows of the colours from 1 on, where their fourth numbers are there and the node table before them.
-pub fn rows(numbers: &mut [u16], n: usize, colours: usize) {
-    let (node_table, tables) = numbers.split_at_mut(4 * n);
-    for (c, table) in (1..colours).zip(tables.chunks_exact_mut(4 * n)) {
-        let root = n - 1;
-        table[4 * root..4 * root + 3].copy_from_slice(&node_tables::root(n));
-        for v in (0..root).rev() {
-            let above = node_table[4 * v + PARENT] as usize;
-            let falls = usize::from(table[4 * above + LANDS]) < c;
-            let (up, depth) = (table[4 * above + PARENT], table[4 * above + DEPTH]);
-            let (parent, depth) = match (falls, depth) {
-                (true, _) => (above, depth + 1),
-                (false, 0) => (v, 0),
-                (false, _) => (up as usize, depth),
-            };
-            // where the parent's parent is the same, so is the jump
-            let jump = match (falls, depth) {
-                (_, 0) => v as u16,
-                (true, _) => node_tables::jump(table, above).to,
-                (false, _) => table[4 * above + JUMP],
-            };
-            table[4 * v + PARENT] = parent as u16;
-            table[4 * v + JUMP] = jump;
-            table[4 * v + DEPTH] = depth;
-        }
     }
 }
 

@@ -2,6 +2,8 @@
 //! that it makes. The tests run them from fixed seeds and ask what came; the program runs them all, round after round.
 
 pub mod agreements;
+pub mod allowed;
+pub mod asks;
 pub mod branch_questions;
 pub mod builds;
 pub mod call_lists;
@@ -38,7 +40,7 @@ pub struct Round {
     compare: fn(&mut Random, &mut Counts),
 }
 
-pub const ROUNDS: [Round; 24] = [
+pub const ROUNDS: [Round; 26] = [
     Round { name: "builds", compare: builds::round },
     Round { name: "full checks", compare: full_checks::round },
     Round { name: "fresh runs", compare: fresh_runs::round },
@@ -56,6 +58,8 @@ pub const ROUNDS: [Round; 24] = [
     Round { name: "planner files", compare: planner_files::round },
     Round { name: "laying over", compare: lay_overs::round },
     Round { name: "choices", compare: choices::round },
+    Round { name: "allowed labels", compare: allowed::round },
+    Round { name: "whole questions", compare: asks::round },
     Round { name: "screen lists", compare: screen_lists::round },
     Round { name: "screen refusals", compare: screen_refusals::round },
     Round { name: "colours of words", compare: colour_branches::round },

@@ -3,11 +3,15 @@
 //! the answer is 0. For this crate's own functions, and by its path for the comparison, which looks at every number.
 #![allow(missing_docs)]
 
+mod allowed;
+mod ask;
 mod colours;
 mod screens;
 mod session;
 mod tables;
 
+pub use allowed::*;
+pub use ask::*;
 pub use colours::*;
 pub use screens::*;
 pub use session::*;
