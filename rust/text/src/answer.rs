@@ -17,7 +17,7 @@ pub fn all(input: &Input) -> Result<Made, Failure> {
             Ok(asked) => sentences::answer(&asked.answer),
             Err(failure) => {
                 refused = true;
-                failure.what().to_string()
+                failure.what()
             }
         };
         text += &format!("{}: {}\n", sentences::question(i + 1, question), told);

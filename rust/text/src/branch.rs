@@ -41,7 +41,7 @@ pub struct Asked {
 
 /// By the library; the states on the way are worked out here and compared with its answer.
 pub fn ask(input: &Input, table: &[u8], nodes: [usize; 2], reading: Reading) -> Result<Asked, Failure> {
-    let asked = by_library(input, table, nodes, reading).map_err(|refusal| Failure::Refused(refusal.to_string()))?;
+    let asked = by_library(input, table, nodes, reading).map_err(Failure::refused)?;
     let last = asked.states[asked.states.len() - 1].unwrap_or(0);
     if last != asked.verdict.state {
         return Err(Failure::wrong("a fault of whatif-text: its steps and the library's answer differ"));

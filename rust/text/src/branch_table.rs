@@ -8,16 +8,13 @@
 //! accept 1
 //! ```
 
-use crate::lines::{self, all_raw, Line, Wrong};
+use crate::lines::{self, all_raw, raw_text, Line, Wrong};
 use crate::rules::{count, some};
-use whatif::layout;
+use whatif::{layout, BranchTable};
 
-/// Of lines, or of bytes as they are: no text has a zero byte, and every branch table's header has.
-pub fn of(bytes: &[u8]) -> Result<Vec<u8>, String> {
-    match std::str::from_utf8(bytes).ok().filter(|text| !text.contains('\0')) {
-        Some(text) => to_bytes(&lines::of(text).collect::<Vec<_>>()).map_err(|wrong| wrong.to_string()),
-        None => Ok(bytes.to_vec()),
-    }
+/// The bytes of a text.
+pub fn of(text: &str) -> Result<Vec<u8>, Wrong> {
+    to_bytes(&lines::of(text).collect::<Vec<_>>())
 }
 
 fn to_bytes(lines: &[Line]) -> Result<Vec<u8>, Wrong> {
@@ -51,4 +48,21 @@ fn to_bytes(lines: &[Line]) -> Result<Vec<u8>, Wrong> {
     };
     let steps = steps.into_iter().enumerate().map(said).collect::<Result<Vec<u8>, Wrong>>()?;
     Ok(layout::branch_table(s, k, &steps, &marks))
+}
+
+/// Text of a table that the library takes; of other bytes lines of bytes.
+pub fn to_text(bytes: &[u8]) -> String {
+    let table = match BranchTable::from_bytes(bytes) {
+        Ok(table) => table,
+        Err(_) => return raw_text(bytes),
+    };
+    let (s, k) = (table.states() as u8, table.labels() as u8);
+    let mut text = format!("states {}\nlabels {}\n", s, k);
+    for state in 0..s {
+        for label in 0..k {
+            text += &format!("step {} {} -> {}\n", state, label, table.step(state, label).unwrap_or(0));
+        }
+    }
+    let accepted = (0..s).filter(|&state| table.accepts(state)).map(|state| format!(" {}", state));
+    text + "accept" + &accepted.collect::<String>() + "\n"
 }

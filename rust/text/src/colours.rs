@@ -29,7 +29,7 @@ pub struct Coloured {
 /// By the library, twice; the colours on the way are read from its tables and compared with its answer.
 pub fn ask(input: &Input, table: &[u8], nodes: [usize; 2], reading: Reading) -> Result<Coloured, Failure> {
     let asked = branch::ask(input, table, nodes, reading)?;
-    let refused = |refusal: Refusal| Failure::Refused(refusal.to_string());
+    let refused = Failure::refused;
     let built = build(input, table).map_err(refused)?;
     let [upper, lower] = nodes.map(|v| v as u32);
     let verdict = match reading {

@@ -25,24 +25,30 @@
 //! Two texts of rules can be merged into one, or compared on every plan; plan and questions beside the rules are left
 //! aside.
 //!
-//! Order: `lines` (words and numbers), `plan`, `rules`, `questions` (each from text to bytes and back), `input` (text
-//! or bytes), `outcome` (what a verb writes, its status), `sentences`, `loaded` (the library's session on an input),
-//! `progress`, `generator` (random trees and tables); then a file a verb: `answer`, `outline`, `why`, `suggest`,
+//! Order: `lines` (words and numbers), `plan`, `rules`, `questions` (each from text to bytes and back), `formats` (what a
+//! file looks like), `files` and `input` (where plan, rules and questions come from), `nearest`, `verbs`, `args`, `help`
+//! (the command line), `outcome` (what a verb writes, its status), `sentences`, `loaded` (the library's session on an
+//! input), `progress`, `generator` (random trees and tables); then a file a verb: `answer`, `outline`, `why`, `suggest`,
 //! `count`, `script` (session), `screens`, `over`, `branch` (by a `branch_table`), `colours` (the same by colours),
 //! `stored` (build and check), `random`, `dot` (a small plan whole), `agree` (a separating plan). Writing, showing,
 //! merging and choosing a picture are in this file.
 
 pub mod agree;
 pub mod answer;
+pub mod args;
 pub mod branch;
 pub mod branch_table;
 pub mod colours;
 pub mod count;
 pub mod dot;
+pub mod files;
+pub mod formats;
 pub mod generator;
+pub mod help;
 pub mod input;
 pub mod lines;
 pub mod loaded;
+pub mod nearest;
 pub mod outcome;
 pub mod outline;
 pub mod over;
@@ -57,6 +63,7 @@ pub mod script;
 pub mod sentences;
 pub mod stored;
 pub mod suggest;
+pub mod verbs;
 pub mod why;
 
 use input::Input;
@@ -73,7 +80,7 @@ pub struct Sections<'a> {
     pub questions: Vec<Line<'a>>,
 }
 
-const NAMES: [&str; 3] = ["plan", "rules", "questions"];
+pub(crate) const NAMES: [&str; 3] = ["plan", "rules", "questions"];
 
 /// Sections may be left out, but not exchanged.
 pub fn sections(text: &str) -> Result<Sections<'_>, Wrong> {
@@ -116,9 +123,14 @@ pub fn parts_of(input: &[u8]) -> Option<[&[u8]; 3]> {
 
 /// Text from which `write` makes these bytes; none where they are fewer or more than their lengths say.
 pub fn show(input: &[u8]) -> Option<String> {
-    let [plan, rules, questions] = parts_of(input)?;
-    let shown = [plan::to_text(plan), rules::to_text(rules), questions::to_text(questions)];
-    Some(NAMES.iter().zip(shown).map(|(name, text)| format!("{}\n{}", name, text)).collect::<Vec<_>>().join("\n"))
+    parts_of(input).map(|parts| shown(&parts.map(Some)))
+}
+
+/// The sections that are there, as text.
+fn shown([plan, rules, questions]: &[Option<&[u8]>; 3]) -> String {
+    let texts = [plan.map(plan::to_text), rules.map(rules::to_text), questions.map(questions::to_text)];
+    let named = NAMES.iter().zip(texts).filter_map(|(name, text)| text.map(|text| format!("{}\n{}", name, text)));
+    named.collect::<Vec<_>>().join("\n")
 }
 
 /// The rules of a text, as bytes.
@@ -141,5 +153,5 @@ pub fn draw(input: &Input, question: usize) -> Result<String, Failure> {
     if input.plan.len() > sizes::plan_bytes(DRAWN_WHOLE) {
         return outline::of_question(input, question);
     }
-    dot::picture(&input.plan, changes).map_err(|refusal| Failure::Refused(refusal.to_string()))
+    dot::picture(&input.plan, changes).map_err(Failure::refused)
 }

@@ -1,6 +1,8 @@
 //! What a verb makes of its input: what it writes and its status, or why it writes nothing.
 
 use crate::lines::Wrong;
+use std::fmt;
+use whatif::Refusal;
 
 /// Answered.
 pub const ANSWERED: i32 = 0;
@@ -31,11 +33,28 @@ impl Made {
     }
 }
 
+/// A refusal of the library, and which entry it is about where that is found.
+#[derive(Clone, Debug, PartialEq, Eq)]
+pub struct Refused {
+    pub refusal: Refusal,
+    pub about: Option<String>,
+}
+
+impl fmt::Display for Refused {
+    fn fmt(&self, f: &mut fmt::Formatter<'_>) -> fmt::Result {
+        match &self.about {
+            Some(about) => write!(f, "{} ({})", self.refusal, about),
+            None => self.refusal.fmt(f),
+        }
+    }
+}
+
 /// Why nothing is written, as a sentence.
-#[derive(Debug, PartialEq, Eq)]
+#[derive(Clone, Debug, PartialEq, Eq)]
 pub enum Failure {
     Wrong(String),
-    Refused(String),
+    Refused(Refused),
+    Usage(String),
 }
 
 impl Failure {
@@ -43,9 +62,19 @@ impl Failure {
         Failure::Wrong(what.into())
     }
 
-    pub fn what(&self) -> &str {
+    pub fn refused(refusal: Refusal) -> Failure {
+        Failure::Refused(Refused { refusal, about: None })
+    }
+
+    /// With the entry that the refusal is about.
+    pub fn refused_about(refusal: Refusal, about: impl Into<String>) -> Failure {
+        Failure::Refused(Refused { refusal, about: Some(about.into()) })
+    }
+
+    pub fn what(&self) -> String {
         match self {
-            Failure::Wrong(what) | Failure::Refused(what) => what,
+            Failure::Wrong(what) | Failure::Usage(what) => what.clone(),
+            Failure::Refused(refused) => refused.to_string(),
         }
     }
 
@@ -53,6 +82,7 @@ impl Failure {
         match self {
             Failure::Wrong(_) => WRONG,
             Failure::Refused(_) => REFUSED,
+            Failure::Usage(_) => USAGE,
         }
     }
 }

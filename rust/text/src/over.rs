@@ -13,7 +13,7 @@ pub fn of_questions(input: &Input, lower: usize, upper: usize) -> Result<String,
         lists.map(|list| -> (Vec<u16>, Vec<u8>) { list.iter().copied().unzip() });
     let (mut nodes, mut labels) = ([0; MAX_CHANGES], [0; MAX_CHANGES]);
     let count = whatif::lay_over((&low_nodes, &low_labels), (&high_nodes, &high_labels), &mut nodes, &mut labels)
-        .map_err(|refusal| Failure::Refused(refusal.to_string()))?;
+        .map_err(Failure::refused)?;
     let laid: Vec<Change> = nodes.into_iter().zip(labels).take(count).collect();
     let [low, high] = [(lower, lists[0]), (upper, lists[1])].map(|(number, list)| sentences::question(number, list));
     Ok(format!("# {}\n# laid over {}\n{}\n", high, low, sentences::changes(&laid)))

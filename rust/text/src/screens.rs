@@ -50,7 +50,7 @@ impl Run<'_> {
             let goes_on = said.is_ok() && self.screens().is_running();
             let said = said.unwrap_or_else(|failure| {
                 self.refused = true;
-                failure.what().to_string()
+                failure.what()
             });
             self.text += &format!("{}: {}\n", words, said);
             if !goes_on {
@@ -89,7 +89,7 @@ impl Run<'_> {
         let running = self.screens().running().next();
         load(&mut self.mill, plan, rules).map_err(|refusal| match (refusal, running) {
             (Refusal::SessionState, Some(screen)) => {
-                Failure::Refused(format!("{} (screen {} is running)", refusal, screen))
+                Failure::refused_about(refusal, format!("screen {} is running", screen))
             }
             _ => load_refused(refusal, plan, rules),
         })?;
@@ -114,8 +114,8 @@ impl Run<'_> {
 
     fn deal(&mut self) -> Result<String, Failure> {
         let dealt = self.mill.as_mut().map_or(Ok(None), |mill| mill.deal());
-        match dealt.map_err(|refusal| Failure::Refused(refusal.to_string()))? {
-            None => Err(Failure::Refused(format!("{} (no screen is running)", Refusal::SessionState))),
+        match dealt.map_err(Failure::refused)? {
+            None => Err(Failure::refused_about(Refusal::SessionState, "no screen is running")),
             Some(Deal { screen, progress }) => {
                 let said = if progress == Progress::More { "more" } else { "finished" };
                 let (done, parts) = (self.screens().parts_done(screen), self.screens().parts(screen));
@@ -141,7 +141,7 @@ impl Run<'_> {
         let state = self.screens().state(screen);
         self.screens().read(screen).map(|answer| sentences::answer(&answer)).map_err(|refusal| match state {
             Some(State::Loaded) | Some(State::Running) => {
-                Failure::Refused(format!("{} (no question is finished since load)", refusal))
+                Failure::refused_about(refusal, "no question is finished since load")
             }
             _ => on_screen(refusal, screen, state),
         })
@@ -160,7 +160,9 @@ fn load(mill: &mut Option<Mill>, plan: &[u8], rules: &[u8]) -> Result<(), Refusa
 /// A refusal 1 says in which state the screen is, 25 which screens there are.
 fn on_screen(refusal: Refusal, screen: u32, state: Option<State>) -> Failure {
     match refusal {
-        Refusal::Screen => Failure::Refused(format!("{} (screen {}; there are 0 to {})", refusal, screen, SCREENS - 1)),
+        Refusal::Screen => {
+            Failure::refused_about(refusal, format!("screen {}; there are 0 to {}", screen, SCREENS - 1))
+        }
         _ => in_state(refusal, state),
     }
 }

@@ -45,7 +45,7 @@ impl Run<'_> {
             let goes_on = said.is_ok() && self.state() == Some(State::Running);
             let said = said.unwrap_or_else(|failure| {
                 self.refused = true;
-                failure.what().to_string()
+                failure.what()
             });
             self.text += &format!("{}: {}\n", words, said);
             if !goes_on {
@@ -119,7 +119,7 @@ impl Run<'_> {
         let last = self.panel.as_ref().ok_or(Refusal::SessionState).and_then(|panel| panel.last());
         last.map(|answer| sentences::answer(&answer)).map_err(|refusal| match state {
             Some(State::Loaded) | Some(State::Running) => {
-                Failure::Refused(format!("{} (no question is finished since load)", refusal))
+                Failure::refused_about(refusal, "no question is finished since load")
             }
             other => in_state(refusal, other),
         })
@@ -144,8 +144,8 @@ pub fn in_state(refusal: Refusal, state: Option<State>) -> Failure {
         Some(State::Answered) => "answered",
         None => "in no state",
     };
-    Failure::Refused(match refusal {
-        Refusal::SessionState => format!("{} (it is {})", refusal, name),
-        _ => refusal.to_string(),
-    })
+    match refusal {
+        Refusal::SessionState => Failure::refused_about(refusal, format!("it is {}", name)),
+        _ => Failure::refused(refusal),
+    }
 }

@@ -1,6 +1,6 @@
 //! The words of answers and refusals.
 
-use crate::outcome::Failure;
+use crate::outcome::{Failure, Refused};
 use crate::questions::Change;
 use whatif::layout::number;
 use whatif::sizes::plan_bytes;
@@ -58,10 +58,7 @@ pub fn state(before: u8, after: u8) -> String {
 
 /// A refusal, and which entry it is about where that is found.
 pub fn refused(refusal: Refusal, about: Option<String>) -> Failure {
-    Failure::Refused(match about {
-        Some(about) => format!("{} ({})", refusal, about),
-        None => refusal.to_string(),
-    })
+    Failure::Refused(Refused { refusal, about })
 }
 
 /// Of a plan and rules.

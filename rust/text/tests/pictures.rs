@@ -63,9 +63,8 @@ fn own_labels_are_no_change() {
 
 #[test]
 fn what_cannot_be_drawn_is_said() {
-    let refused = |what: &str| Err(Failure::Refused(what.into()));
     let wrong = |what: &str| Err(Failure::wrong(what));
-    assert_eq!(drawn(7), refused("refused 13: A node given is not one of the plan."));
+    assert_eq!(drawn(7), Err(Failure::refused(whatif::Refusal::Node)));
     assert_eq!(drawn(9).map(|_| ()), Ok(()), "the last entry holds");
     assert_eq!(drawn(0), wrong("there is no question 0: the input has 9"));
     assert_eq!(drawn(10), wrong("there is no question 10: the input has 9"));

@@ -72,7 +72,7 @@ fn outlines() {
 fn paths() {
     let words: Vec<&str> = "--nodes 65535 --shape comb --labels 2".split(' ').collect();
     let comb = Input::of_text(&text::random::text(&words).unwrap().unwrap()).unwrap();
-    let table = text::branch_table::of(include_bytes!("../../../examples/branch.txt")).unwrap();
+    let table = text::branch_table::of(include_str!("../../../examples/branch.txt")).unwrap();
     for nodes in [[65_534, 0], [65_534, 65_534], [8, 2]] {
         let asked = text::branch::ask(&comb, &table, nodes, text::branch::Reading::BelowUpper).unwrap();
         let graphviz = asked.picture();
@@ -89,7 +89,7 @@ fn paths() {
 fn paths_by_colours() {
     let words: Vec<&str> = "--nodes 65535 --shape comb --labels 2".split(' ').collect();
     let comb = Input::of_text(&text::random::text(&words).unwrap().unwrap()).unwrap();
-    let table = text::branch_table::of(include_bytes!("../../../examples/colours.txt")).unwrap();
+    let table = text::branch_table::of(include_str!("../../../examples/colours.txt")).unwrap();
     for nodes in [[65_534, 0], [65_534, 65_534], [300, 0], [8, 2]] {
         for reading in [text::branch::Reading::BelowUpper, text::branch::Reading::WithUpper] {
             let asked = text::colours::ask(&comb, &table, nodes, reading).unwrap();
