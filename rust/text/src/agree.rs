@@ -1,5 +1,6 @@
 //! What `whatif-text agree` says of two tables: a separating plan as lines, as a plan to paste, and as a picture.
 
+use crate::json::Object;
 use crate::plan;
 use whatif::{Line, Plan, Rules};
 
@@ -47,6 +48,19 @@ pub fn text(lines: &[Line], plan: Option<&Plan>) -> String {
         Some(plan) => format!("{}plan\n{}", said, plan::to_text(plan.as_bytes())),
         None => said + "# as a tree it has more than 65,535 nodes, the most that a plan can have\n",
     }
+}
+
+/// The same as an object.
+pub fn object(yes: [bool; 2], lines: &[Line], plan: Option<&Plan>) -> String {
+    let line = |line: &Line| match *line {
+        Line::Leaf { label } => Object::new().number("label", label).inner(),
+        Line::Inner { label, left, right } => {
+            Object::new().number("label", label).count("left", left).count("right", right).inner()
+        }
+    };
+    let object = Object::new().truth("agree", false).truth("first", yes[0]).truth("second", yes[1]);
+    let object = object.list("lines", lines.iter().map(line));
+    plan.into_iter().fold(object, |object, plan| object.count("nodes", plan.nodes())).line()
 }
 
 const HEAD: &str = "\

@@ -4,10 +4,14 @@
 use crate::files::Files;
 use crate::nearest::nearest;
 use crate::outcome::Failure;
+use crate::terminal::Colour;
 use crate::verbs::{self, Verb};
 
 /// Options with a value, and which field they fill.
 const FILES: [&str; 6] = ["--input", "--plan", "--planner", "--rules", "--questions", "--branch"];
+
+/// When verdicts have colours: each verb that answers takes it.
+const COLOURS: [(&str, Colour); 3] = [("auto", Colour::Auto), ("always", Colour::Always), ("never", Colour::Never)];
 
 /// What the command line asks for.
 pub struct Args<'a> {
@@ -16,12 +20,18 @@ pub struct Args<'a> {
     pub files: Files<'a>,
     /// Bytes are written in place of text.
     pub bytes: bool,
+    /// An object a line in place of sentences.
+    pub json: bool,
+    pub colour: Colour,
+    /// So many of what is found.
+    pub first: Option<usize>,
 }
 
 /// All options of a verb.
 pub fn options(verb: &Verb) -> Vec<&'static str> {
     let files = if verb.input { &FILES[..] } else { &[] };
-    files.iter().chain(verb.options).copied().collect()
+    let answers = if verb.answers { &["--json", "--colour"][..] } else { &[] };
+    files.iter().chain(verb.options).chain(answers).copied().collect()
 }
 
 impl<'a> Args<'a> {
@@ -29,7 +39,8 @@ impl<'a> Args<'a> {
     pub fn of(words: &[&'a str]) -> Result<Args<'a>, Failure> {
         let (name, rest) = words.split_first().ok_or_else(|| usage("a verb is missing: whatif-text help"))?;
         let verb = verb(name)?;
-        let mut args = Args { verb, words: Vec::new(), files: Files::default(), bytes: false };
+        let (words, files, colour) = (Vec::new(), Files::default(), Colour::Auto);
+        let mut args = Args { verb, words, files, bytes: false, json: false, colour, first: None };
         if verb.own_options {
             args.words = rest.to_vec();
             return Ok(args);
@@ -54,12 +65,24 @@ impl<'a> Args<'a> {
             let what = format!("'{}' is no option of '{}'", name, self.verb.name);
             return Err(usage(what + &meant(nearest(name, known), self.verb.name)));
         }
-        if name == "--bytes" {
-            self.bytes = true;
-            return Ok(());
+        if let "--bytes" | "--json" = name {
+            *(if name == "--json" { &mut self.json } else { &mut self.bytes }) = true;
+            return value.map_or(Ok(()), |value| Err(usage(format!("'{}' takes no value: '{}'", name, value))));
         }
         let value = value.or_else(|| rest.next());
-        let value = value.ok_or_else(|| usage(format!("'{}' needs a value: {} FILE", name, name)))?;
+        let value = value.ok_or_else(|| usage(format!("'{}' needs a value", name)))?;
+        match name {
+            "--first" => {
+                let number = value.parse().map_err(|_| usage(format!("--first {}: this is no number", value)))?;
+                self.first = Some(number);
+                return Ok(());
+            }
+            "--colour" => {
+                self.colour = one_of(value, &COLOURS)?;
+                return Ok(());
+            }
+            _ => (),
+        }
         let Files { input, plan, planner, rules, questions, branch } = &mut self.files;
         let place = match name {
             "--input" => input,
@@ -104,7 +127,7 @@ pub fn verb(name: &str) -> Result<&'static Verb, Failure> {
 
 /// One of a few words; else which it can be.
 pub fn one_of<T: Copy>(word: &str, known: &[(&'static str, T)]) -> Result<T, Failure> {
-    let names = || known.iter().map(|(name, _)| *name);
+    let names = || known.iter().map(|(name, _)| *name).filter(|name| !name.is_empty());
     known.iter().find(|(name, _)| *name == word).map(|&(_, value)| value).ok_or_else(|| {
         let all = names().collect::<Vec<_>>().join(", ");
         usage(format!("'{}' is none of {}", word, all) + &nearest(word, names()).map_or(String::new(), did_you_mean))

@@ -2,6 +2,7 @@
 //! or as a picture of the path.
 
 use crate::input::Input;
+use crate::json::Object;
 use crate::outcome::Failure;
 use crate::sentences::{climbed, count};
 use whatif::{BranchTable, BranchVerdict, Branches, Plan, Refusal};
@@ -108,6 +109,25 @@ impl Asked {
             text += &format!("  node {}, label {}: {}\n", self.path[at], self.labels[at], state);
         }
         text
+    }
+
+    /// One for the question, then one for each node of the path.
+    pub fn objects(&self) -> String {
+        let node = |at: usize| self.node_object(at).line();
+        self.object().line() + &(0..self.path.len()).map(node).collect::<String>()
+    }
+
+    pub(crate) fn object(&self) -> Object {
+        let BranchVerdict { links, passed, state, yes } = self.verdict;
+        let (upper, lower) = (self.path[0], self.path[self.path.len() - 1]);
+        let asked = Object::new().count("upper", upper).count("lower", lower);
+        let asked = asked.truth("with_upper", self.reading == Reading::WithUpper);
+        asked.truth("yes", yes).number("state", state).number("links", links).number("passed", passed)
+    }
+
+    pub(crate) fn node_object(&self, at: usize) -> Object {
+        let node = Object::new().count("node", self.path[at]).number("label", self.labels[at]);
+        self.states[at].into_iter().fold(node, |node, state| node.number("state", state))
     }
 
     /// The path as Graphviz text; the lower node has the answer's colour.

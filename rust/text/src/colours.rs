@@ -122,6 +122,18 @@ impl Coloured {
         text
     }
 
+    /// One for the question, then one for each node of the path.
+    pub fn objects(&self) -> String {
+        let ColourVerdict { drops, links, .. } = self.verdict;
+        let node = |at: usize| {
+            let (colour, fallen) = self.at(at);
+            let object = self.asked.node_object(at).count("colour", colour);
+            fallen.into_iter().fold(object, |object, before| object.count("dropped_from", before)).line()
+        };
+        let asked = self.asked.object().number("drops", drops).number("colour_links", links);
+        asked.line() + &(0..self.asked.path.len()).map(node).collect::<String>()
+    }
+
     /// The path as Graphviz text; the lower node has the answer's colour.
     pub fn picture(&self) -> String {
         let told = self.told(false);

@@ -15,12 +15,17 @@ Files, each as text or as the library's own bytes, - for standard input:
   --planner FILE        the plan of a planner's tree
   --input FILE          every section that no other option names; without options: standard input
 
+Verbs that answer:
+
+  --json                an object a line in place of sentences
+  --colour WHEN         auto (on a terminal, unless NO_COLOR is set), always or never
+
   help [VERB], -h       this, or a verb's own help with an example
   -V                    the version
 
-The status is 0 where all is answered, 1 where the input is wrong (with its line or byte) or the output can't be written,
-2 for other words than these, 3 where something is refused (by number, as docs/REFUSALS.md has them), 4 where check or
-agree say no.
+The status is 0 where all is answered, 1 where the input is wrong (with its line or byte) or the output can't be
+written, 2 for other words than these, 3 where something is refused (by number, as docs/REFUSALS.md has them), 4 where
+check or agree say no.
 ";
 
 /// Every verb in a line or two.
@@ -46,7 +51,7 @@ pub fn of(verb: &Verb) -> String {
     let options = crate::args::options(verb);
     let options = match options.is_empty() {
         true => String::new(),
-        false => format!("\nOptions: {}. 'whatif-text help' says what they are.\n", options.join(", ")),
+        false => format!("\nOptions, as 'whatif-text help' explains them:\n  {}\n", options.join(" ")),
     };
     format!("{}{}\n\n{}.\n{}{}\nExample:\n\n  {}\n", form.trim_end(), input, verb.what, more, options, verb.example)
 }

@@ -27,7 +27,7 @@
 //!
 //! Order: `lines` (words and numbers), `plan`, `rules`, `questions` (each from text to bytes and back), `formats` (what a
 //! file looks like), `files` and `input` (where plan, rules and questions come from), `nearest`, `verbs`, `args`, `help`
-//! (the command line), `outcome` (what a verb writes, its status), `sentences`, `loaded` (the library's session on an
+//! (the command line), `outcome` (what a verb writes, its status), `sentences`, `json`, `terminal` (colours), `loaded` (the library's session on an
 //! input), `progress`, `generator` (random trees and tables); then a file a verb: `answer`, `outline`, `why`, `suggest`,
 //! `count`, `script` (session), `screens`, `over`, `branch` (by a `branch_table`), `colours` (the same by colours),
 //! `stored` (build and check), `random`, `dot` (a small plan whole), `agree` (a separating plan). Writing, showing,
@@ -46,6 +46,7 @@ pub mod formats;
 pub mod generator;
 pub mod help;
 pub mod input;
+pub mod json;
 pub mod lines;
 pub mod loaded;
 pub mod nearest;
@@ -63,6 +64,7 @@ pub mod script;
 pub mod sentences;
 pub mod stored;
 pub mod suggest;
+pub mod terminal;
 pub mod verbs;
 pub mod why;
 

@@ -6,6 +6,7 @@ use std::process::exit;
 use text::args::{one_of, verb, Args};
 use text::branch::Reading;
 use text::input::Input;
+use text::json::Object;
 use text::outcome::{self, Failure, Made};
 use text::{files, help};
 use whatif::{Line, Plan, Rules};
@@ -13,16 +14,19 @@ use whatif::{Line, Plan, Rules};
 fn main() {
     let words: Vec<String> = std::env::args().skip(1).collect();
     let words: Vec<&str> = words.iter().map(String::as_str).collect();
-    let written = made(&words).and_then(|made| {
-        write_out(&made.bytes).map_err(|error| Failure::Wrong(error.to_string()))?;
-        Ok(made.status)
+    let made = made(&words).unwrap_or_else(|failure| {
+        let _ = writeln!(io::stderr(), "whatif-text: {}", failure.what());
+        let object = if words.contains(&"--json") { Object::new().failure(&failure).line() } else { String::new() };
+        Made { bytes: object.into_bytes(), status: failure.status() }
     });
-    match written {
-        Ok(status) => exit(status),
-        Err(failure) => {
-            eprintln!("whatif-text: {}", failure.what());
-            exit(failure.status())
+    match write_out(&made.bytes) {
+        // whoever reads has seen enough
+        Err(error) if error.kind() == io::ErrorKind::BrokenPipe => exit(made.status),
+        Err(error) => {
+            let _ = writeln!(io::stderr(), "whatif-text: {}", error);
+            exit(outcome::WRONG)
         }
+        Ok(()) => exit(made.status),
     }
 }
 
@@ -39,7 +43,11 @@ fn made(words: &[&str]) -> Result<Made, Failure> {
         ["-V" | "--version"] => Ok(Made::answered(format!("whatif-text {}\n", env!("CARGO_PKG_VERSION")))),
         ["help", name] => Ok(Made::answered(help::of(verb(name)?))),
         [name, .., "-h" | "--help"] if !name.starts_with('-') => Ok(Made::answered(help::of(verb(name)?))),
-        words => answered(&Args::of(words)?),
+        words => {
+            let args = Args::of(words)?;
+            let made = answered(&args)?;
+            Ok(if args.verb.answers && !args.json && args.colour.is_on() { made.painted() } else { made })
+        }
     }
 }
 
@@ -55,28 +63,33 @@ fn answered(args: &Args) -> Result<Made, Failure> {
             let file = args.files.planner.or(args.files.plan).or(args.files.input).unwrap_or("-");
             text::planner::made(word, &files::file(file)?, args.bytes).map(Made::answered)
         }
-        ("answer", _) => text::answer::all(&input()?),
+        ("answer", _) => text::answer::all(&input()?, args.json),
         ("why", [question, rest @ ..]) => {
             let whole = one_of(rest.first().unwrap_or(&""), &[("", false), ("all", true)])?;
-            text::why::of_question(&input()?, a_question(question)?, whole).map(Made::answered)
+            text::why::of_question(&input()?, a_question(question)?, whole, args.json).map(Made::answered)
         }
-        ("suggest", nodes) => text::suggest::of_nodes(&input()?, &numbers(nodes)?).map(Made::answered),
-        ("count", nodes) => text::count::of_nodes(&input()?, &numbers(nodes)?).map(Made::answered),
+        ("suggest", nodes) => {
+            text::suggest::of_nodes(&input()?, &numbers(nodes)?, args.first, args.json).map(Made::answered)
+        }
+        ("count", nodes) => text::count::of_nodes(&input()?, &numbers(nodes)?, args.json).map(Made::answered),
         ("outline", [question]) => text::outline::of_question(&input()?, a_question(question)?).map(Made::answered),
         ("dot", [question]) => text::draw(&input()?, a_question(question)?).map(Made::answered),
         ("over", [lower, upper]) => {
-            text::over::of_questions(&input()?, a_question(lower)?, a_question(upper)?).map(Made::answered)
+            text::over::of_questions(&input()?, a_question(lower)?, a_question(upper)?, args.json).map(Made::answered)
         }
         ("branch" | "branch-with-upper" | "colours" | "colours-with-upper", words) => branch(args, words),
-        ("session", [script]) => text::script::run(&input()?, &files::text(script)?),
-        ("screens", [script]) => text::screens::run(&input()?, &files::text(script)?),
-        ("build", [nodes, states]) => build(&input()?, nodes, states),
-        ("check", [nodes, states]) => text::stored::check(&input()?, &files::file(nodes)?, &files::file(states)?),
+        ("session", [script]) => text::script::run(&input()?, &files::text(script)?, args.json),
+        ("screens", [script]) => text::screens::run(&input()?, &files::text(script)?, args.json),
+        ("build", [nodes, states]) => build(&input()?, [nodes, states], args.json),
+        ("check", [nodes, states]) => {
+            text::stored::check(&input()?, &files::file(nodes)?, &files::file(states)?, args.json)
+        }
         ("merge", [first, second]) => merge(&two_rules(first, second)?),
-        ("agree", [first, second]) => agree(&two_rules(first, second)?, separating_text),
+        ("agree", [first, second]) if args.json => agree(&two_rules(first, second)?, text::agree::object, true),
+        ("agree", [first, second]) => agree(&two_rules(first, second)?, separating_text, false),
         ("agree", [first, second, word]) => {
             let shown: Shown = one_of(word, &[("dot", (|_, lines, _| text::agree::picture(lines)) as Shown)])?;
-            agree(&two_rules(first, second)?, shown)
+            agree(&two_rules(first, second)?, shown, false)
         }
         ("random", options) => {
             text::random::text(options).unwrap_or_else(|| Err(text::random::usage(options))).map(Made::answered)
@@ -97,12 +110,15 @@ fn write(args: &Args, part: &str) -> Result<Made, Failure> {
 }
 
 /// Both tables into files; how long they are is told.
-fn build(input: &Input, nodes: &str, states: &str) -> Result<Made, Failure> {
+fn build(input: &Input, names: [&str; 2], json: bool) -> Result<Made, Failure> {
     let tables = text::stored::build(input)?;
     let mut told = String::new();
-    for (name, table) in [nodes, states].into_iter().zip(&tables) {
+    for (name, table) in names.into_iter().zip(&tables) {
         std::fs::write(name, table).map_err(|error| files::of_file(name, error.to_string()))?;
-        told += &format!("{}: {} bytes\n", name, table.len());
+        told += &match json {
+            true => Object::new().text("file", name).count("bytes", table.len()).line(),
+            false => format!("{}: {} bytes\n", name, table.len()),
+        };
     }
     Ok(Made::answered(told))
 }
@@ -123,8 +139,10 @@ fn branch(args: &Args, words: &[&str]) -> Result<Made, Failure> {
     let (bytes, input) = (files::branch_of(table)?, args.files.read()?);
     Ok(Made::answered(match (args.verb.name.starts_with("branch"), shown) {
         (true, Shape::Dot) => text::branch::ask(&input, &bytes, nodes, reading)?.picture(),
+        (true, _) if args.json => text::branch::ask(&input, &bytes, nodes, reading)?.objects(),
         (true, shape) => text::branch::ask(&input, &bytes, nodes, reading)?.text(shape == Shape::All),
         (false, Shape::Dot) => text::colours::ask(&input, &bytes, nodes, reading)?.picture(),
+        (false, _) if args.json => text::colours::ask(&input, &bytes, nodes, reading)?.objects(),
         (false, shape) => text::colours::ask(&input, &bytes, nodes, reading)?.text(shape == Shape::All),
     }))
 }
@@ -141,10 +159,11 @@ enum Shape {
 type Shown = fn([bool; 2], &[Line], Option<&Plan>) -> String;
 
 /// Whether two rules agree; else a separating plan.
-fn agree([first, second]: &[Vec<u8>; 2], shown: Shown) -> Result<Made, Failure> {
+fn agree([first, second]: &[Vec<u8>; 2], shown: Shown, json: bool) -> Result<Made, Failure> {
     let first = Rules::from_bytes(&first[..]).map_err(Failure::refused)?;
     let second = Rules::from_bytes(&second[..]).map_err(Failure::refused)?;
     let plan = match first.differs_from(&second).map_err(Failure::refused)? {
+        None if json => return Ok(Made::answered(Object::new().truth("agree", true).line())),
         None => return Ok(Made::answered("# the two agree on every plan\n")),
         Some(plan) => plan,
     };

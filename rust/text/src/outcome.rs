@@ -1,6 +1,7 @@
 //! What a verb makes of its input: what it writes and its status, or why it writes nothing.
 
 use crate::lines::Wrong;
+use crate::terminal::painted;
 use std::fmt;
 use whatif::Refusal;
 
@@ -25,6 +26,12 @@ pub struct Made {
 impl Made {
     pub fn answered(text: impl Into<Vec<u8>>) -> Made {
         Made { bytes: text.into(), status: ANSWERED }
+    }
+
+    /// With verdicts in colours.
+    pub fn painted(self) -> Made {
+        let text = String::from_utf8(self.bytes).map(|text| painted(&text).into_bytes());
+        Made { bytes: text.unwrap_or_else(|error| error.into_bytes()), status: self.status }
     }
 
     /// Text in which a refusal is told, or none.

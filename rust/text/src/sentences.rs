@@ -1,5 +1,6 @@
 //! The words of answers and refusals.
 
+use crate::json::Object;
 use crate::outcome::{Failure, Refused};
 use crate::questions::Change;
 use whatif::layout::number;
@@ -22,6 +23,20 @@ pub fn verdict(yes: bool) -> &'static str {
 pub fn answer(answer: &Answer) -> String {
     let parts = count(answer.parts as usize, "part");
     format!("{}, state {}, {}, {}", verdict(answer.yes), answer.state, parts, climbed(answer.links, answer.passed))
+}
+
+/// What a call says: in words, and as fields.
+pub type Said = (String, Object);
+
+/// A line of a script with what its call says, or its refusal.
+pub fn call(words: &str, said: Result<Said, Failure>, json: bool) -> String {
+    let object = Object::new().text("call", words);
+    match (json, said) {
+        (true, Ok((_, fields))) => object.and(fields).line(),
+        (true, Err(failure)) => object.failure(&failure).line(),
+        (false, Ok((said, _))) => format!("{}: {}\n", words, said),
+        (false, Err(failure)) => format!("{}: {}\n", words, failure.what()),
+    }
 }
 
 /// The moves of climbs, and the nodes that they passed over.

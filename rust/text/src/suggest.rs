@@ -6,6 +6,7 @@
 //! spread, are put to the library's fresh run.
 
 use crate::input::Input;
+use crate::json::Object;
 use crate::loaded::Loaded;
 use crate::outcome::Failure;
 use crate::progress::Progress;
@@ -20,8 +21,8 @@ pub struct Turn {
 
 const HELD: usize = 1_000;
 
-/// Of the given nodes; of all where none is given.
-pub fn of_nodes(input: &Input, nodes: &[usize]) -> Result<String, Failure> {
+/// Of the given nodes; of all where none is given. With `first` the nearest to the root alone, so many.
+pub fn of_nodes(input: &Input, nodes: &[usize], first: Option<usize>, json: bool) -> Result<String, Failure> {
     let loaded = Loaded::new(&input.plan, &input.rules)?;
     let n = loaded.nodes();
     if let Some(v) = nodes.iter().find(|&&v| v >= n) {
@@ -29,9 +30,30 @@ pub fn of_nodes(input: &Input, nodes: &[usize]) -> Result<String, Failure> {
     }
     let all: Vec<usize> = (0..n).collect();
     let nodes = if nodes.is_empty() { &all[..] } else { nodes };
-    let turns = turns(&loaded, nodes);
+    let mut turns = turns(&loaded, nodes);
+    let all = turns.len();
+    if let Some(first) = first {
+        turns.sort_by_key(|turn| loaded.node(turn.node.into()).depth);
+        turns.truncate(first);
+    }
     held_to_the_library(&loaded, &turns)?;
-    Ok(text(&loaded, nodes, &turns))
+    let tried = nodes.len() * (loaded.rules().labels() - 1);
+    if json {
+        return Ok(objects(&loaded, [nodes.len(), tried, all], &turns));
+    }
+    Ok(text(&loaded, [nodes.len(), tried, all], &turns))
+}
+
+/// One for the whole, then one for each change.
+fn objects(loaded: &Loaded, [nodes, tried, all]: [usize; 3], turns: &[Turn]) -> String {
+    let whole = Object::new().truth("was_cleared", loaded.is_cleared());
+    let whole = whole.number("was_state", loaded.before(loaded.nodes() - 1));
+    let whole = whole.count("nodes", nodes).count("tried", tried).count("turn", all).count("told", turns.len());
+    let change = |turn: &Turn| {
+        let object = Object::new().number("node", turn.node).number("label", turn.label);
+        object.number("depth", loaded.node(turn.node.into()).depth).line()
+    };
+    whole.line() + &turns.iter().map(change).collect::<String>()
 }
 
 /// The changes to another label that turn the verdict, in the order of the nodes.
@@ -100,21 +122,23 @@ fn held_to_the_library(loaded: &Loaded, turns: &[Turn]) -> Result<(), Failure> {
     Ok(())
 }
 
-fn text(loaded: &Loaded, nodes: &[usize], turns: &[Turn]) -> String {
-    let (now, k) = (loaded.is_cleared(), loaded.rules().labels());
-    let tried = nodes.len() * (k - 1);
+fn text(loaded: &Loaded, [nodes, tried, all]: [usize; 3], turns: &[Turn]) -> String {
+    let now = loaded.is_cleared();
     let root = loaded.before(loaded.nodes() - 1);
     let head = format!("# as it is: {}, state {}\n", verdict(now), root);
-    let told = match turns.len() {
-        0 => format!("# none of {} at {} turns that\n", count(tried, "change"), count(nodes.len(), "node")),
-        some => format!(
-            "# {} of {} at {} turn that: with each alone the plan is {}\n",
-            some,
-            count(tried, "change"),
-            count(nodes.len(), "node"),
-            verdict(!now)
-        ),
+    let (tried, nodes) = (count(tried, "change"), count(nodes, "node"));
+    let told = match all {
+        0 => format!("# none of {} at {} turns that\n", tried, nodes),
+        some => {
+            let (turn, each) = if some == 1 { ("turns", "it") } else { ("turn", "each") };
+            let then = format!("with {} alone the plan is {}", each, verdict(!now));
+            format!("# {} of {} at {} {} that: {}\n", some, tried, nodes, turn, then)
+        }
+    };
+    let first = match turns.len() {
+        told if told < all => format!("# the first {}, nearest to the root\n", told),
+        _ => String::new(),
     };
     let line = |turn: &Turn| format!("{}->{}\n", turn.node, turn.label);
-    head + &told + "questions\n" + &turns.iter().map(line).collect::<String>()
+    head + &told + &first + "questions\n" + &turns.iter().map(line).collect::<String>()
 }

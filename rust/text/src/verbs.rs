@@ -16,6 +16,8 @@ pub struct Verb {
     pub example: &'static str,
     /// Beside the options for files.
     pub options: &'static [&'static str],
+    /// It answers in sentences, or with --json in objects.
+    pub answers: bool,
     /// It takes an INPUT.
     pub input: bool,
     /// It reads its own options.
@@ -25,7 +27,8 @@ pub struct Verb {
 const ANY: usize = usize::MAX;
 
 const fn verb(name: &'static str, form: &'static str, least: usize, most: usize, what: &'static str) -> Verb {
-    Verb { name, form, least, most, what, more: "", example: "", options: &[], input: true, own_options: false }
+    let (more, example, options) = ("", "", &[]);
+    Verb { name, form, least, most, what, more, example, options, answers: false, input: true, own_options: false }
 }
 
 impl Verb {
@@ -39,6 +42,10 @@ impl Verb {
 
     const fn options(self, options: &'static [&'static str]) -> Verb {
         Verb { options, ..self }
+    }
+
+    const fn answers(self) -> Verb {
+        Verb { answers: true, ..self }
     }
 
     const fn without_input(self) -> Verb {
@@ -57,43 +64,44 @@ path the first and last\nnodes are told; all: every one; dot: the path as a pict
 
 /// In the order of the help.
 pub const ALL: &[Verb] = &[
-    verb("answer", "", 0, 0, "a sentence for each question").example("whatif-text answer < examples/sample.txt"),
+    verb("answer", "", 0, 0, "a sentence for each question").answers().example("whatif-text answer < examples/sample.txt"),
     verb("why", "QUESTION [all]", 1, 2, "the states from each changed node up, until they rejoin the old run")
         .more("all: every step, also of long paths.")
-        .example("whatif-text why 4 < examples/sample.txt"),
+        .answers().example("whatif-text why 4 < examples/sample.txt"),
     verb("suggest", "[NODE ..]", 0, ANY, "each single change that turns the verdict, as questions to paste")
-        .more("Of the whole plan, or of these nodes.")
-        .example("whatif-text suggest 2 5 < examples/sample.txt"),
+        .more("Of the whole plan, or of these nodes. --first N: the N nearest to the root alone; how many there are is said.")
+        .options(&["--first"])
+        .answers().example("whatif-text suggest 2 5 < examples/sample.txt"),
     verb("count", "[NODE ..]", 0, ANY, "how many choices of labels for these nodes end in each state, and one that clears")
-        .example("whatif-text count 0 2 < examples/sample.txt"),
+        .answers().example("whatif-text count 0 2 < examples/sample.txt"),
     verb("outline", "QUESTION", 1, 1, "the roots of the parts as a picture, with their states and climbs (Graphviz)")
         .example("whatif-text outline 4 < examples/sample.txt"),
     verb("dot", "QUESTION", 1, 1, "the whole plan with the parts; above 100 nodes the outline (Graphviz)")
         .example("whatif-text dot 4 < examples/sample.txt"),
     verb("over", "LOWER UPPER", 2, 2, "question UPPER's list laid over question LOWER's, as a question to paste")
-        .example("whatif-text over 4 9 < examples/sample.txt"),
+        .answers().example("whatif-text over 4 9 < examples/sample.txt"),
     verb("branch", BRANCH, 3, 4, "what a branch table makes of the labels from below node UPPER down to node LOWER")
         .more(BRANCH_MORE)
-        .example("whatif-text branch examples/branch.txt 6 4 < examples/sample.txt"),
+        .answers().example("whatif-text branch examples/branch.txt 6 4 < examples/sample.txt"),
     verb("branch-with-upper", BRANCH, 3, 4, "the same with the upper node's label as the first letter")
         .more(BRANCH_MORE)
-        .example("whatif-text branch-with-upper examples/branch.txt 6 4 < examples/sample.txt"),
+        .answers().example("whatif-text branch-with-upper examples/branch.txt 6 4 < examples/sample.txt"),
     verb("colours", BRANCH, 3, 4, "branch by colours: the colour at each node of the path, with the drops marked")
         .more(BRANCH_MORE)
-        .example("whatif-text colours --branch examples/colours.txt 6 4 < examples/sample.txt"),
+        .answers().example("whatif-text colours --branch examples/colours.txt 6 4 < examples/sample.txt"),
     verb("colours-with-upper", BRANCH, 3, 4, "the same with the upper node's label as the first letter")
         .more(BRANCH_MORE)
-        .example("whatif-text colours-with-upper examples/colours.txt 6 4 < examples/sample.txt"),
+        .answers().example("whatif-text colours-with-upper examples/colours.txt 6 4 < examples/sample.txt"),
     verb("session", "SCRIPT", 1, 1, "what each call of a script answers: load, start, advance, cancel, read")
         .more("A line is load, start NODE->LABEL .., start none, advance [TIMES|all], cancel or read.")
-        .example("whatif-text session examples/session.txt < examples/sample.txt"),
+        .answers().example("whatif-text session examples/session.txt < examples/sample.txt"),
     verb("screens", "SCRIPT", 1, 1, "the same for eight screens on one mill: load, start, deal, cancel, read")
         .more("A line is load, start SCREEN NODE->LABEL .., start SCREEN none, deal [TIMES|all], cancel SCREEN or read SCREEN.")
-        .example("whatif-text screens examples/screens.txt < examples/sample.txt"),
+        .answers().example("whatif-text screens examples/screens.txt < examples/sample.txt"),
     verb("build", "NODES STATES", 2, 2, "writes node table and state table into two files")
-        .example("whatif-text build nodes.tab states.tab < examples/sample.txt"),
+        .answers().example("whatif-text build nodes.tab states.tab < examples/sample.txt"),
     verb("check", "NODES STATES", 2, 2, "are these the tables that build writes? else the first wrong node")
-        .example("whatif-text check nodes.tab states.tab < examples/sample.txt"),
+        .answers().example("whatif-text check nodes.tab states.tab < examples/sample.txt"),
     verb("planner", "import|export|dot", 1, 1, "a planner's tree to our plan, home again, or both as a picture (Graphviz)")
         .more("The input is text or bytes: a planner's file, or for export a plan. With --bytes bytes are written too:\nthe plan's, or for export the planner's file.")
         .example("whatif-text planner import < examples/planner.txt")
@@ -107,7 +115,7 @@ pub const ALL: &[Verb] = &[
         .example("whatif-text merge examples/sample.txt examples/sample.txt"),
     verb("agree", "FILE FILE [dot]", 2, 3, "do two rules judge every plan alike? else a plan that they judge differently")
         .without_input()
-        .example("whatif-text agree examples/sample.txt examples/sample.txt"),
+        .answers().example("whatif-text agree examples/sample.txt examples/sample.txt"),
     verb("random", "--nodes N --shape arch|comb|balanced|random ..", 0, ANY, "a plan to try, with rules and questions, as text")
         .more("[--states S] [--labels K] [--questions Q] [--changes M] [--rules lasting|random] [--seed X]")
         .without_input()

@@ -1,6 +1,7 @@
 //! `whatif-text why`: the states along the path from each changed node, until they rejoin the old run.
 
 use crate::input::Input;
+use crate::json::Object;
 use crate::loaded::Loaded;
 use crate::outcome::Failure;
 use crate::questions::Change;
@@ -13,7 +14,7 @@ const FIRST: usize = 4;
 const LAST: usize = 2;
 
 /// Of one of the questions, counted from 1; every step where `whole`.
-pub fn of_question(input: &Input, question: usize, whole: bool) -> Result<String, Failure> {
+pub fn of_question(input: &Input, question: usize, whole: bool, json: bool) -> Result<String, Failure> {
     let list = input.question(question)?;
     let mut loaded = Loaded::new(&input.plan, &input.rules)?;
     let answer = loaded.ask(list)?.answer;
@@ -22,10 +23,16 @@ pub fn of_question(input: &Input, question: usize, whole: bool) -> Result<String
     if changed.before(root) != answer.state {
         return Err(Failure::wrong("a fault of whatif-text: the changed plan's run and the library's answer differ"));
     }
+    let paths = Paths { loaded: &loaded, changed: &changed, list, whole, told: BTreeSet::new() };
+    if json {
+        let asked = Object::new().count("question", question).changes("changes", list).answer(&answer);
+        let asked = asked.truth("was_cleared", loaded.is_cleared()).number("was_state", loaded.before(root));
+        return Ok(asked.line() + &paths.objects());
+    }
     let was = sentences::verdict(loaded.is_cleared());
     let (said, before) = (sentences::answer(&answer), loaded.before(root));
     let head = format!("{}: {}\nas it is: {}, state {}\n", sentences::question(question, list), said, was, before);
-    Ok(head + &Paths { loaded: &loaded, changed: &changed, list, whole, told: BTreeSet::new() }.all())
+    Ok(head + &paths.all())
 }
 
 struct Paths<'a> {
@@ -49,6 +56,26 @@ impl Paths<'_> {
     fn all(mut self) -> String {
         let listed: BTreeSet<u16> = self.list.iter().map(|change| change.0).collect();
         listed.into_iter().map(|v| self.from(v as usize)).collect()
+    }
+
+    /// Every listed node and every one above it whose state is another, by rising number: an object each.
+    fn objects(&self) -> String {
+        let mut nodes = BTreeSet::new();
+        for &(v, _) in self.list {
+            let mut at = usize::from(v);
+            while nodes.insert(at) && self.differs(at) && at + 1 < self.loaded.nodes() {
+                at = self.loaded.parent(at);
+            }
+        }
+        nodes.into_iter().map(|v| self.object(v)).collect()
+    }
+
+    fn object(&self, v: usize) -> String {
+        let (before, after) = self.states(v);
+        let object = Object::new().count("node", v).number("label", self.loaded.labels()[v]);
+        let object = self.takes(v).into_iter().fold(object, |object, to| object.number("to", to));
+        let object = object.number("before", before).number("after", after);
+        object.truth("root", v + 1 == self.loaded.nodes()).line()
     }
 
     /// From a listed node up.

@@ -45,7 +45,7 @@ fn choices_that_clear() {
     for seed in 0..60 {
         let input = input(&format!("--nodes 41 --shape random --states 5 --labels 3 --seed {}", seed));
         let open: Vec<usize> = (0..41).step_by(7 + seed % 5).collect();
-        let text = text::count::of_nodes(&input, &open).unwrap();
+        let text = text::count::of_nodes(&input, &open, false).unwrap();
         match text.split_once("a choice that clears it: ") {
             Some((_, choice)) => {
                 let pairs = choice.trim().split(' ').map(|pair| pair.split_once("->").expect("NODE->LABEL"));
@@ -70,7 +70,7 @@ fn choices_that_clear() {
 fn the_largest_plan() {
     let input = input("--nodes 65535 --shape comb --labels 64 --states 16");
     let begun = std::time::Instant::now();
-    let text = text::suggest::of_nodes(&input, &[]).unwrap();
+    let text = text::suggest::of_nodes(&input, &[], None, false).unwrap();
     assert!(text.contains("of 4128705 changes at 65535 nodes turn that"), "{}", &text[..200]);
     println!("{} changes in {:?}", 65_535 * 63, begun.elapsed());
 }
