@@ -8,7 +8,7 @@ use crate::terminal::Colour;
 use crate::verbs::{self, Verb};
 
 /// Options with a value, and which field they fill.
-const FILES: [&str; 6] = ["--input", "--plan", "--planner", "--rules", "--questions", "--branch"];
+const FILES: [&str; 7] = ["--input", "--plan", "--planner", "--rules", "--questions", "--branch", "--names"];
 
 /// When verdicts have colours: each verb that answers takes it.
 const COLOURS: [(&str, Colour); 3] = [("auto", Colour::Auto), ("always", Colour::Always), ("never", Colour::Never)];
@@ -83,13 +83,14 @@ impl<'a> Args<'a> {
             }
             _ => (),
         }
-        let Files { input, plan, planner, rules, questions, branch } = &mut self.files;
+        let Files { input, plan, planner, rules, questions, branch, names } = &mut self.files;
         let place = match name {
             "--input" => input,
             "--plan" => plan,
             "--planner" => planner,
             "--rules" => rules,
             "--questions" => questions,
+            "--names" => names,
             _ => branch,
         };
         if let Some(before) = place.replace(value) {

@@ -3,6 +3,7 @@
 
 use crate::input::Input;
 use crate::json::Object;
+use crate::names::Names;
 use crate::outcome::Failure;
 use crate::sentences::{climbed, count};
 use whatif::{BranchTable, BranchVerdict, Branches, Plan, Refusal};
@@ -23,6 +24,9 @@ digraph branch {
 pub(crate) const YES: &str = "#9ed89e";
 pub(crate) const NO: &str = "#f2a0a0";
 
+/// A branch table's bytes, and its names.
+pub type Table = (Vec<u8>, Names);
+
 /// Which word is read: whether the upper node's label is its first letter.
 #[derive(Clone, Copy, PartialEq, Eq)]
 pub enum Reading {
@@ -38,10 +42,12 @@ pub struct Asked {
     pub(crate) labels: Vec<u8>,
     /// After each node's label; none for an upper node that is not read.
     pub(crate) states: Vec<Option<u8>>,
+    /// Of the plan's labels and the table's states.
+    pub(crate) names: Names,
 }
 
 /// By the library; the states on the way are worked out here and compared with its answer.
-pub fn ask(input: &Input, table: &[u8], nodes: [usize; 2], reading: Reading) -> Result<Asked, Failure> {
+pub fn ask(input: &Input, table: &Table, nodes: [usize; 2], reading: Reading) -> Result<Asked, Failure> {
     let asked = by_library(input, table, nodes, reading).map_err(Failure::refused)?;
     let last = asked.states[asked.states.len() - 1].unwrap_or(0);
     if last != asked.verdict.state {
@@ -50,8 +56,8 @@ pub fn ask(input: &Input, table: &[u8], nodes: [usize; 2], reading: Reading) -> 
     Ok(asked)
 }
 
-fn by_library(input: &Input, table: &[u8], nodes: [usize; 2], reading: Reading) -> Result<Asked, Refusal> {
-    let branches = Branches::build(Plan::from_bytes(&input.plan[..])?, BranchTable::from_bytes(table)?)?;
+fn by_library(input: &Input, (table, names): &Table, nodes: [usize; 2], reading: Reading) -> Result<Asked, Refusal> {
+    let branches = Branches::build(Plan::from_bytes(&input.plan[..])?, BranchTable::from_bytes(&table[..])?)?;
     let [upper, lower] = nodes.map(|v| u32::try_from(v).unwrap_or(u32::MAX));
     let verdict = match reading {
         Reading::BelowUpper => branches.ask(upper, lower)?,
@@ -59,7 +65,8 @@ fn by_library(input: &Input, table: &[u8], nodes: [usize; 2], reading: Reading) 
     };
     let path: Vec<usize> = branches.path(upper, lower)?.into_iter().map(usize::from).collect();
     let labels: Vec<u8> = path.iter().map(|&v| branches.plan().labels()[v]).collect();
-    Ok(Asked { reading, verdict, states: along(branches.table(), &labels, reading), labels, path })
+    let names = Names::labels_and_states(&names.clone().or(&input.names), names);
+    Ok(Asked { reading, verdict, states: along(branches.table(), &labels, reading), labels, path, names })
 }
 
 fn along(table: &BranchTable, labels: &[u8], reading: Reading) -> Vec<Option<u8>> {
@@ -85,7 +92,14 @@ impl Asked {
         let from = if self.reading == Reading::WithUpper { "from" } else { "from below" };
         let (upper, lower) = (self.path[0], self.path[self.path.len() - 1]);
         let yes = if self.verdict.yes { "yes" } else { "no" };
-        format!("{} node {} down to node {}: {}, state {}", from, upper, lower, yes, self.verdict.state)
+        format!(
+            "{} node {} down to node {}: {}, state {}",
+            from,
+            upper,
+            lower,
+            yes,
+            self.names.state(self.verdict.state)
+        )
     }
 
     /// The places on the path that are told, and how many are left out after the first of them.
@@ -105,8 +119,8 @@ impl Asked {
             if left_out > 0 && i == FIRST {
                 text += &format!("  .. {}\n", count(left_out, "node"));
             }
-            let state = self.states[at].map_or("not read".into(), |state| format!("state {}", state));
-            text += &format!("  node {}, label {}: {}\n", self.path[at], self.labels[at], state);
+            let state = self.states[at].map_or("not read".into(), |state| format!("state {}", self.names.state(state)));
+            text += &format!("  node {}, label {}: {}\n", self.path[at], self.names.label(self.labels[at]), state);
         }
         text
     }
@@ -122,12 +136,12 @@ impl Asked {
         let (upper, lower) = (self.path[0], self.path[self.path.len() - 1]);
         let asked = Object::new().count("upper", upper).count("lower", lower);
         let asked = asked.truth("with_upper", self.reading == Reading::WithUpper);
-        asked.truth("yes", yes).number("state", state).number("links", links).number("passed", passed)
+        asked.truth("yes", yes).state("state", state, &self.names).number("links", links).number("passed", passed)
     }
 
     pub(crate) fn node_object(&self, at: usize) -> Object {
-        let node = Object::new().count("node", self.path[at]).number("label", self.labels[at]);
-        self.states[at].into_iter().fold(node, |node, state| node.number("state", state))
+        let node = Object::new().count("node", self.path[at]).label("label", self.labels[at], &self.names);
+        self.states[at].into_iter().fold(node, |node, state| node.state("state", state, &self.names))
     }
 
     /// The path as Graphviz text; the lower node has the answer's colour.
@@ -135,13 +149,20 @@ impl Asked {
         let (told, left_out) = self.told(false);
         let mut text = HEAD.to_string() + &format!("    label=\"{}\\n \";\n", self.sentence());
         for &at in &told {
-            let state = self.states[at].map_or(String::new(), |state| format!("\\nstate {}", state));
+            let state = self.states[at].map_or(String::new(), |state| format!("\\nstate {}", self.names.state(state)));
             let dotted = if self.states[at].is_none() { ", style=\"filled,dotted\"" } else { "" };
             let colour = if self.verdict.yes { YES } else { NO };
             let end = if at + 1 == self.path.len() { format!(", fillcolor=\"{}\"", colour) } else { String::new() };
             let v = self.path[at];
-            text +=
-                &format!("    {} [label=\"node {}\\nlabel {}{}\"{}{}];\n", v, v, self.labels[at], state, dotted, end);
+            text += &format!(
+                "    {} [label=\"node {}\\nlabel {}{}\"{}{}];\n",
+                v,
+                v,
+                self.names.label(self.labels[at]),
+                state,
+                dotted,
+                end
+            );
         }
         for (i, pair) in told.windows(2).enumerate() {
             let left = format!(" [style=dashed, label=\" {} \"]", count(left_out, "node"));

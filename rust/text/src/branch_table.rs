@@ -6,15 +6,21 @@
 //! step * 0 -> 0     # state and label, and the state after it; * is any of them
 //! step * 1 -> 1     # a later line counts
 //! accept 1
+//! names             # may be left out; those of labels are the input's where this has none
+//! state 1 worn
 //! ```
 
 use crate::lines::{self, all_raw, raw_text, Line, Wrong};
+use crate::names::Names;
 use crate::rules::{count, some};
 use whatif::{layout, BranchTable};
 
-/// The bytes of a text.
-pub fn of(text: &str) -> Result<Vec<u8>, Wrong> {
-    to_bytes(&lines::of(text).collect::<Vec<_>>())
+/// The bytes of a text, and its names.
+pub fn of(text: &str) -> Result<(Vec<u8>, Names), Wrong> {
+    let lines: Vec<Line> = lines::of(text).collect();
+    let at = lines.iter().position(|line| line.words == ["names"]);
+    let (table, names) = lines.split_at(at.unwrap_or(lines.len()));
+    Ok((to_bytes(table)?, Names::of(names.get(1..).unwrap_or_default())?))
 }
 
 fn to_bytes(lines: &[Line]) -> Result<Vec<u8>, Wrong> {

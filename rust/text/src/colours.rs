@@ -1,7 +1,7 @@
 //! `whatif-text colours` and `colours-with-upper`: a branch question by colours, with the colour at each node of the
 //! path and the drops marked, as text or as a picture.
 
-use crate::branch::{self, Asked, Reading, FIRST, LAST, NO, NODES, YES};
+use crate::branch::{self, Asked, Reading, Table, FIRST, LAST, NO, NODES, YES};
 use crate::input::Input;
 use crate::outcome::Failure;
 use crate::sentences::{climbed, count};
@@ -27,10 +27,10 @@ pub struct Coloured {
 }
 
 /// By the library, twice; the colours on the way are read from its tables and compared with its answer.
-pub fn ask(input: &Input, table: &[u8], nodes: [usize; 2], reading: Reading) -> Result<Coloured, Failure> {
+pub fn ask(input: &Input, table: &Table, nodes: [usize; 2], reading: Reading) -> Result<Coloured, Failure> {
     let asked = branch::ask(input, table, nodes, reading)?;
     let refused = Failure::refused;
-    let built = build(input, table).map_err(refused)?;
+    let built = build(input, &table.0).map_err(refused)?;
     let [upper, lower] = nodes.map(|v| v as u32);
     let verdict = match reading {
         Reading::BelowUpper => built.ask(upper, lower),
@@ -107,16 +107,17 @@ impl Coloured {
     /// A line a node.
     pub fn text(&self, whole: bool) -> String {
         let mut text = format!("{}\n{}\n", self.sentence(), self.beside());
-        let mut next = 0;
+        let (mut next, names) = (0, &self.asked.names);
         for at in self.told(whole) {
             if at > next {
                 text += &format!("  .. {}\n", count(at - next, "node"));
             }
             next = at + 1;
-            let state = self.asked.states[at].map_or("not read".into(), |state| format!("state {}", state));
+            let state =
+                self.asked.states[at].map_or("not read".into(), |state| format!("state {}", names.state(state)));
             let (colour, fallen) = self.at(at);
             let drop = fallen.map_or(String::new(), |before| format!(", a drop from colour {}", before));
-            let (v, label) = (self.asked.path[at], self.asked.labels[at]);
+            let (v, label) = (self.asked.path[at], names.label(self.asked.labels[at]));
             text += &format!("  node {}, label {}: {}, colour {}{}\n", v, label, state, colour, drop);
         }
         text
@@ -136,7 +137,7 @@ impl Coloured {
 
     /// The path as Graphviz text; the lower node has the answer's colour.
     pub fn picture(&self) -> String {
-        let told = self.told(false);
+        let (told, names) = (self.told(false), &self.asked.names);
         let mut text = HEAD.to_string() + &format!("    label=\"{}\\n{}\\n \";\n", self.sentence(), self.beside());
         // a drop at the first node has no line above it
         if let (_, Some(before)) = self.at(0) {
@@ -145,12 +146,12 @@ impl Coloured {
             text += &format!("    above -> {}{};\n", v, dropped(None));
         }
         for &at in &told {
-            let state = self.asked.states[at].map_or(String::new(), |state| format!("\\nstate {}", state));
+            let state = self.asked.states[at].map_or(String::new(), |state| format!("\\nstate {}", names.state(state)));
             let dotted = if self.asked.states[at].is_none() { ", style=\"filled,dotted\"" } else { "" };
             let verdict = if self.verdict.yes { YES } else { NO };
             let last = at + 1 == self.asked.path.len();
             let end = if last { format!(", fillcolor=\"{}\"", verdict) } else { String::new() };
-            let (v, label, colour) = (self.asked.path[at], self.asked.labels[at], self.at(at).0);
+            let (v, label, colour) = (self.asked.path[at], names.label(self.asked.labels[at]), self.at(at).0);
             let words = format!("node {}\\nlabel {}{}, colour {}", v, label, state, colour);
             text += &format!("    {} [label=\"{}\"{}{}];\n", v, words, dotted, end);
         }

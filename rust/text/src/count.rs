@@ -15,7 +15,7 @@ use whatif::{Counts, Refusal};
 
 /// Of the given nodes, each open to all labels of the rules.
 pub fn of_nodes(input: &Input, nodes: &[usize], json: bool) -> Result<String, Failure> {
-    let loaded = Loaded::new(&input.plan, &input.rules)?;
+    let loaded = Loaded::of(input)?;
     let open = as_nodes(&loaded, nodes)?;
     let told = loaded.panel.count(&open).map_err(|refusal| count_refused(refusal, &loaded, &open))?;
     let chosen = choice(&loaded, &open, &told)?;
@@ -31,11 +31,19 @@ fn objects(loaded: &Loaded, open: &[u16], told: &Counts, chosen: Option<&[Change
     let whole = Object::new().list("open", open.iter().map(u16::to_string)).count("labels", loaded.rules().labels());
     let whole = whole.number("choices", told.all()).number("clearing", told.clearing());
     let whole = whole.number("parts", told.parts).number("links", told.links);
-    let whole = whole.truth("was_cleared", loaded.is_cleared()).number("was_state", loaded.before(loaded.nodes() - 1));
-    let whole = chosen.into_iter().fold(whole, |whole, chosen| whole.changes("choice", chosen));
+    let whole = whole.truth("was_cleared", loaded.is_cleared()).state(
+        "was_state",
+        loaded.before(loaded.nodes() - 1),
+        &loaded.names,
+    );
+    let whole = chosen.into_iter().fold(whole, |whole, chosen| whole.changes("choice", chosen, &loaded.names));
     let state = |(state, &number): (usize, &u64)| {
         let cleared = loaded.rules().accepts(state as u8);
-        Object::new().count("state", state).number("choices", number).truth("cleared", cleared).line()
+        Object::new()
+            .state("state", state as u8, &loaded.names)
+            .number("choices", number)
+            .truth("cleared", cleared)
+            .line()
     };
     whole.line() + &told.by_state().iter().enumerate().map(state).collect::<String>()
 }
@@ -79,7 +87,8 @@ fn table(loaded: &Loaded, told: &Counts) -> String {
     let mut text = format!("state  {:>wide$}  {:>12}\n", "choices", "share", wide = wide);
     for (state, number) in numbers.iter().enumerate() {
         let (share, clears) = (share(told.by_state()[state], all), verdict(rules.accepts(state as u8)));
-        text += &format!("{:>5}  {:>wide$}  {:>12}  {}\n", state, number, share, clears, wide = wide);
+        let named = loaded.names.state_name(state as u8).map_or(String::new(), |name| format!(" ({})", name));
+        text += &format!("{:>5}  {:>wide$}  {:>12}  {}{}\n", state, number, share, clears, named, wide = wide);
     }
     text + "\n"
 }
@@ -91,7 +100,7 @@ fn clears(loaded: &Loaded, told: &Counts) -> String {
         _ if clearing == all => "every choice clears the plan".to_string(),
         _ => format!("{} of {} clear the plan: {}", grouped(clearing), choices(all), share(clearing, all)),
     };
-    let before = loaded.before(loaded.nodes() - 1);
+    let before = loaded.names.state(loaded.before(loaded.nodes() - 1));
     format!("{}\nas it is: {}, state {}\n", said, verdict(loaded.is_cleared()), before)
 }
 

@@ -5,6 +5,7 @@
 //! |---|---|
 //! | `--plan`, `--rules`, `--questions` | that section of a text, that part of the bytes of `whatif`, or such bytes alone |
 //! | `--planner` | the plan of a planner's tree, as text (with its rules and questions) or as its file |
+//! | `--names` | the names of a text |
 //! | `--input` | every section that no other option names |
 //!
 //! Without any of these the input is standard input.
@@ -12,6 +13,7 @@
 use crate::formats::{breaks_off, first_wrong_byte, form, text_of, Form};
 use crate::input::Input;
 use crate::lines::{self, Line, Wrong};
+use crate::names::Names;
 use crate::outcome::Failure;
 use crate::{parts_of, plan, planner, questions, rules, sections, Sections};
 use std::io::{self, Read};
@@ -26,6 +28,7 @@ pub struct Files<'a> {
     pub rules: Option<&'a str>,
     pub questions: Option<&'a str>,
     pub branch: Option<&'a str>,
+    pub names: Option<&'a str>,
 }
 
 /// What was found so far.
@@ -36,6 +39,7 @@ struct Found {
     questions: Option<Vec<u8>>,
     /// Of a planner's file: the place of each of its nodes in our plan.
     places: Option<Vec<u16>>,
+    names: Names,
 }
 
 impl Files<'_> {
@@ -50,7 +54,7 @@ impl Files<'_> {
 
     /// Plan, rules and questions, from wherever they come.
     pub fn read(&self) -> Result<Input, Failure> {
-        let all = [self.input(), self.plan, self.planner, self.rules, self.questions, self.branch];
+        let all = [self.input(), self.plan, self.planner, self.rules, self.questions, self.branch, self.names];
         once_standard_input(&all.into_iter().flatten().collect::<Vec<_>>())?;
         if let (Some(plan), Some(planner)) = (self.plan, self.planner) {
             return Err(Failure::Usage(format!("--plan {} and --planner {}: only one can be the plan", plan, planner)));
@@ -68,11 +72,14 @@ impl Files<'_> {
         if let Some(path) = self.questions {
             found.questions = Some(questions_of(path, found.places.as_deref())?);
         }
+        if let Some(path) = self.names {
+            found.names = names_of(path)?;
+        }
         if let Some(path) = self.input() {
             found.take_rest(path)?;
         }
         let [plan, rules, questions] = [found.plan, found.rules, found.questions].map(Option::unwrap_or_default);
-        Ok(Input { plan, rules, questions: questions::of_bytes(&questions) })
+        Ok(Input { plan, rules, questions: questions::of_bytes(&questions), names: found.names })
     }
 }
 
@@ -88,6 +95,10 @@ impl Found {
     fn take_rest(&mut self, path: &str) -> Result<(), Failure> {
         let bytes = file(path)?;
         let [plan, rules, questions] = rest(&bytes).map_err(|what| of_input(path, what))?;
+        if form(&bytes) == Form::Text {
+            let named = sections(text_of(&bytes).unwrap_or_default()).and_then(|found| Names::of(&found.names));
+            self.names = std::mem::take(&mut self.names).or(&named.map_err(|w| of_input(path, w.to_string()))?);
+        }
         self.plan = self.plan.take().or(plan);
         self.rules = self.rules.take().or(rules);
         self.questions = self.questions.take().or(questions);
@@ -125,7 +136,7 @@ pub fn show(files: &Files) -> Result<String, Failure> {
         return Ok(crate::show(&input.as_bytes()).expect("as it was written"));
     }
     if let Some(path) = files.branch {
-        return Ok(crate::branch_table::to_text(&branch_of(path)?));
+        return Ok(crate::branch_table::to_text(&branch_of(path)?.0));
     }
     let path = files.input.unwrap_or("-");
     let bytes = file(path)?;
@@ -166,7 +177,7 @@ fn rest(bytes: &[u8]) -> Result<[Option<Vec<u8>>; 3], String> {
 }
 
 fn of_sections(text: &str) -> Result<[Option<Vec<u8>>; 3], Wrong> {
-    let Sections { plan, rules, questions } = sections(text)?;
+    let Sections { plan, rules, questions, .. } = sections(text)?;
     Ok([Some(plan::to_bytes(&plan)?), Some(rules::to_bytes(&rules)?), Some(questions::to_bytes(&questions)?)])
 }
 
@@ -236,12 +247,18 @@ pub fn questions_of(path: &str, places: Option<&[u16]>) -> Result<Vec<u8>, Failu
     }
 }
 
-/// A branch table's bytes, of text or as they are.
-pub fn branch_of(path: &str) -> Result<Vec<u8>, Failure> {
+/// The names of a text.
+fn names_of(path: &str) -> Result<Names, Failure> {
+    let text = text(path)?;
+    sections(&text).and_then(|found| Names::of(&found.names)).map_err(|w| wrong(path, w))
+}
+
+/// A branch table's bytes, of text or as they are, with the names that a text has.
+pub fn branch_of(path: &str) -> Result<(Vec<u8>, Names), Failure> {
     let bytes = file(path)?;
     match form(&bytes) {
         Form::BranchText => crate::branch_table::of(text_of(&bytes).unwrap_or_default()).map_err(|w| wrong(path, w)),
-        _ => held_to(path, bytes, Form::Branch),
+        _ => Ok((held_to(path, bytes, Form::Branch)?, Names::default())),
     }
 }
 

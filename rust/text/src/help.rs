@@ -10,7 +10,7 @@ INPUT is text or the bytes that the program whatif reads, a plan of up to 65,535
 const TAIL: &str = "
 Files, each as text or as the library's own bytes, - for standard input:
 
-  --plan FILE, --rules FILE, --questions FILE, --branch FILE
+  --plan FILE, --rules FILE, --questions FILE, --branch FILE, --names FILE
                         that section alone
   --planner FILE        the plan of a planner's tree
   --input FILE          every section that no other option names; without options: standard input

@@ -1,8 +1,9 @@
 //! The input of a verb, from whatever files it comes: files.rs reads them.
 
+use crate::names::Names;
 use crate::outcome::Failure;
 use crate::questions::{self, Change};
-use crate::{parts_of, write};
+use crate::{parts_of, sections, write};
 use whatif::layout::{number, with_header};
 
 /// Plan and rules as bytes, whatever they hold, and the questions.
@@ -10,13 +11,15 @@ pub struct Input {
     pub plan: Vec<u8>,
     pub rules: Vec<u8>,
     pub questions: Vec<Vec<Change>>,
+    pub names: Names,
 }
 
 impl Input {
     pub fn of_text(text: &str) -> Result<Input, Failure> {
         let bytes = write(text)?;
         let [plan, rules, questions] = parts_of(&bytes).expect("as it was written");
-        Ok(Input { plan: plan.to_vec(), rules: rules.to_vec(), questions: questions::of_bytes(questions) })
+        let (names, questions) = (Names::of(&sections(text)?.names)?, questions::of_bytes(questions));
+        Ok(Input { plan: plan.to_vec(), rules: rules.to_vec(), questions, names })
     }
 
     /// "three 32-bit lengths (plan, rules, questions), then those bytes"

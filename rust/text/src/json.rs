@@ -1,5 +1,6 @@
 //! One JSON object a line: for whoever reads answers by a program.
 
+use crate::names::Names;
 use crate::outcome::{Failure, Refused};
 use crate::questions::Change;
 use std::fmt::Display;
@@ -40,16 +41,30 @@ impl Object {
         self.field(name, format!("[{}]", values.into_iter().collect::<Vec<_>>().join(",")))
     }
 
+    /// A state, and its name where it has one.
+    pub fn state(self, name: &str, state: u8, names: &Names) -> Object {
+        self.number(name, state).named(name, names.state_name(state))
+    }
+
+    /// A label, and its name where it has one.
+    pub fn label(self, name: &str, label: u8, names: &Names) -> Object {
+        self.number(name, label).named(name, names.label_name(label))
+    }
+
+    fn named(self, name: &str, of: Option<&str>) -> Object {
+        of.into_iter().fold(self, |object, of| object.text(&format!("{}_name", name), of))
+    }
+
     /// A list of changes, an object each.
-    pub fn changes(self, name: &str, changes: &[Change]) -> Object {
-        let change = |&(node, label): &Change| Object::new().number("node", node).number("label", label).inner();
+    pub fn changes(self, name: &str, changes: &[Change], names: &Names) -> Object {
+        let change = |&(node, label): &Change| Object::new().number("node", node).label("label", label, names).inner();
         self.list(name, changes.iter().map(change))
     }
 
     /// What a question is answered.
-    pub fn answer(self, answer: &Answer) -> Object {
+    pub fn answer(self, answer: &Answer, names: &Names) -> Object {
         let counts = [("parts", answer.parts), ("links", answer.links), ("passed", answer.passed)];
-        let told = self.truth("cleared", answer.yes).number("state", answer.state);
+        let told = self.truth("cleared", answer.yes).state("state", answer.state, names);
         counts.into_iter().fold(told, |told, (name, count)| told.number(name, count))
     }
 
@@ -93,7 +108,7 @@ fn string(text: &str) -> String {
 
 #[cfg(test)]
 mod tests {
-    use super::{string, Object};
+    use super::{string, Names, Object};
 
     #[test]
     fn strings() {
@@ -102,7 +117,8 @@ mod tests {
 
     #[test]
     fn fields() {
-        let object = Object::new().number("a", 1u8).truth("b", true).text("c", "x").changes("d", &[(1, 2)]);
+        let object =
+            Object::new().number("a", 1u8).truth("b", true).text("c", "x").changes("d", &[(1, 2)], &Names::default());
         assert_eq!(object.line(), "{\"a\":1,\"b\":true,\"c\":\"x\",\"d\":[{\"node\":1,\"label\":2}]}\n");
         assert_eq!(Object::new().and(Object::new().count("a", 1)).and(Object::new()).inner(), "{\"a\":1}");
     }

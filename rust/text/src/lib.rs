@@ -16,6 +16,9 @@
 //! questions         # a question a line: node->label for each change
 //! none
 //! 0->0 2->0
+//! names             # for people; may be left out, or stand before the others
+//! label 1 fine-bur
+//! state 1 cleared
 //! ```
 //!
 //! `#` begins a comment. Bytes that have no such form, or that are to be refused, are written as they are, with lines
@@ -25,7 +28,7 @@
 //! Two texts of rules can be merged into one, or compared on every plan; plan and questions beside the rules are left
 //! aside.
 //!
-//! Order: `lines` (words and numbers), `plan`, `rules`, `questions` (each from text to bytes and back), `formats` (what a
+//! Order: `lines` (words and numbers), `plan`, `rules`, `questions` (each from text to bytes and back), `names`, `formats` (what a
 //! file looks like), `files` and `input` (where plan, rules and questions come from), `nearest`, `verbs`, `args`, `help`
 //! (the command line), `outcome` (what a verb writes, its status), `sentences`, `json`, `terminal` (colours), `loaded` (the library's session on an
 //! input), `progress`, `generator` (random trees and tables); then a file a verb: `answer`, `outline`, `why`, `suggest`,
@@ -49,6 +52,7 @@ pub mod input;
 pub mod json;
 pub mod lines;
 pub mod loaded;
+pub mod names;
 pub mod nearest;
 pub mod outcome;
 pub mod outline;
@@ -80,17 +84,23 @@ pub struct Sections<'a> {
     pub plan: Vec<Line<'a>>,
     pub rules: Vec<Line<'a>>,
     pub questions: Vec<Line<'a>>,
+    pub names: Vec<Line<'a>>,
 }
 
 pub(crate) const NAMES: [&str; 3] = ["plan", "rules", "questions"];
 
-/// Sections may be left out, but not exchanged.
+/// Sections may be left out, but not exchanged; names may stand anywhere.
 pub fn sections(text: &str) -> Result<Sections<'_>, Wrong> {
     let mut found = [vec![], vec![], vec![]];
+    let (mut names, mut in_names, mut had_names) = (Vec::new(), false, false);
     let mut at = None;
     for line in lines::of(text) {
         let named = NAMES.iter().position(|name| line.words == [*name]);
+        in_names = line.words == ["names"] || (in_names && named.is_none());
         match (named, at) {
+            _ if line.words == ["names"] && had_names => return Err(line.wrong("'names' stands again")),
+            _ if line.words == ["names"] => had_names = true,
+            _ if in_names => names.push(line),
             (Some(next), None) => at = Some(next),
             (Some(next), Some(now)) if next > now => at = Some(next),
             (Some(next), _) => return Err(line.wrong(format!("'{}' stands too late, or again", NAMES[next]))),
@@ -99,7 +109,7 @@ pub fn sections(text: &str) -> Result<Sections<'_>, Wrong> {
         }
     }
     let [plan, rules, questions] = found;
-    Ok(Sections { plan, rules, questions })
+    Ok(Sections { plan, rules, questions, names })
 }
 
 /// "three 32-bit lengths (plan, rules, questions), then those bytes"

@@ -105,7 +105,7 @@ fn write(args: &Args, part: &str) -> Result<Made, Failure> {
         0 => args.files.read()?.plan,
         1 => args.files.read()?.rules,
         2 => text::questions::as_bytes(&args.files.read()?.questions),
-        _ => files::branch_of(args.files.branch.or(args.files.input).unwrap_or("-"))?,
+        _ => files::branch_of(args.files.branch.or(args.files.input).unwrap_or("-"))?.0,
     }))
 }
 
@@ -136,14 +136,14 @@ fn branch(args: &Args, words: &[&str]) -> Result<Made, Failure> {
     let (nodes, shown) = ([a_node(words[0])?, a_node(words[1])?], words.get(2).unwrap_or(&""));
     let shown = one_of(shown, &[("", Shape::Short), ("all", Shape::All), ("dot", Shape::Dot)])?;
     let reading = if args.verb.name.ends_with("-with-upper") { Reading::WithUpper } else { Reading::BelowUpper };
-    let (bytes, input) = (files::branch_of(table)?, args.files.read()?);
+    let (table, input) = (files::branch_of(table)?, args.files.read()?);
     Ok(Made::answered(match (args.verb.name.starts_with("branch"), shown) {
-        (true, Shape::Dot) => text::branch::ask(&input, &bytes, nodes, reading)?.picture(),
-        (true, _) if args.json => text::branch::ask(&input, &bytes, nodes, reading)?.objects(),
-        (true, shape) => text::branch::ask(&input, &bytes, nodes, reading)?.text(shape == Shape::All),
-        (false, Shape::Dot) => text::colours::ask(&input, &bytes, nodes, reading)?.picture(),
-        (false, _) if args.json => text::colours::ask(&input, &bytes, nodes, reading)?.objects(),
-        (false, shape) => text::colours::ask(&input, &bytes, nodes, reading)?.text(shape == Shape::All),
+        (true, Shape::Dot) => text::branch::ask(&input, &table, nodes, reading)?.picture(),
+        (true, _) if args.json => text::branch::ask(&input, &table, nodes, reading)?.objects(),
+        (true, shape) => text::branch::ask(&input, &table, nodes, reading)?.text(shape == Shape::All),
+        (false, Shape::Dot) => text::colours::ask(&input, &table, nodes, reading)?.picture(),
+        (false, _) if args.json => text::colours::ask(&input, &table, nodes, reading)?.objects(),
+        (false, shape) => text::colours::ask(&input, &table, nodes, reading)?.text(shape == Shape::All),
     }))
 }
 

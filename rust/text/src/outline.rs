@@ -26,7 +26,7 @@ const WORDS: &str = "#777777";
 /// Of one of the questions, counted from 1.
 pub fn of_question(input: &Input, question: usize) -> Result<String, Failure> {
     let changes = input.question(question)?;
-    let mut loaded = Loaded::new(&input.plan, &input.rules)?;
+    let mut loaded = Loaded::of(input)?;
     let asked = loaded.ask(changes)?;
     Ok(picture(&loaded, &asked, question, changes))
 }
@@ -69,9 +69,9 @@ fn picture(loaded: &Loaded, asked: &Asked, question: usize, changes: &[Change]) 
     let mut text = HEAD.to_string() + &title(loaded, asked, question);
     for (&v, &after) in asked.roots.iter().zip(&asked.states) {
         let to = changes.iter().rev().find(|change| change.0 as usize == v).map(|change| change.1);
-        let label = to.map_or(String::new(), |to| format!(" to {}", to));
-        let states = sentences::state(loaded.before(v), after);
-        let words = format!("node {}\\nlabel {}{}\\n{}", v, loaded.labels()[v], label, states);
+        let label = to.map_or(String::new(), |to| format!(" to {}", loaded.names.label(to)));
+        let states = sentences::state(loaded.before(v), after, &loaded.names);
+        let words = format!("node {}\\nlabel {}{}\\n{}", v, loaded.names.label(loaded.labels()[v]), label, states);
         text += &format!("    {} [label=\"{}\"{}];\n", v, words, look(loaded, asked, v, after, to.is_some()));
     }
     for edge in edges(loaded, &asked.roots) {
@@ -86,9 +86,9 @@ fn picture(loaded: &Loaded, asked: &Asked, question: usize, changes: &[Change]) 
 
 fn title(loaded: &Loaded, asked: &Asked, question: usize) -> String {
     let root = loaded.nodes() - 1;
-    let before = loaded.before(root);
+    let before = loaded.names.state(loaded.before(root));
     let was = sentences::verdict(loaded.is_cleared());
-    let told = sentences::answer(&asked.answer);
+    let told = sentences::answer(&asked.answer, &loaded.names);
     let as_it_is = format!("as it is: {}, state {}, {}", was, before, count(root + 1, "node"));
     format!("    label=\"Question {}: {}\\n({})\\n \";\n", question, told, as_it_is)
 }

@@ -17,7 +17,11 @@ pub fn of_questions(input: &Input, lower: usize, upper: usize, json: bool) -> Re
         .map_err(Failure::refused)?;
     let laid: Vec<Change> = nodes.into_iter().zip(labels).take(count).collect();
     if json {
-        return Ok(Object::new().count("lower", lower).count("upper", upper).changes("changes", &laid).line());
+        return Ok(Object::new()
+            .count("lower", lower)
+            .count("upper", upper)
+            .changes("changes", &laid, &input.names)
+            .line());
     }
     let [low, high] = [(lower, lists[0]), (upper, lists[1])].map(|(number, list)| sentences::question(number, list));
     Ok(format!("# {}\n# laid over {}\n{}\n", high, low, sentences::changes(&laid)))

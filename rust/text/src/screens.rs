@@ -145,7 +145,12 @@ impl Run<'_> {
     /// The last finished answer, in whatever state.
     fn read(&self, screen: u32) -> Result<Said, Failure> {
         let state = self.screens().state(screen);
-        let said = |answer| (sentences::answer(&answer), Object::new().number("screen", screen).answer(&answer));
+        let said = |answer| {
+            (
+                sentences::answer(&answer, &self.input.names),
+                Object::new().number("screen", screen).answer(&answer, &self.input.names),
+            )
+        };
         self.screens().read(screen).map(said).map_err(|refusal| match state {
             Some(State::Loaded) | Some(State::Running) => {
                 Failure::refused_about(refusal, "no question is finished since load")

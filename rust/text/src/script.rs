@@ -108,7 +108,9 @@ impl Run<'_> {
         let words = format!("part {} of {}, {}", done, parts, if finished { "finished" } else { "more" });
         let object = Object::new().number("part", done).number("of", parts).truth("finished", finished);
         let newest = panel.session().handled().last();
-        let told = newest.into_iter().fold(object, |o, part| o.number("root", part.root).number("state", part.state));
+        let told = newest
+            .into_iter()
+            .fold(object, |o, part| o.number("root", part.root).state("state", part.state, &self.input.names));
         Ok((words, told))
     }
 
@@ -124,7 +126,10 @@ impl Run<'_> {
     /// The last finished answer, in whatever state.
     fn read(&self, state: Option<State>) -> Result<Said, Failure> {
         let last = self.panel.as_ref().ok_or(Refusal::SessionState).and_then(|panel| panel.last());
-        last.map(|answer| (sentences::answer(&answer), Object::new().answer(&answer))).map_err(|refusal| match state {
+        last.map(|answer| {
+            (sentences::answer(&answer, &self.input.names), Object::new().answer(&answer, &self.input.names))
+        })
+        .map_err(|refusal| match state {
             Some(State::Loaded) | Some(State::Running) => {
                 Failure::refused_about(refusal, "no question is finished since load")
             }

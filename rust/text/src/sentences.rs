@@ -1,6 +1,7 @@
 //! The words of answers and refusals.
 
 use crate::json::Object;
+use crate::names::Names;
 use crate::outcome::{Failure, Refused};
 use crate::questions::Change;
 use whatif::layout::number;
@@ -20,9 +21,9 @@ pub fn verdict(yes: bool) -> &'static str {
     }
 }
 
-pub fn answer(answer: &Answer) -> String {
-    let parts = count(answer.parts as usize, "part");
-    format!("{}, state {}, {}, {}", verdict(answer.yes), answer.state, parts, climbed(answer.links, answer.passed))
+pub fn answer(answer: &Answer, names: &Names) -> String {
+    let (state, parts) = (names.state(answer.state), count(answer.parts as usize, "part"));
+    format!("{}, state {}, {}, {}", verdict(answer.yes), state, parts, climbed(answer.links, answer.passed))
 }
 
 /// What a call says: in words, and as fields.
@@ -63,11 +64,11 @@ pub fn question(number: usize, list: &[Change]) -> String {
 }
 
 /// `before to after`, or that it is as before.
-pub fn state(before: u8, after: u8) -> String {
+pub fn state(before: u8, after: u8, names: &Names) -> String {
     if before == after {
-        format!("state {}, as before", after)
+        format!("state {}, as before", names.state(after))
     } else {
-        format!("state {} to {}", before, after)
+        format!("state {} to {}", names.state(before), names.state(after))
     }
 }
 

@@ -23,7 +23,7 @@ const HELD: usize = 1_000;
 
 /// Of the given nodes; of all where none is given. With `first` the nearest to the root alone, so many.
 pub fn of_nodes(input: &Input, nodes: &[usize], first: Option<usize>, json: bool) -> Result<String, Failure> {
-    let loaded = Loaded::new(&input.plan, &input.rules)?;
+    let loaded = Loaded::of(input)?;
     let n = loaded.nodes();
     if let Some(v) = nodes.iter().find(|&&v| v >= n) {
         return Err(Failure::wrong(format!("there is no node {}: the plan's are 0 to {}", v, n - 1)));
@@ -47,10 +47,10 @@ pub fn of_nodes(input: &Input, nodes: &[usize], first: Option<usize>, json: bool
 /// One for the whole, then one for each change.
 fn objects(loaded: &Loaded, [nodes, tried, all]: [usize; 3], turns: &[Turn]) -> String {
     let whole = Object::new().truth("was_cleared", loaded.is_cleared());
-    let whole = whole.number("was_state", loaded.before(loaded.nodes() - 1));
+    let whole = whole.state("was_state", loaded.before(loaded.nodes() - 1), &loaded.names);
     let whole = whole.count("nodes", nodes).count("tried", tried).count("turn", all).count("told", turns.len());
     let change = |turn: &Turn| {
-        let object = Object::new().number("node", turn.node).number("label", turn.label);
+        let object = Object::new().number("node", turn.node).label("label", turn.label, &loaded.names);
         object.number("depth", loaded.node(turn.node.into()).depth).line()
     };
     whole.line() + &turns.iter().map(change).collect::<String>()
@@ -124,7 +124,7 @@ fn held_to_the_library(loaded: &Loaded, turns: &[Turn]) -> Result<(), Failure> {
 
 fn text(loaded: &Loaded, [nodes, tried, all]: [usize; 3], turns: &[Turn]) -> String {
     let now = loaded.is_cleared();
-    let root = loaded.before(loaded.nodes() - 1);
+    let root = loaded.names.state(loaded.before(loaded.nodes() - 1));
     let head = format!("# as it is: {}, state {}\n", verdict(now), root);
     let (tried, nodes) = (count(tried, "change"), count(nodes, "node"));
     let told = match all {
@@ -139,6 +139,11 @@ fn text(loaded: &Loaded, [nodes, tried, all]: [usize; 3], turns: &[Turn]) -> Str
         told if told < all => format!("# the first {}, nearest to the root\n", told),
         _ => String::new(),
     };
-    let line = |turn: &Turn| format!("{}->{}\n", turn.node, turn.label);
+    let line = |turn: &Turn| {
+        let (own, to) = (loaded.labels()[usize::from(turn.node)], turn.label);
+        let named = [own, to].iter().any(|&label| loaded.names.label_name(label).is_some());
+        let names = format!("  # label {} to {}", loaded.names.label(own), loaded.names.label(to));
+        format!("{}->{}{}\n", turn.node, to, if named { names } else { String::new() })
+    };
     head + &told + &first + "questions\n" + &turns.iter().map(line).collect::<String>()
 }

@@ -16,7 +16,7 @@ const LAST: usize = 2;
 /// Of one of the questions, counted from 1; every step where `whole`.
 pub fn of_question(input: &Input, question: usize, whole: bool, json: bool) -> Result<String, Failure> {
     let list = input.question(question)?;
-    let mut loaded = Loaded::new(&input.plan, &input.rules)?;
+    let mut loaded = Loaded::of(input)?;
     let answer = loaded.ask(list)?.answer;
     let changed = loaded.changed(list)?;
     let root = loaded.nodes() - 1;
@@ -25,12 +25,16 @@ pub fn of_question(input: &Input, question: usize, whole: bool, json: bool) -> R
     }
     let paths = Paths { loaded: &loaded, changed: &changed, list, whole, told: BTreeSet::new() };
     if json {
-        let asked = Object::new().count("question", question).changes("changes", list).answer(&answer);
-        let asked = asked.truth("was_cleared", loaded.is_cleared()).number("was_state", loaded.before(root));
+        let asked = Object::new()
+            .count("question", question)
+            .changes("changes", list, &input.names)
+            .answer(&answer, &input.names);
+        let asked =
+            asked.truth("was_cleared", loaded.is_cleared()).state("was_state", loaded.before(root), &input.names);
         return Ok(asked.line() + &paths.objects());
     }
     let was = sentences::verdict(loaded.is_cleared());
-    let (said, before) = (sentences::answer(&answer), loaded.before(root));
+    let (said, before) = (sentences::answer(&answer, &input.names), input.names.state(loaded.before(root)));
     let head = format!("{}: {}\nas it is: {}, state {}\n", sentences::question(question, list), said, was, before);
     Ok(head + &paths.all())
 }
@@ -72,9 +76,10 @@ impl Paths<'_> {
 
     fn object(&self, v: usize) -> String {
         let (before, after) = self.states(v);
-        let object = Object::new().count("node", v).number("label", self.loaded.labels()[v]);
-        let object = self.takes(v).into_iter().fold(object, |object, to| object.number("to", to));
-        let object = object.number("before", before).number("after", after);
+        let names = &self.loaded.names;
+        let object = Object::new().count("node", v).label("label", self.loaded.labels()[v], names);
+        let object = self.takes(v).into_iter().fold(object, |object, to| object.label("to", to, names));
+        let object = object.state("before", before, names).state("after", after, names);
         object.truth("root", v + 1 == self.loaded.nodes()).line()
     }
 
@@ -130,7 +135,7 @@ impl Paths<'_> {
 
     fn step(&self, step: &Step) -> String {
         let (before, after) = self.states(step.from);
-        let states = sentences::state(before, after);
+        let states = sentences::state(before, after, &self.loaded.names);
         match step.nodes {
             1 => format!("  node {}: {}\n", step.from, states),
             nodes => format!("  nodes {} up to {}, {} of them: {}\n", step.from, step.to, nodes, states),
@@ -140,11 +145,11 @@ impl Paths<'_> {
     fn line(&self, v: usize, end: &str) -> String {
         let (before, after) = self.states(v);
         let label = self.takes(v).map_or(String::new(), |to| {
-            let own = self.loaded.labels()[v];
-            format!(", label {} to {}", own, to)
+            let names = &self.loaded.names;
+            format!(", label {} to {}", names.label(self.loaded.labels()[v]), names.label(to))
         });
         let root = if v + 1 == self.loaded.nodes() { ", the root" } else { "" };
-        format!("node {}{}{}: {}{}\n", v, root, label, sentences::state(before, after), end)
+        format!("node {}{}{}: {}{}\n", v, root, label, sentences::state(before, after, &self.loaded.names), end)
     }
 
     /// The label that a listed node is to take.
