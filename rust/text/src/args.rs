@@ -25,6 +25,8 @@ pub struct Args<'a> {
     pub colour: Colour,
     /// So many of what is found.
     pub first: Option<usize>,
+    /// A page of an outline, from 1 on.
+    pub page: usize,
 }
 
 /// All options of a verb.
@@ -40,7 +42,7 @@ impl<'a> Args<'a> {
         let (name, rest) = words.split_first().ok_or_else(|| usage("a verb is missing: whatif-text help"))?;
         let verb = verb(name)?;
         let (words, files, colour) = (Vec::new(), Files::default(), Colour::Auto);
-        let mut args = Args { verb, words, files, bytes: false, json: false, colour, first: None };
+        let mut args = Args { verb, words, files, bytes: false, json: false, colour, first: None, page: 1 };
         if verb.own_options {
             args.words = rest.to_vec();
             return Ok(args);
@@ -72,9 +74,12 @@ impl<'a> Args<'a> {
         let value = value.or_else(|| rest.next());
         let value = value.ok_or_else(|| usage(format!("'{}' needs a value", name)))?;
         match name {
-            "--first" => {
-                let number = value.parse().map_err(|_| usage(format!("--first {}: this is no number", value)))?;
-                self.first = Some(number);
+            "--first" | "--page" => {
+                let number = value.parse().map_err(|_| usage(format!("{} {}: this is no number", name, value)))?;
+                match name {
+                    "--first" => self.first = Some(number),
+                    _ => self.page = number,
+                }
                 return Ok(());
             }
             "--colour" => {

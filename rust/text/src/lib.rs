@@ -28,13 +28,15 @@
 //! Two texts of rules can be merged into one, or compared on every plan; plan and questions beside the rules are left
 //! aside.
 //!
-//! Order: `lines` (words and numbers), `plan`, `rules`, `questions` (each from text to bytes and back), `names`, `formats` (what a
-//! file looks like), `files` and `input` (where plan, rules and questions come from), `nearest`, `verbs`, `args`, `help`
-//! (the command line), `outcome` (what a verb writes, its status), `sentences`, `json`, `terminal` (colours), `loaded` (the library's session on an
-//! input), `progress`, `generator` (random trees and tables); then a file a verb: `answer`, `outline`, `why`, `suggest`,
-//! `count`, `script` (session), `screens`, `over`, `branch` (by a `branch_table`), `colours` (the same by colours),
-//! `stored` (build and check), `random`, `dot` (a small plan whole), `agree` (a separating plan). Writing, showing,
-//! merging and choosing a picture are in this file.
+//! Order: `lines` (words and numbers), `plan`, `rules`, `questions`, `names` (each from text, and to bytes and back where
+//! it has any), `formats` (what a file looks like), `files` and `input` (where plan, rules and questions come from),
+//! `nearest`, `verbs`, `args`, `help` (the command line), `outcome` (what a verb writes, its status), `sentences`,
+//! `json`, `terminal` (colours), `loaded` (the library's session on an input), `progress`, `generator` (random trees and
+//! tables), `picture` and `svg` (any picture), `drawing` (what pictures of a question share); then a file a verb:
+//! `answer`, `outline`, `why`, `suggest`, `count`, `script` (session), `screens`, `over`, `branch` (by a
+//! `branch_table`), `colours` (the same by colours), `stored` (build and check), `random`, `dot` (a small plan whole),
+//! `grids` (tables drawn), `agree` (a separating plan). Writing, showing, merging and choosing a picture are in this
+//! file.
 
 pub mod agree;
 pub mod answer;
@@ -44,9 +46,11 @@ pub mod branch_table;
 pub mod colours;
 pub mod count;
 pub mod dot;
+pub mod drawing;
 pub mod files;
 pub mod formats;
 pub mod generator;
+pub mod grids;
 pub mod help;
 pub mod input;
 pub mod json;
@@ -57,6 +61,7 @@ pub mod nearest;
 pub mod outcome;
 pub mod outline;
 pub mod over;
+pub mod picture;
 pub mod plan;
 pub mod planner;
 pub mod progress;
@@ -68,15 +73,19 @@ pub mod script;
 pub mod sentences;
 pub mod stored;
 pub mod suggest;
+pub mod svg;
 pub mod terminal;
 pub mod verbs;
 pub mod why;
 
+use drawing::Question;
 use input::Input;
 use lines::{Line, Wrong};
+use loaded::Loaded;
 use outcome::Failure;
+use picture::Drawn;
 use whatif::layout::{number, with_header};
-use whatif::{sizes, Refusal, Rules};
+use whatif::{Refusal, Rules};
 
 /// The lines of each section.
 #[derive(Default)]
@@ -159,11 +168,15 @@ pub fn merge(first: &[u8], second: &[u8]) -> Result<String, Refusal> {
 /// More nodes than these are drawn as an outline.
 pub const DRAWN_WHOLE: usize = 100;
 
-/// The plan with the parts of one of the questions, counted from 1, as Graphviz text: whole, or its outline.
-pub fn draw(input: &Input, question: usize) -> Result<String, Failure> {
-    let changes = input.question(question)?;
-    if input.plan.len() > sizes::plan_bytes(DRAWN_WHOLE) {
-        return outline::of_question(input, question);
+/// The plan with the parts of one of the questions, counted from 1: whole where it is small and may be, else a page of its
+/// outline. The library is asked first.
+pub fn draw(input: &Input, number: usize, whole: bool, page: usize, how: Drawn) -> Result<String, Failure> {
+    let changes = input.question(number)?;
+    let mut loaded = Loaded::of(input)?;
+    let asked = loaded.ask(changes)?;
+    let question = Question { loaded: &loaded, asked: &asked, number, changes };
+    match whole && loaded.nodes() <= DRAWN_WHOLE {
+        true => Ok(dot::picture(&question)?.drawn(how)),
+        false => Ok(outline::picture(&question, page)?.drawn(how)),
     }
-    dot::picture(&input.plan, changes).map_err(Failure::refused)
 }

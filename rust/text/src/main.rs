@@ -8,6 +8,7 @@ use text::branch::Reading;
 use text::input::Input;
 use text::json::Object;
 use text::outcome::{self, Failure, Made};
+use text::picture::Drawn;
 use text::{files, help};
 use whatif::{Line, Plan, Rules};
 
@@ -51,6 +52,8 @@ fn made(words: &[&str]) -> Result<Made, Failure> {
     }
 }
 
+const DRAWN: [(&str, Drawn); 2] = [("dot", Drawn::Dot), ("svg", Drawn::Svg)];
+
 fn answered(args: &Args) -> Result<Made, Failure> {
     let input = || args.files.read();
     let words = &args.words[..];
@@ -59,7 +62,7 @@ fn answered(args: &Args) -> Result<Made, Failure> {
         ("write", [part]) => write(args, part),
         ("show", _) => text::files::show(&args.files).map(Made::answered),
         ("planner", [word]) => {
-            one_of(word, &[("import", ()), ("export", ()), ("dot", ())])?;
+            one_of(word, &[("import", ()), ("export", ()), ("dot", ()), ("svg", ())])?;
             let file = args.files.planner.or(args.files.plan).or(args.files.input).unwrap_or("-");
             text::planner::made(word, &files::file(file)?, args.bytes).map(Made::answered)
         }
@@ -72,8 +75,22 @@ fn answered(args: &Args) -> Result<Made, Failure> {
             text::suggest::of_nodes(&input()?, &numbers(nodes)?, args.first, args.json).map(Made::answered)
         }
         ("count", nodes) => text::count::of_nodes(&input()?, &numbers(nodes)?, args.json).map(Made::answered),
-        ("outline", [question]) => text::outline::of_question(&input()?, a_question(question)?).map(Made::answered),
-        ("dot", [question]) => text::draw(&input()?, a_question(question)?).map(Made::answered),
+        ("outline", [question, rest @ ..]) => {
+            let how = one_of(rest.first().unwrap_or(&"dot"), &DRAWN)?;
+            text::draw(&input()?, a_question(question)?, false, args.page, how).map(Made::answered)
+        }
+        (name @ ("dot" | "svg"), [question]) => {
+            text::draw(&input()?, a_question(question)?, true, args.page, one_of(name, &DRAWN)?).map(Made::answered)
+        }
+        ("rules", [word]) => {
+            let (how, input) = (one_of(word, &DRAWN)?, input()?);
+            text::grids::rules(&input.rules, &input.names, how).map(Made::answered)
+        }
+        ("branch-table", [word]) => {
+            let how = one_of(word, &DRAWN)?;
+            let (bytes, names) = files::branch_of(args.files.branch.or(args.files.input).unwrap_or("-"))?;
+            text::grids::branch_table(&bytes, &names, how).map(Made::answered)
+        }
         ("over", [lower, upper]) => {
             text::over::of_questions(&input()?, a_question(lower)?, a_question(upper)?, args.json).map(Made::answered)
         }
@@ -88,7 +105,10 @@ fn answered(args: &Args) -> Result<Made, Failure> {
         ("agree", [first, second]) if args.json => agree(&two_rules(first, second)?, text::agree::object, true),
         ("agree", [first, second]) => agree(&two_rules(first, second)?, separating_text, false),
         ("agree", [first, second, word]) => {
-            let shown: Shown = one_of(word, &[("dot", (|_, lines, _| text::agree::picture(lines)) as Shown)])?;
+            let shown: Shown = match one_of(word, &DRAWN)? {
+                Drawn::Dot => |_, lines, _| text::agree::picture(lines, Drawn::Dot),
+                Drawn::Svg => |_, lines, _| text::agree::picture(lines, Drawn::Svg),
+            };
             agree(&two_rules(first, second)?, shown, false)
         }
         ("random", options) => {
@@ -134,14 +154,16 @@ fn branch(args: &Args, words: &[&str]) -> Result<Made, Failure> {
         None => (words[0], &words[1..]),
     };
     let (nodes, shown) = ([a_node(words[0])?, a_node(words[1])?], words.get(2).unwrap_or(&""));
-    let shown = one_of(shown, &[("", Shape::Short), ("all", Shape::All), ("dot", Shape::Dot)])?;
+    let (short, all) = (Shape::Short, Shape::All);
+    let pictures = [("dot", Shape::Picture(Drawn::Dot)), ("svg", Shape::Picture(Drawn::Svg))];
+    let shown = one_of(shown, &[("", short), ("all", all), pictures[0], pictures[1]])?;
     let reading = if args.verb.name.ends_with("-with-upper") { Reading::WithUpper } else { Reading::BelowUpper };
     let (table, input) = (files::branch_of(table)?, args.files.read()?);
     Ok(Made::answered(match (args.verb.name.starts_with("branch"), shown) {
-        (true, Shape::Dot) => text::branch::ask(&input, &table, nodes, reading)?.picture(),
+        (true, Shape::Picture(how)) => text::branch::ask(&input, &table, nodes, reading)?.picture(how),
         (true, _) if args.json => text::branch::ask(&input, &table, nodes, reading)?.objects(),
         (true, shape) => text::branch::ask(&input, &table, nodes, reading)?.text(shape == Shape::All),
-        (false, Shape::Dot) => text::colours::ask(&input, &table, nodes, reading)?.picture(),
+        (false, Shape::Picture(how)) => text::colours::ask(&input, &table, nodes, reading)?.picture(how),
         (false, _) if args.json => text::colours::ask(&input, &table, nodes, reading)?.objects(),
         (false, shape) => text::colours::ask(&input, &table, nodes, reading)?.text(shape == Shape::All),
     }))
@@ -152,7 +174,7 @@ fn branch(args: &Args, words: &[&str]) -> Result<Made, Failure> {
 enum Shape {
     Short,
     All,
-    Dot,
+    Picture(Drawn),
 }
 
 /// How a separating plan is shown: which of the two clear it, the lines that are needed, and the plan where it has one.
@@ -168,8 +190,10 @@ fn agree([first, second]: &[Vec<u8>; 2], shown: Shown, json: bool) -> Result<Mad
         Some(plan) => plan,
     };
     let lines = text::agree::needed(&plan.lines().collect::<Vec<_>>());
-    let yes = [&first, &second].map(|rules| text::agree::clears(rules, &lines));
-    Ok(Made { bytes: shown(yes, &lines, plan.to_plan().as_ref()).into_bytes(), status: outcome::NO })
+    let plan = plan.to_plan();
+    let yes = [&first, &second].map(|rules| text::agree::verdict(rules, &lines, plan.as_ref()));
+    let [first, second] = yes;
+    Ok(Made { bytes: shown([first?, second?], &lines, plan.as_ref()).into_bytes(), status: outcome::NO })
 }
 
 fn separating_text(yes: [bool; 2], lines: &[Line], plan: Option<&Plan>) -> String {

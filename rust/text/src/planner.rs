@@ -14,9 +14,11 @@
 //! A file that has no such form is written with lines of the word `bytes`. The planner's own files are read and written
 //! as bytes too.
 
+use crate::dot::from_the_top;
 use crate::formats::{form, text_of, Form};
 use crate::lines::{self, all_raw, raw_text, Line, Wrong};
 use crate::outcome::Failure;
+use crate::picture::{Drawn, Edge, Look, Node, Picture, Stroke, PLAIN_LOOK};
 use crate::{parts_of, plan, questions, rules};
 use std::fmt;
 use whatif::{layout, Planned, PlannerNode, Refusal};
@@ -78,7 +80,7 @@ pub fn made(word: &str, input: &[u8], as_bytes: bool) -> Result<Vec<u8>, Failure
     let planned = match (text_of(input), form(input)) {
         (Some(text), _) => {
             let first = if home { "plan" } else { "planner" };
-            if !as_bytes {
+            if !as_bytes && word != "svg" {
                 return Ok(verb(&[word]).map_or(Ok(String::new()), |verb| verb(text))?.into_bytes());
             }
             let text = Text::of(text, first)?;
@@ -98,6 +100,7 @@ pub fn made(word: &str, input: &[u8], as_bytes: bool) -> Result<Vec<u8>, Failure
         (true, _) => planned.plan().as_bytes().to_vec(),
         (false, "export") => home_text(&planned).into_bytes(),
         (false, "import") => plan_text(&planned).into_bytes(),
+        (false, "svg") => both(&planned).drawn(Drawn::Svg).into_bytes(),
         (false, _) => drawn(&planned).into_bytes(),
     })
 }
@@ -304,6 +307,40 @@ digraph planner {
     node [shape=circle];
     edge [dir=none];
 ";
+
+/// The planner's tree and, beside it, our plan: the same for our own layout.
+fn both(planned: &Planned) -> Picture {
+    let (mut nodes, mut edges) = (Vec::new(), Vec::new());
+    for (v, ((above, _), node)) in above(planned).into_iter().zip(planned.nodes()).enumerate() {
+        let lines = vec![format!("p{}", v), format!("label {}", node.label)];
+        nodes.push(Node { tip: lines.join(", "), lines, look: PLAIN_LOOK });
+        edges.extend(above.map(|w| Edge { from: w, to: v, stroke: Stroke::Plain, words: String::new() }));
+    }
+    let (n, labels, children) = (nodes.len(), planned.plan().labels(), planned.plan().children());
+    let (of_plan, root) = (of_plan(planned), labels.len() - 1);
+    let order = from_the_top(root, |v| children[v].map_or(vec![], |(l, r)| vec![l.into(), r.into()]));
+    let mut places = vec![0; labels.len()];
+    order.iter().enumerate().for_each(|(i, &v)| places[v] = n + i);
+    for &v in &order {
+        let lines = match of_plan[v] {
+            Some(u) => vec![format!("{}", v), format!("label {}", labels[v]), format!("p{}", u)],
+            None => vec![format!("{}, the end of a list", v)],
+        };
+        let look = Look { point: of_plan[v].is_none(), ..PLAIN_LOOK };
+        nodes.push(Node { tip: lines.join(", "), lines, look });
+        if let Some((left, right)) = children[v] {
+            for (child, stroke) in [(left, Stroke::Plain), (right, Stroke::Dashed)] {
+                edges.push(Edge { from: places[v], to: places[usize::from(child)], stroke, words: String::new() });
+            }
+        }
+    }
+    let title = vec!["The planner's tree, and our plan of it".to_string()];
+    let legend = vec![
+        (PLAIN_LOOK, "a full line leads to the list of a node's children"),
+        (Look { light: true, ..PLAIN_LOOK }, "a dashed line leads to the rest of its own list; a dot ends a list"),
+    ];
+    Picture { name: "planner", title, nodes, edges, legend }
+}
 
 /// A planner's text as Graphviz text: its tree and, beside it, our plan.
 fn picture(text: &str) -> Result<String, Failed> {

@@ -2,8 +2,8 @@
 //!
 //! From the root down, by the run states that the library's Load wrote: the set of states of a node with which the
 //! plan is cleared, all else as it is. Then a change needs one application of the rules and one look at the set of
-//! its node, so all changes of the largest plan take a moment. Up to a thousand of those that are told, evenly
-//! spread, are put to the library's fresh run.
+//! its node, so all changes of the largest plan take a moment. That is plain Rust, and said so. What is told is put to
+//! the library: all of it, or where the rules have more than 4 states up to a thousand, evenly spread.
 
 use crate::input::Input;
 use crate::json::Object;
@@ -11,6 +11,8 @@ use crate::loaded::Loaded;
 use crate::outcome::Failure;
 use crate::progress::Progress;
 use crate::sentences::{count, verdict};
+use whatif::sizes::MAX_COLOUR_STATES;
+use whatif::RuleColours;
 
 /// A change, and the root's verdict with it.
 #[derive(Clone, Copy, Debug, PartialEq, Eq)]
@@ -36,19 +38,24 @@ pub fn of_nodes(input: &Input, nodes: &[usize], first: Option<usize>, json: bool
         turns.sort_by_key(|turn| loaded.node(turn.node.into()).depth);
         turns.truncate(first);
     }
-    held_to_the_library(&loaded, &turns)?;
+    let held = held_to_the_library(&loaded, &turns)?;
     let tried = nodes.len() * (loaded.rules().labels() - 1);
     if json {
-        return Ok(objects(&loaded, [nodes.len(), tried, all], &turns));
+        return Ok(objects(&loaded, [nodes.len(), tried, all, held], &turns));
     }
-    Ok(text(&loaded, [nodes.len(), tried, all], &turns))
+    Ok(text(&loaded, [nodes.len(), tried, all, held], &turns))
 }
 
 /// One for the whole, then one for each change.
-fn objects(loaded: &Loaded, [nodes, tried, all]: [usize; 3], turns: &[Turn]) -> String {
+fn objects(loaded: &Loaded, [nodes, tried, all, held]: [usize; 4], turns: &[Turn]) -> String {
     let whole = Object::new().truth("was_cleared", loaded.is_cleared());
     let whole = whole.state("was_state", loaded.before(loaded.nodes() - 1), &loaded.names);
-    let whole = whole.count("nodes", nodes).count("tried", tried).count("turn", all).count("told", turns.len());
+    let whole = whole
+        .count("nodes", nodes)
+        .count("tried", tried)
+        .count("turn", all)
+        .count("told", turns.len())
+        .count("asked", held);
     let change = |turn: &Turn| {
         let object = Object::new().number("node", turn.node).label("label", turn.label, &loaded.names);
         object.number("depth", loaded.node(turn.node.into()).depth).line()
@@ -106,23 +113,33 @@ fn inner(loaded: &Loaded, left: u8, label: u8, right: u8) -> u8 {
     loaded.rules().inner(left, label, right).expect("states and a label of the rules")
 }
 
-fn held_to_the_library(loaded: &Loaded, turns: &[Turn]) -> Result<(), Failure> {
-    let now = loaded.is_cleared();
-    let apart = (turns.len() + HELD - 1) / HELD;
+/// How many of the changes were asked of the library: all of them by colours where the rules have few states, else up to a
+/// thousand by fresh runs.
+fn held_to_the_library(loaded: &Loaded, turns: &[Turn]) -> Result<usize, Failure> {
+    let (plan, rules, now) = (loaded.panel.plan(), loaded.rules(), loaded.is_cleared());
+    let colours = match rules.states() <= MAX_COLOUR_STATES && turns.len() > HELD {
+        true => RuleColours::build(plan.clone(), rules.clone()).ok(),
+        false => None,
+    };
+    let apart = if colours.is_some() { 1 } else { (turns.len() + HELD - 1) / HELD };
     let some: Vec<&Turn> = turns.iter().step_by(apart.max(1)).collect();
-    let mut progress = Progress::of(some.len(), "changes put to the library");
+    let mut progress = Progress::of(some.len(), "changes asked of the library");
     for (i, turn) in some.iter().enumerate() {
         progress.done(i);
-        let fresh = loaded.panel.fresh_run(&[(turn.node, turn.label)]);
-        if fresh.map_or(true, |fresh| fresh.yes == now) {
+        let change = [(turn.node, turn.label)];
+        let yes = match &colours {
+            Some(colours) => colours.ask(&change).map(|answer| answer.yes),
+            None => loaded.panel.fresh_run(&change).map(|fresh| fresh.yes),
+        };
+        if yes.map_or(true, |yes| yes == now) {
             let change = format!("{}->{}", turn.node, turn.label);
             return Err(Failure::wrong(format!("a fault of whatif-text: {} turns nothing by the library", change)));
         }
     }
-    Ok(())
+    Ok(some.len())
 }
 
-fn text(loaded: &Loaded, [nodes, tried, all]: [usize; 3], turns: &[Turn]) -> String {
+fn text(loaded: &Loaded, [nodes, tried, all, held]: [usize; 4], turns: &[Turn]) -> String {
     let now = loaded.is_cleared();
     let root = loaded.names.state(loaded.before(loaded.nodes() - 1));
     let head = format!("# as it is: {}, state {}\n", verdict(now), root);
@@ -139,11 +156,16 @@ fn text(loaded: &Loaded, [nodes, tried, all]: [usize; 3], turns: &[Turn]) -> Str
         told if told < all => format!("# the first {}, nearest to the root\n", told),
         _ => String::new(),
     };
+    let asked = match turns.len() {
+        0 => String::new(),
+        told if told == held => "# worked out by whatif-text; the library says the same of each\n".to_string(),
+        told => format!("# worked out by whatif-text; the library says the same of {} of these {}\n", held, told),
+    };
     let line = |turn: &Turn| {
         let (own, to) = (loaded.labels()[usize::from(turn.node)], turn.label);
         let named = [own, to].iter().any(|&label| loaded.names.label_name(label).is_some());
         let names = format!("  # label {} to {}", loaded.names.label(own), loaded.names.label(to));
         format!("{}->{}{}\n", turn.node, to, if named { names } else { String::new() })
     };
-    head + &told + &first + "questions\n" + &turns.iter().map(line).collect::<String>()
+    head + &told + &first + &asked + "questions\n" + &turns.iter().map(line).collect::<String>()
 }

@@ -57,10 +57,11 @@ impl Verb {
     }
 }
 
-const BRANCH: &str = "[TABLE] UPPER LOWER [all|dot]";
+const BRANCH: &str = "[TABLE] UPPER LOWER [all|dot|svg]";
 const BRANCH_MORE: &str =
-    "TABLE is a branch table's file, text or bytes; it may be given by --branch FILE too. Of a long \
-path the first and last\nnodes are told; all: every one; dot: the path as a picture (Graphviz).";
+    "TABLE is a branch table's file, text or bytes; it may be given by --branch FILE too. Of a long
+path the first and last nodes are told; all: every one; dot, svg: the path as a picture.";
+const PAGES: &str = "Above 25 parts or 12 rows an outline has pages; --page N is another one than the first.";
 
 /// In the order of the help.
 pub const ALL: &[Verb] = &[
@@ -74,10 +75,22 @@ pub const ALL: &[Verb] = &[
         .answers().example("whatif-text suggest 2 5 < examples/sample.txt"),
     verb("count", "[NODE ..]", 0, ANY, "how many choices of labels for these nodes end in each state, and one that clears")
         .answers().example("whatif-text count 0 2 < examples/sample.txt"),
-    verb("outline", "QUESTION", 1, 1, "the roots of the parts as a picture, with their states and climbs (Graphviz)")
-        .example("whatif-text outline 4 < examples/sample.txt"),
-    verb("dot", "QUESTION", 1, 1, "the whole plan with the parts; above 100 nodes the outline (Graphviz)")
-        .example("whatif-text dot 4 < examples/sample.txt"),
+    verb("outline", "QUESTION [dot|svg]", 1, 2, "the roots of the parts as a picture, with their states and climbs")
+        .more(PAGES)
+        .options(&["--page"])
+        .example("whatif-text outline 4 svg < examples/sample.txt > outline.svg"),
+    verb("dot", "QUESTION", 1, 1, "the whole plan with the parts, for Graphviz; above 100 nodes the outline")
+        .more(PAGES)
+        .options(&["--page"])
+        .example("whatif-text dot 4 < examples/sample.txt > plan.gv"),
+    verb("svg", "QUESTION", 1, 1, "the same picture as SVG, without Graphviz")
+        .more(PAGES)
+        .options(&["--page"])
+        .example("whatif-text svg 4 < examples/sample.txt > plan.svg"),
+    verb("rules", "dot|svg", 1, 1, "the rule table as a picture: a grid for each label")
+        .example("whatif-text rules svg < examples/sample.txt > rules.svg"),
+    verb("branch-table", "dot|svg", 1, 1, "the branch table of --branch FILE as a picture")
+        .example("whatif-text branch-table svg --branch examples/branch.txt > branch.svg"),
     verb("over", "LOWER UPPER", 2, 2, "question UPPER's list laid over question LOWER's, as a question to paste")
         .answers().example("whatif-text over 4 9 < examples/sample.txt"),
     verb("branch", BRANCH, 3, 4, "what a branch table makes of the labels from below node UPPER down to node LOWER")
@@ -102,7 +115,7 @@ pub const ALL: &[Verb] = &[
         .answers().example("whatif-text build nodes.tab states.tab < examples/sample.txt"),
     verb("check", "NODES STATES", 2, 2, "are these the tables that build writes? else the first wrong node")
         .answers().example("whatif-text check nodes.tab states.tab < examples/sample.txt"),
-    verb("planner", "import|export|dot", 1, 1, "a planner's tree to our plan, home again, or both as a picture (Graphviz)")
+    verb("planner", "import|export|dot|svg", 1, 1, "a planner's tree to our plan, home again, or both as a picture")
         .more("The input is text or bytes: a planner's file, or for export a plan. With --bytes bytes are written too:\nthe plan's, or for export the planner's file.")
         .example("whatif-text planner import < examples/planner.txt")
         .options(&["--bytes"]),
@@ -113,7 +126,7 @@ pub const ALL: &[Verb] = &[
     verb("merge", "FILE FILE", 2, 2, "the rules that clear what the rules of both files clear, as text")
         .without_input()
         .example("whatif-text merge examples/sample.txt examples/sample.txt"),
-    verb("agree", "FILE FILE [dot]", 2, 3, "do two rules judge every plan alike? else a plan that they judge differently")
+    verb("agree", "FILE FILE [dot|svg]", 2, 3, "do two rules judge every plan alike? else a plan that they judge differently")
         .without_input()
         .answers().example("whatif-text agree examples/sample.txt examples/sample.txt"),
     verb("random", "--nodes N --shape arch|comb|balanced|random ..", 0, ANY, "a plan to try, with rules and questions, as text")

@@ -153,7 +153,7 @@ fn a_planner_s_file_of_a_full_arch() {
     assert_eq!(answers.lines().count(), 3);
     assert!(answers.contains(": not cleared, state 0"), "{}", answers);
     assert!(said(&[&["why", "2"][..], &files].concat(), b"").contains("the root, label 0 to 9: state 1 to 0"));
-    assert!(said(&[&["outline", "3"][..], &files].concat(), b"").starts_with("// The roots of the parts"));
+    assert!(said(&[&["outline", "3"][..], &files].concat(), b"").starts_with("digraph outline {"));
     let plan = run(&["planner", "import", "--bytes"], &bytes).0;
     assert_eq!(plan.len(), 12 + 2 * 61_471);
     assert_eq!(run(&["planner", "export", "--bytes"], &plan).0, bytes);

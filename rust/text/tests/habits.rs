@@ -73,8 +73,8 @@ fn usage_errors() {
         (&["answer", "2"], "'2' is one word too many: 'answer' takes no words"),
         (&["why"], "'why' needs more words: whatif-text why QUESTION [all]"),
         (&["why", "2", "al"], "'al' is none of all; did you mean 'all'?"),
-        (&["branch", "x", "6", "4", "dto"], "'dto' is none of all, dot; did you mean 'dot'?"),
-        (&["planner", "inport"], "'inport' is none of import, export, dot; did you mean 'import'?"),
+        (&["branch", "x", "6", "4", "dto"], "'dto' is none of all, dot, svg; did you mean 'dot'?"),
+        (&["planner", "inport"], "'inport' is none of import, export, dot, svg; did you mean 'import'?"),
         (
             &["random", "--node", "7"],
             "'--node' is no option of 'random'; did you mean '--nodes'? (whatif-text help random)",
@@ -187,11 +187,11 @@ fn the_first_suggestions() {
     let few = out(&run(&["suggest", "--first", "3"], &arch));
     let (all, few): (Vec<&str>, Vec<&str>) = (all.lines().collect(), few.lines().collect());
     assert_eq!(&few[..2], &all[..2]);
-    assert_eq!((few.len(), few[2], few[3]), (7, "# the first 3, nearest to the root", "questions"));
-    assert!(few[4].starts_with("2000->") && all.contains(&few[4]), "{:?}", few);
+    assert_eq!((few.len(), few[2], few[4]), (8, "# the first 3, nearest to the root", "questions"));
+    assert!(few[5].starts_with("2000->") && all.contains(&few[5]), "{:?}", few);
     let depths = out(&run(&["suggest", "--first", "50", "--json"], &arch));
     let depth = |line: &str| line.split("\"depth\":").nth(1).unwrap().trim_end_matches('}').parse::<usize>().unwrap();
     let depths: Vec<usize> = depths.lines().skip(1).map(depth).collect();
     assert!(depths.len() == 50 && depths.windows(2).all(|pair| pair[0] <= pair[1]), "{:?}", depths);
-    assert_eq!(out(&run(&["suggest", "--first", "99"], SAMPLE)).lines().count(), 7);
+    assert_eq!(out(&run(&["suggest", "--first", "99"], SAMPLE)).lines().count(), 8);
 }

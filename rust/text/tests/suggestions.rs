@@ -72,6 +72,7 @@ fn the_largest_plan() {
     let begun = std::time::Instant::now();
     let text = text::suggest::of_nodes(&input, &[], None, false).unwrap();
     assert!(text.contains("of 4128705 changes at 65535 nodes turn that"), "{}", &text[..200]);
+    assert!(text.contains("\n# worked out by whatif-text; the library says the same of "), "{}", &text[..300]);
     println!("{} changes in {:?}", 65_535 * 63, begun.elapsed());
 }
 
@@ -88,9 +89,17 @@ fn climbs_of_outlines() {
             let climbs = || edges.iter().filter_map(|edge| edge.climb);
             assert_eq!(climbs().map(|climb| climb.1).sum::<usize>(), asked.answer.links as usize);
             assert_eq!(climbs().map(|climb| climb.0).sum::<usize>(), asked.answer.passed as usize);
-            let drawn = text::dot::picture(&input.plan, question).unwrap();
-            let light = drawn.lines().filter(|line| line.contains("[label=") && line.contains("fillcolor=\"#ffffff\""));
+            let light = text::dot::passed_over(&loaded, &asked.roots).into_iter().filter(|&passed| passed);
             assert_eq!(light.count(), asked.answer.passed as usize);
         }
     }
+}
+
+/// With at most 4 states all that are told are asked of the library, by colours.
+#[test]
+fn all_are_asked_where_the_rules_have_few_states() {
+    let input = input("--nodes 20001 --shape arch --labels 8 --states 4");
+    let text = text::suggest::of_nodes(&input, &[], None, false).unwrap();
+    assert!(text.lines().count() > 5_000, "{}", text.lines().count());
+    assert!(text.contains("# worked out by whatif-text; the library says the same of each\n"), "{}", &text[..300]);
 }
