@@ -1,5 +1,8 @@
 //! What `whatif-text agree` says of two tables: a separating plan as lines, as a plan to paste, and as a picture.
 
+use crate::json::Object;
+use crate::outcome::Failure;
+use crate::picture::{Drawn, Edge, Look, Node, Picture, Stroke, PLAIN_LOOK};
 use crate::plan;
 use whatif::{Line, Plan, Rules};
 
@@ -23,7 +26,19 @@ pub fn needed(lines: &[Line]) -> Vec<Line> {
     lines.iter().zip(&used).filter(|(_, used)| **used).map(|(line, _)| anew(*line)).collect()
 }
 
-/// Do the rules, which have the labels of these lines, clear their plan?
+/// Do the rules clear the plan? By the library's fresh run; of a plan that has more nodes than a plan can have by plain
+/// Rust, from the lines.
+pub fn verdict(rules: &Rules, lines: &[Line], plan: Option<&Plan>) -> Result<bool, Failure> {
+    match plan {
+        None => Ok(clears(rules, lines)),
+        Some(plan) => {
+            let fresh = whatif::fresh_run(plan.as_bytes(), rules.as_bytes(), &[], &[]);
+            fresh.map(|fresh| fresh.yes).map_err(Failure::refused)
+        }
+    }
+}
+
+/// Do the rules, which have the labels of these lines, clear their plan? By plain Rust.
 pub fn clears(rules: &Rules, lines: &[Line]) -> bool {
     let mut states: Vec<u8> = Vec::new();
     for line in lines {
@@ -45,28 +60,46 @@ pub fn text(lines: &[Line], plan: Option<&Plan>) -> String {
     let said: String = lines.iter().enumerate().map(line).collect();
     match plan {
         Some(plan) => format!("{}plan\n{}", said, plan::to_text(plan.as_bytes())),
-        None => said + "# as a tree it has more than 65,535 nodes, the most that a plan can have\n",
+        None => {
+            let most = "# as a tree it has more than 65,535 nodes, the most that a plan can have";
+            format!("{}{}\n# so the two verdicts are worked out by whatif-text, not by the library\n", said, most)
+        }
     }
 }
 
-const HEAD: &str = "\
-// LINE: LABEL. A box is a leaf. The root stands on top; a line to the left child leaves to the left.
-digraph separating {
-    graph [ordering=out];
-    node [shape=circle];
-    edge [dir=none];
-";
+/// The same as an object.
+pub fn object(yes: [bool; 2], lines: &[Line], plan: Option<&Plan>) -> String {
+    let line = |line: &Line| match *line {
+        Line::Leaf { label } => Object::new().number("label", label).inner(),
+        Line::Inner { label, left, right } => {
+            Object::new().number("label", label).count("left", left).count("right", right).inner()
+        }
+    };
+    let object = Object::new().truth("agree", false).truth("first", yes[0]).truth("second", yes[1]);
+    let object = object.list("lines", lines.iter().map(line));
+    plan.into_iter().fold(object, |object, plan| object.count("nodes", plan.nodes())).line()
+}
 
-/// The lines as Graphviz text: a node for each, also where several lead to it.
-pub fn picture(lines: &[Line]) -> String {
-    let mut text = HEAD.to_string();
+/// The lines as a picture: a node for each, also where several lead to it.
+pub fn picture(lines: &[Line], how: Drawn) -> String {
+    let at = |line: usize| lines.len() - 1 - line;
+    let (mut nodes, mut edges) = (Vec::new(), Vec::new());
     for (i, line) in lines.iter().enumerate().rev() {
-        text += &match line {
-            Line::Leaf { label } => format!("    {} [label=\"{}: {}\", shape=box];\n", i, i, label),
+        let (label, square) = match *line {
+            Line::Leaf { label } => (label, true),
             Line::Inner { label, left, right } => {
-                format!("    {} [label=\"{}: {}\"];\n    {} -> {};\n    {} -> {};\n", i, i, label, i, left, i, right)
+                let twice = [(left, "left and right")];
+                let apart = [(left, "left"), (right, "right")];
+                for &(child, words) in if left == right { &twice[..] } else { &apart } {
+                    edges.push(Edge { from: at(i), to: at(child), stroke: Stroke::Plain, words: words.into() });
+                }
+                (label, false)
             }
         };
+        let said = vec![format!("line {}", i), format!("label {}", label)];
+        nodes.push(Node { tip: said.join(", "), lines: said, look: Look { square, ..PLAIN_LOOK } });
     }
-    text + "}\n"
+    let legend = vec![(Look { square: true, ..PLAIN_LOOK }, "square corners: a leaf")];
+    let title = vec!["A plan that the two rules judge differently".to_string()];
+    Picture { name: "separating", title, nodes, edges, legend }.drawn(how)
 }

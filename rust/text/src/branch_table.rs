@@ -6,18 +6,21 @@
 //! step * 0 -> 0     # state and label, and the state after it; * is any of them
 //! step * 1 -> 1     # a later line counts
 //! accept 1
+//! names             # may be left out; those of labels are the input's where this has none
+//! state 1 worn
 //! ```
 
-use crate::lines::{self, all_raw, Line, Wrong};
+use crate::lines::{self, all_raw, raw_text, Line, Wrong};
+use crate::names::Names;
 use crate::rules::{count, some};
-use whatif::layout;
+use whatif::{layout, BranchTable};
 
-/// Of lines, or of bytes as they are: no text has a zero byte, and every branch table's header has.
-pub fn of(bytes: &[u8]) -> Result<Vec<u8>, String> {
-    match std::str::from_utf8(bytes).ok().filter(|text| !text.contains('\0')) {
-        Some(text) => to_bytes(&lines::of(text).collect::<Vec<_>>()).map_err(|wrong| wrong.to_string()),
-        None => Ok(bytes.to_vec()),
-    }
+/// The bytes of a text, and its names.
+pub fn of(text: &str) -> Result<(Vec<u8>, Names), Wrong> {
+    let lines: Vec<Line> = lines::of(text).collect();
+    let at = lines.iter().position(|line| line.words == ["names"]);
+    let (table, names) = lines.split_at(at.unwrap_or(lines.len()));
+    Ok((to_bytes(table)?, Names::of(names.get(1..).unwrap_or_default())?))
 }
 
 fn to_bytes(lines: &[Line]) -> Result<Vec<u8>, Wrong> {
@@ -51,4 +54,21 @@ fn to_bytes(lines: &[Line]) -> Result<Vec<u8>, Wrong> {
     };
     let steps = steps.into_iter().enumerate().map(said).collect::<Result<Vec<u8>, Wrong>>()?;
     Ok(layout::branch_table(s, k, &steps, &marks))
+}
+
+/// Text of a table that the library takes; of other bytes lines of bytes.
+pub fn to_text(bytes: &[u8]) -> String {
+    let table = match BranchTable::from_bytes(bytes) {
+        Ok(table) => table,
+        Err(_) => return raw_text(bytes),
+    };
+    let (s, k) = (table.states() as u8, table.labels() as u8);
+    let mut text = format!("states {}\nlabels {}\n", s, k);
+    for state in 0..s {
+        for label in 0..k {
+            text += &format!("step {} {} -> {}\n", state, label, table.step(state, label).unwrap_or(0));
+        }
+    }
+    let accepted = (0..s).filter(|&state| table.accepts(state)).map(|state| format!(" {}", state));
+    text + "accept" + &accepted.collect::<String>() + "\n"
 }

@@ -1,21 +1,18 @@
 //! `whatif-text colours` and `colours-with-upper`: a branch question by colours, with the colour at each node of the
 //! path and the drops marked, as text or as a picture.
 
-use crate::branch::{self, Asked, Reading, FIRST, LAST, NO, NODES, YES};
+use crate::branch::{self, Asked, Reading, Table, FIRST, LAST, NODES};
 use crate::input::Input;
 use crate::outcome::Failure;
+use crate::picture::{Drawn, Edge, Look, Node, Picture, Stroke, PLAIN_LOOK};
 use crate::sentences::{climbed, count};
 use whatif::{BranchColours, BranchTable, ColourVerdict, Plan, Refusal};
 
-const HEAD: &str = "\
-// The path from the upper node down to the lower, with the state after each label that is read and its colour.
-// A bold red line is a drop: the colour falls there. A dotted node is not read; a dashed line leaves nodes out.
-digraph colours {
-    graph [labelloc=t, fontname=\"sans-serif\", fontsize=20, size=\"7.5,10.5\", ranksep=0.35];
-    node [shape=ellipse, style=filled, fillcolor=\"#ffffff\", fontname=\"sans-serif\", margin=\"0.05,0.03\"];
-    edge [dir=none, fontname=\"sans-serif\"];
-";
-const DROP: &str = "#c02020";
+/// A colour for each colour, from 1 on; a table has at most 16 states.
+const FILLS: [&str; 16] = [
+    "#cfe3f7", "#ffe3b3", "#d5f0d0", "#ead3f2", "#f7d3d3", "#fff7b0", "#d0f0ee", "#e3e3e3", "#f9d9b8", "#c9d7ff",
+    "#e0f2b8", "#f4c9e4", "#c6efdc", "#e8dcc8", "#d9d2ff", "#fbe6ee",
+];
 
 /// A branch question by colours, beside the same by its climb.
 pub struct Coloured {
@@ -27,10 +24,10 @@ pub struct Coloured {
 }
 
 /// By the library, twice; the colours on the way are read from its tables and compared with its answer.
-pub fn ask(input: &Input, table: &[u8], nodes: [usize; 2], reading: Reading) -> Result<Coloured, Failure> {
+pub fn ask(input: &Input, table: &Table, nodes: [usize; 2], reading: Reading) -> Result<Coloured, Failure> {
     let asked = branch::ask(input, table, nodes, reading)?;
-    let refused = |refusal: Refusal| Failure::Refused(refusal.to_string());
-    let built = build(input, table).map_err(refused)?;
+    let refused = Failure::refused;
+    let built = build(input, &table.0).map_err(refused)?;
     let [upper, lower] = nodes.map(|v| v as u32);
     let verdict = match reading {
         Reading::BelowUpper => built.ask(upper, lower),
@@ -107,57 +104,66 @@ impl Coloured {
     /// A line a node.
     pub fn text(&self, whole: bool) -> String {
         let mut text = format!("{}\n{}\n", self.sentence(), self.beside());
-        let mut next = 0;
+        let (mut next, names) = (0, &self.asked.names);
         for at in self.told(whole) {
             if at > next {
                 text += &format!("  .. {}\n", count(at - next, "node"));
             }
             next = at + 1;
-            let state = self.asked.states[at].map_or("not read".into(), |state| format!("state {}", state));
+            let state =
+                self.asked.states[at].map_or("not read".into(), |state| format!("state {}", names.state(state)));
             let (colour, fallen) = self.at(at);
             let drop = fallen.map_or(String::new(), |before| format!(", a drop from colour {}", before));
-            let (v, label) = (self.asked.path[at], self.asked.labels[at]);
+            let (v, label) = (self.asked.path[at], names.label(self.asked.labels[at]));
             text += &format!("  node {}, label {}: {}, colour {}{}\n", v, label, state, colour, drop);
         }
         text
     }
 
-    /// The path as Graphviz text; the lower node has the answer's colour.
-    pub fn picture(&self) -> String {
+    /// One for the question, then one for each node of the path.
+    pub fn objects(&self) -> String {
+        let ColourVerdict { drops, links, .. } = self.verdict;
+        let node = |at: usize| {
+            let (colour, fallen) = self.at(at);
+            let object = self.asked.node_object(at).count("colour", colour);
+            fallen.into_iter().fold(object, |object, before| object.count("dropped_from", before)).line()
+        };
+        let asked = self.asked.object().number("drops", drops).number("colour_links", links);
+        asked.line() + &(0..self.asked.path.len()).map(node).collect::<String>()
+    }
+
+    /// The path, each node filled by its colour; the lower node says the answer.
+    pub fn picture(&self, how: Drawn) -> String {
         let told = self.told(false);
-        let mut text = HEAD.to_string() + &format!("    label=\"{}\\n{}\\n \";\n", self.sentence(), self.beside());
+        let (mut nodes, mut edges) = (Vec::new(), Vec::new());
         // a drop at the first node has no line above it
         if let (_, Some(before)) = self.at(0) {
-            let v = self.asked.path[0];
-            text += &format!("    above [label=\"above\\ncolour {}\", style=\"filled,dotted\"];\n", before);
-            text += &format!("    above -> {}{};\n", v, dropped(None));
+            let lines = vec!["above".to_string(), format!("colour {}", before)];
+            let look = Look { fill: FILLS[before - 1], light: true, ..PLAIN_LOOK };
+            nodes.push(Node { tip: lines.join(", "), lines, look });
+            edges.push(Edge { from: 0, to: 1, stroke: Stroke::Drop, words: "drop".into() });
         }
+        let above = nodes.len();
         for &at in &told {
-            let state = self.asked.states[at].map_or(String::new(), |state| format!("\\nstate {}", state));
-            let dotted = if self.asked.states[at].is_none() { ", style=\"filled,dotted\"" } else { "" };
-            let verdict = if self.verdict.yes { YES } else { NO };
-            let last = at + 1 == self.asked.path.len();
-            let end = if last { format!(", fillcolor=\"{}\"", verdict) } else { String::new() };
-            let (v, label, colour) = (self.asked.path[at], self.asked.labels[at], self.at(at).0);
-            let words = format!("node {}\\nlabel {}{}, colour {}", v, label, state, colour);
-            text += &format!("    {} [label=\"{}\"{}{}];\n", v, words, dotted, end);
+            let colour = self.at(at).0;
+            let look = Look { fill: FILLS[colour - 1], ..self.asked.look(at) };
+            nodes.push(self.asked.drawn_node(at, look, Some(format!("colour {}", colour))));
         }
-        for pair in told.windows(2) {
-            let left_out = Some(pair[1] - pair[0] - 1).filter(|&left_out| left_out > 0);
-            let look = match (self.at(pair[1]).1, left_out) {
-                (Some(_), left_out) => dropped(left_out),
-                (None, Some(nodes)) => format!(" [style=dashed, label=\" {} \"]", count(nodes, "node")),
-                (None, None) => String::new(),
+        for (i, pair) in told.windows(2).enumerate() {
+            let left_out = pair[1] - pair[0] - 1;
+            let nodes = if left_out > 0 { count(left_out, "node") } else { String::new() };
+            let (stroke, words) = match (self.at(pair[1]).1, left_out) {
+                (Some(_), 0) => (Stroke::Drop, "drop".to_string()),
+                (Some(_), _) => (Stroke::DropLeftOut, format!("{}, drop", nodes)),
+                (None, 0) => (Stroke::Plain, nodes),
+                (None, _) => (Stroke::Dashed, nodes),
             };
-            text += &format!("    {} -> {}{};\n", self.asked.path[pair[0]], self.asked.path[pair[1]], look);
+            edges.push(Edge { from: above + i, to: above + i + 1, stroke, words });
         }
-        text + "}\n"
+        let legend = vec![
+            (Look { fill: FILLS[0], ..PLAIN_LOOK }, "filled by its colour, whose number is said"),
+            (Look { light: true, ..PLAIN_LOOK }, "grey and dashed: not read; a red line: the colour falls"),
+        ];
+        Picture { name: "colours", title: vec![self.sentence(), self.beside()], nodes, edges, legend }.drawn(how)
     }
-}
-
-/// How a drop is drawn, with the nodes that are left out before it.
-fn dropped(left_out: Option<usize>) -> String {
-    let nodes = left_out.map_or(String::new(), |nodes| format!("{}, ", count(nodes, "node")));
-    let dashed = if left_out.is_some() { "\"bold,dashed\"" } else { "bold" };
-    format!(" [style={}, color=\"{}\", fontcolor=\"{}\", label=\" {}drop \"]", dashed, DROP, DROP, nodes)
 }

@@ -5,6 +5,7 @@
 //! nodes after it still clears the plan, by the library's count, else it takes the first label with which one does.
 
 use crate::input::Input;
+use crate::json::Object;
 use crate::loaded::Loaded;
 use crate::outcome::Failure;
 use crate::progress::Progress;
@@ -13,11 +14,38 @@ use crate::sentences::{self, count, refused, verdict};
 use whatif::{Counts, Refusal};
 
 /// Of the given nodes, each open to all labels of the rules.
-pub fn of_nodes(input: &Input, nodes: &[usize]) -> Result<String, Failure> {
-    let loaded = Loaded::new(&input.plan, &input.rules)?;
+pub fn of_nodes(input: &Input, nodes: &[usize], json: bool) -> Result<String, Failure> {
+    let loaded = Loaded::of(input)?;
     let open = as_nodes(&loaded, nodes)?;
     let told = loaded.panel.count(&open).map_err(|refusal| count_refused(refusal, &loaded, &open))?;
-    Ok(head(&loaded, &open, &told) + &table(&loaded, &told) + &clears(&loaded, &told) + &choice(&loaded, &open, &told)?)
+    let chosen = choice(&loaded, &open, &told)?;
+    if json {
+        return Ok(objects(&loaded, &open, &told, chosen.as_deref()));
+    }
+    let chosen = chosen.map_or(String::new(), |c| format!("a choice that clears it: {}\n", sentences::changes(&c)));
+    Ok(head(&loaded, &open, &told) + &table(&loaded, &told) + &clears(&loaded, &told) + &chosen)
+}
+
+/// One for the whole, then one for each state.
+fn objects(loaded: &Loaded, open: &[u16], told: &Counts, chosen: Option<&[Change]>) -> String {
+    let whole = Object::new().list("open", open.iter().map(u16::to_string)).count("labels", loaded.rules().labels());
+    let whole = whole.number("choices", told.all()).number("clearing", told.clearing());
+    let whole = whole.number("parts", told.parts).number("links", told.links);
+    let whole = whole.truth("was_cleared", loaded.is_cleared()).state(
+        "was_state",
+        loaded.before(loaded.nodes() - 1),
+        &loaded.names,
+    );
+    let whole = chosen.into_iter().fold(whole, |whole, chosen| whole.changes("choice", chosen, &loaded.names));
+    let state = |(state, &number): (usize, &u64)| {
+        let cleared = loaded.rules().accepts(state as u8);
+        Object::new()
+            .state("state", state as u8, &loaded.names)
+            .number("choices", number)
+            .truth("cleared", cleared)
+            .line()
+    };
+    whole.line() + &told.by_state().iter().enumerate().map(state).collect::<String>()
 }
 
 /// As 16-bit numbers; a greater one is no node of any plan.
@@ -59,7 +87,8 @@ fn table(loaded: &Loaded, told: &Counts) -> String {
     let mut text = format!("state  {:>wide$}  {:>12}\n", "choices", "share", wide = wide);
     for (state, number) in numbers.iter().enumerate() {
         let (share, clears) = (share(told.by_state()[state], all), verdict(rules.accepts(state as u8)));
-        text += &format!("{:>5}  {:>wide$}  {:>12}  {}\n", state, number, share, clears, wide = wide);
+        let named = loaded.names.state_name(state as u8).map_or(String::new(), |name| format!(" ({})", name));
+        text += &format!("{:>5}  {:>wide$}  {:>12}  {}{}\n", state, number, share, clears, named, wide = wide);
     }
     text + "\n"
 }
@@ -71,20 +100,20 @@ fn clears(loaded: &Loaded, told: &Counts) -> String {
         _ if clearing == all => "every choice clears the plan".to_string(),
         _ => format!("{} of {} clear the plan: {}", grouped(clearing), choices(all), share(clearing, all)),
     };
-    let before = loaded.before(loaded.nodes() - 1);
+    let before = loaded.names.state(loaded.before(loaded.nodes() - 1));
     format!("{}\nas it is: {}, state {}\n", said, verdict(loaded.is_cleared()), before)
 }
 
-/// A choice that clears the plan, as a question to paste; nothing where none does.
-fn choice(loaded: &Loaded, open: &[u16], told: &Counts) -> Result<String, Failure> {
+/// A choice that clears the plan; none where none does.
+fn choice(loaded: &Loaded, open: &[u16], told: &Counts) -> Result<Option<Vec<Change>>, Failure> {
     if told.clearing() == 0 {
-        return Ok(String::new());
+        return Ok(None);
     }
     let chosen = a_clearing_choice(loaded, open)?;
     if !loaded.panel.fresh_run(&chosen).map_or(false, |fresh| fresh.yes) {
         return Err(Failure::wrong("a fault of whatif-text: its choice does not clear the plan by the library"));
     }
-    Ok(format!("a choice that clears it: {}\n", sentences::changes(&chosen)))
+    Ok(Some(chosen))
 }
 
 /// Of nodes of which some choice clears the plan.

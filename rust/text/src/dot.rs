@@ -1,105 +1,70 @@
-//! A plan with the parts of a question as Graphviz text.
+//! `whatif-text dot` and `svg`: a small plan whole, with the parts of a question.
 
-use crate::questions::Change;
-use whatif::{Panel, Plan, Refusal, Rules};
+use crate::drawing::{legend, Question};
+use crate::loaded::Loaded;
+use crate::outcome::Failure;
+use crate::picture::{Edge, Picture, Stroke};
 
-const HEAD: &str = "\
-// NODE: LABEL. A box is a listed node, with the label it is to take. Two rings: the root of a part, with its number.
-// The nodes of a part have one colour. A dashed line leads to another part.
-// A light node is passed over: a climb goes by it, and its label and its state are not looked at anew.
-digraph plan {
-    graph [ordering=out];
-    node [shape=circle, style=filled, colorscheme=set312];
-    edge [dir=none];
-";
-/// The colours of Graphviz's set312.
-const COLOURS: usize = 12;
-
-/// How what is passed over looks.
-const LIGHT: &str = "color=\"#bbbbbb\", fontcolor=\"#999999\"";
-
-/// Or the refusal of the plan (2 to 5) or of the changes (12, 13); which labels there are is not asked.
-pub fn picture(plan: &[u8], changes: &[Change]) -> Result<String, Refusal> {
-    let plan = Plan::from_bytes(plan)?;
-    let (parents, roots) = parents_and_roots(&plan, changes)?;
-    let (parts, passed) = (parts(&parents, &roots), passed_over(&parents, &roots));
-    let mut text = HEAD.to_string();
-    for v in 0..plan.nodes() {
-        let to = changes.iter().rev().find(|change| change.0 as usize == v).map(|change| change.1);
-        let is_root = roots[parts[v]] == v;
-        text += &node(v, plan.labels()[v], to, if is_root { Look::Root(parts[v]) } else { look(passed[v], parts[v]) });
+/// Of a question that the library answered; the states after the changes are those of its run on the changed plan.
+pub fn picture(question: &Question) -> Result<Picture, Failure> {
+    let loaded = question.loaded;
+    let changed = loaded.changed(question.changes)?;
+    let root = loaded.nodes() - 1;
+    if changed.before(root) != question.asked.answer.state {
+        return Err(Failure::wrong("a fault of whatif-text: the changed plan's run and the library's answer differ"));
     }
-    for (v, pair) in plan.children().into_iter().enumerate() {
-        for child in pair.iter().flat_map(|&(left, right)| [left, right].map(usize::from)) {
-            let looks = match (parts[v] == parts[child], passed[v]) {
-                (true, true) if passed[child] => format!(" [{}]", LIGHT),
-                (true, _) => String::new(),
-                (false, true) => format!(" [style=dashed, {}]", LIGHT),
-                (false, false) => " [style=dashed]".to_string(),
+    let roots = &question.asked.roots;
+    let (parts, passed) = (parts(loaded, roots), passed_over(loaded, roots));
+    let children = loaded.panel.plan().children();
+    let order = from_the_top(root, |v| children[v].map_or(vec![], |(left, right)| vec![left.into(), right.into()]));
+    let mut places = vec![0; root + 1];
+    order.iter().enumerate().for_each(|(i, &v)| places[v] = i);
+    let mut edges = Vec::new();
+    for &v in &order {
+        for child in children[v].iter().flat_map(|&(left, right)| [left, right].map(usize::from)) {
+            let stroke = match (parts[v] == parts[child], passed[v]) {
+                (true, true) if passed[child] => Stroke::Climb,
+                (true, _) => Stroke::Plain,
+                (false, true) => Stroke::Climb,
+                (false, false) => Stroke::Dashed,
             };
-            text += &format!("    {} -> {}{};\n", v, child, looks);
+            edges.push(Edge { from: places[v], to: places[child], stroke, words: String::new() });
         }
     }
-    Ok(text + "}\n")
+    let nodes = order.iter().map(|&v| question.node(v, changed.before(v), passed[v])).collect();
+    Ok(Picture { name: "plan", title: question.title(), nodes, edges, legend: legend() })
 }
 
-/// The parent of each node, and the roots of the question's parts: by the library, which is asked the same question of
-/// a plan of the same shape. Every label there is 0, and 1 where the question names another than the plan's.
-fn parents_and_roots(plan: &Plan, changes: &[Change]) -> Result<(Vec<usize>, Vec<usize>), Refusal> {
-    let kinds: Vec<_> = plan.kinds().collect();
-    let shape = Plan::new(&vec![0; kinds.len()], &kinds)?;
-    let mut panel = Panel::new(shape, Rules::from_fn(1, 2, |_| 0, |_, _, _| 0, |_| true)?)?;
-    let differs = |&(v, label): &Change| (v, u8::from(plan.labels().get(usize::from(v)) != Some(&label)));
-    panel.start(&changes.iter().map(differs).collect::<Vec<_>>())?;
-    let parents = (0..=u16::MAX).map_while(|v| panel.node(v)).map(|node| node.parent.into()).collect();
-    Ok((parents, panel.session().roots().map(usize::from).collect()))
+/// A tree's nodes: each before those below it, from left to right.
+pub fn from_the_top(root: usize, children: impl Fn(usize) -> Vec<usize>) -> Vec<usize> {
+    let (mut order, mut waiting) = (Vec::new(), vec![root]);
+    while let Some(v) = waiting.pop() {
+        order.push(v);
+        waiting.extend(children(v).into_iter().rev());
+    }
+    order
 }
 
 /// The part of each node, by its place in the list of roots: that of the lowest root at or above it.
-fn parts(parents: &[usize], roots: &[usize]) -> Vec<usize> {
-    let mut parts = vec![roots.len() - 1; parents.len()];
-    for v in (0..parents.len() - 1).rev() {
-        parts[v] = roots.binary_search(&v).unwrap_or(parts[parents[v]]);
+fn parts(loaded: &Loaded, roots: &[usize]) -> Vec<usize> {
+    let n = loaded.nodes();
+    let mut parts = vec![roots.len() - 1; n];
+    for v in (0..n - 1).rev() {
+        parts[v] = roots.binary_search(&v).unwrap_or(parts[loaded.parent(v)]);
     }
     parts
 }
 
 /// Which nodes are passed over: from each root up to a child of the next root above, without the root itself. Their
 /// number is that of the answer.
-fn passed_over(parents: &[usize], roots: &[usize]) -> Vec<bool> {
-    let mut passed = vec![false; parents.len()];
+pub fn passed_over(loaded: &Loaded, roots: &[usize]) -> Vec<bool> {
+    let mut passed = vec![false; loaded.nodes()];
     for &root in &roots[..roots.len() - 1] {
-        let mut v = parents[root];
+        let mut v = loaded.parent(root);
         while roots.binary_search(&v).is_err() {
             passed[v] = true;
-            v = parents[v];
+            v = loaded.parent(v);
         }
     }
     passed
-}
-
-/// How a node is drawn; of a part its place in the list of roots.
-enum Look {
-    Root(usize),
-    Of(usize),
-    PassedOver,
-}
-
-fn look(passed: bool, part: usize) -> Look {
-    if passed {
-        Look::PassedOver
-    } else {
-        Look::Of(part)
-    }
-}
-
-fn node(v: usize, label: u8, to: Option<u8>, look: Look) -> String {
-    let (takes, shape) = to.map_or((String::new(), ""), |to| (format!(" to {}", to), ", shape=box"));
-    let colour = |part: usize| format!("fillcolor={}", part % COLOURS + 1);
-    let (named, looks) = match look {
-        Look::Root(part) => (format!("\\npart {}", part + 1), format!("{}{}, peripheries=2", colour(part), shape)),
-        Look::Of(part) => (String::new(), colour(part) + shape),
-        Look::PassedOver => (String::new(), format!("fillcolor=\"#ffffff\", {}{}", LIGHT, shape)),
-    };
-    format!("    {} [label=\"{}: {}{}{}\", {}];\n", v, v, label, takes, named, looks)
 }

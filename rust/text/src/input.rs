@@ -1,38 +1,32 @@
-//! The input of a verb: text, or the bytes that the program `whatif` reads.
+//! The input of a verb, from whatever files it comes: files.rs reads them.
 
+use crate::names::Names;
 use crate::outcome::Failure;
 use crate::questions::{self, Change};
-use crate::{parts_of, write};
-use whatif::layout::number;
+use crate::{parts_of, sections, write};
+use whatif::layout::{number, with_header};
 
 /// Plan and rules as bytes, whatever they hold, and the questions.
 pub struct Input {
     pub plan: Vec<u8>,
     pub rules: Vec<u8>,
     pub questions: Vec<Vec<Change>>,
+    pub names: Names,
 }
 
 impl Input {
-    /// Bytes are those that are as long as their three lengths say: no text is. A last question that is cut short is
-    /// dropped, as the program `whatif` drops it.
-    pub fn of(bytes: &[u8]) -> Result<Input, Failure> {
-        match parts_of(bytes) {
-            Some(parts) => Ok(Input::of_parts(parts)),
-            None => {
-                let neither = "this is neither text nor bytes that are as long as their three lengths say";
-                let text = std::str::from_utf8(bytes).ok().filter(|text| !text.contains('\0'));
-                Input::of_text(text.ok_or_else(|| Failure::wrong(neither))?)
-            }
-        }
-    }
-
     pub fn of_text(text: &str) -> Result<Input, Failure> {
         let bytes = write(text)?;
-        Ok(Input::of_parts(parts_of(&bytes).expect("as it was written")))
+        let [plan, rules, questions] = parts_of(&bytes).expect("as it was written");
+        let (names, questions) = (Names::of(&sections(text)?.names)?, questions::of_bytes(questions));
+        Ok(Input { plan: plan.to_vec(), rules: rules.to_vec(), questions, names })
     }
 
-    fn of_parts([plan, rules, questions]: [&[u8]; 3]) -> Input {
-        Input { plan: plan.to_vec(), rules: rules.to_vec(), questions: questions::of_bytes(questions) }
+    /// "three 32-bit lengths (plan, rules, questions), then those bytes"
+    pub fn as_bytes(&self) -> Vec<u8> {
+        let questions = questions::as_bytes(&self.questions);
+        let lengths = [self.plan.len(), self.rules.len(), questions.len()];
+        with_header(&lengths, &[&self.plan, &self.rules, &questions])
     }
 
     /// N, S and K, as the headers have them; 0 where a header is cut short.

@@ -16,6 +16,9 @@
 //! questions         # a question a line: node->label for each change
 //! none
 //! 0->0 2->0
+//! names             # for people; may be left out, or stand before the others
+//! label 1 fine-bur
+//! state 1 cleared
 //! ```
 //!
 //! `#` begins a comment. Bytes that have no such form, or that are to be refused, are written as they are, with lines
@@ -25,27 +28,40 @@
 //! Two texts of rules can be merged into one, or compared on every plan; plan and questions beside the rules are left
 //! aside.
 //!
-//! Order: `lines` (words and numbers), `plan`, `rules`, `questions` (each from text to bytes and back), `input` (text
-//! or bytes), `outcome` (what a verb writes, its status), `sentences`, `loaded` (the library's session on an input),
-//! `progress`, `generator` (random trees and tables); then a file a verb: `answer`, `outline`, `why`, `suggest`,
-//! `count`, `script` (session), `screens`, `over`, `branch` (by a `branch_table`), `colours` (the same by colours),
-//! `stored` (build and check), `random`, `dot` (a small plan whole), `agree` (a separating plan). Writing, showing,
-//! merging and choosing a picture are in this file.
+//! Order: `lines` (words and numbers), `plan`, `rules`, `questions`, `names` (each from text, and to bytes and back where
+//! it has any), `formats` (what a file looks like), `files` and `input` (where plan, rules and questions come from),
+//! `nearest`, `verbs`, `args`, `help` (the command line), `outcome` (what a verb writes, its status), `sentences`,
+//! `json`, `terminal` (colours), `loaded` (the library's session on an input), `progress`, `generator` (random trees and
+//! tables), `picture` and `svg` (any picture), `drawing` (what pictures of a question share); then a file a verb:
+//! `answer`, `outline`, `why`, `suggest`, `count`, `script` (session), `screens`, `over`, `branch` (by a
+//! `branch_table`), `colours` (the same by colours), `stored` (build and check), `random`, `dot` (a small plan whole),
+//! `grids` (tables drawn), `agree` (a separating plan). Writing, showing, merging and choosing a picture are in this
+//! file.
 
 pub mod agree;
 pub mod answer;
+pub mod args;
 pub mod branch;
 pub mod branch_table;
 pub mod colours;
 pub mod count;
 pub mod dot;
+pub mod drawing;
+pub mod files;
+pub mod formats;
 pub mod generator;
+pub mod grids;
+pub mod help;
 pub mod input;
+pub mod json;
 pub mod lines;
 pub mod loaded;
+pub mod names;
+pub mod nearest;
 pub mod outcome;
 pub mod outline;
 pub mod over;
+pub mod picture;
 pub mod plan;
 pub mod planner;
 pub mod progress;
@@ -57,13 +73,19 @@ pub mod script;
 pub mod sentences;
 pub mod stored;
 pub mod suggest;
+pub mod svg;
+pub mod terminal;
+pub mod verbs;
 pub mod why;
 
+use drawing::Question;
 use input::Input;
 use lines::{Line, Wrong};
+use loaded::Loaded;
 use outcome::Failure;
+use picture::Drawn;
 use whatif::layout::{number, with_header};
-use whatif::{sizes, Refusal, Rules};
+use whatif::{Refusal, Rules};
 
 /// The lines of each section.
 #[derive(Default)]
@@ -71,17 +93,23 @@ pub struct Sections<'a> {
     pub plan: Vec<Line<'a>>,
     pub rules: Vec<Line<'a>>,
     pub questions: Vec<Line<'a>>,
+    pub names: Vec<Line<'a>>,
 }
 
-const NAMES: [&str; 3] = ["plan", "rules", "questions"];
+pub(crate) const NAMES: [&str; 3] = ["plan", "rules", "questions"];
 
-/// Sections may be left out, but not exchanged.
+/// Sections may be left out, but not exchanged; names may stand anywhere.
 pub fn sections(text: &str) -> Result<Sections<'_>, Wrong> {
     let mut found = [vec![], vec![], vec![]];
+    let (mut names, mut in_names, mut had_names) = (Vec::new(), false, false);
     let mut at = None;
     for line in lines::of(text) {
         let named = NAMES.iter().position(|name| line.words == [*name]);
+        in_names = line.words == ["names"] || (in_names && named.is_none());
         match (named, at) {
+            _ if line.words == ["names"] && had_names => return Err(line.wrong("'names' stands again")),
+            _ if line.words == ["names"] => had_names = true,
+            _ if in_names => names.push(line),
             (Some(next), None) => at = Some(next),
             (Some(next), Some(now)) if next > now => at = Some(next),
             (Some(next), _) => return Err(line.wrong(format!("'{}' stands too late, or again", NAMES[next]))),
@@ -90,7 +118,7 @@ pub fn sections(text: &str) -> Result<Sections<'_>, Wrong> {
         }
     }
     let [plan, rules, questions] = found;
-    Ok(Sections { plan, rules, questions })
+    Ok(Sections { plan, rules, questions, names })
 }
 
 /// "three 32-bit lengths (plan, rules, questions), then those bytes"
@@ -116,9 +144,14 @@ pub fn parts_of(input: &[u8]) -> Option<[&[u8]; 3]> {
 
 /// Text from which `write` makes these bytes; none where they are fewer or more than their lengths say.
 pub fn show(input: &[u8]) -> Option<String> {
-    let [plan, rules, questions] = parts_of(input)?;
-    let shown = [plan::to_text(plan), rules::to_text(rules), questions::to_text(questions)];
-    Some(NAMES.iter().zip(shown).map(|(name, text)| format!("{}\n{}", name, text)).collect::<Vec<_>>().join("\n"))
+    parts_of(input).map(|parts| shown(&parts.map(Some)))
+}
+
+/// The sections that are there, as text.
+fn shown([plan, rules, questions]: &[Option<&[u8]>; 3]) -> String {
+    let texts = [plan.map(plan::to_text), rules.map(rules::to_text), questions.map(questions::to_text)];
+    let named = NAMES.iter().zip(texts).filter_map(|(name, text)| text.map(|text| format!("{}\n{}", name, text)));
+    named.collect::<Vec<_>>().join("\n")
 }
 
 /// The rules of a text, as bytes.
@@ -135,11 +168,15 @@ pub fn merge(first: &[u8], second: &[u8]) -> Result<String, Refusal> {
 /// More nodes than these are drawn as an outline.
 pub const DRAWN_WHOLE: usize = 100;
 
-/// The plan with the parts of one of the questions, counted from 1, as Graphviz text: whole, or its outline.
-pub fn draw(input: &Input, question: usize) -> Result<String, Failure> {
-    let changes = input.question(question)?;
-    if input.plan.len() > sizes::plan_bytes(DRAWN_WHOLE) {
-        return outline::of_question(input, question);
+/// The plan with the parts of one of the questions, counted from 1: whole where it is small and may be, else a page of its
+/// outline. The library is asked first.
+pub fn draw(input: &Input, number: usize, whole: bool, page: usize, how: Drawn) -> Result<String, Failure> {
+    let changes = input.question(number)?;
+    let mut loaded = Loaded::of(input)?;
+    let asked = loaded.ask(changes)?;
+    let question = Question { loaded: &loaded, asked: &asked, number, changes };
+    match whole && loaded.nodes() <= DRAWN_WHOLE {
+        true => Ok(dot::picture(&question)?.drawn(how)),
+        false => Ok(outline::picture(&question, page)?.drawn(how)),
     }
-    dot::picture(&input.plan, changes).map_err(|refusal| Failure::Refused(refusal.to_string()))
 }

@@ -1,5 +1,7 @@
 //! A plan and its rules on a panel of the library: loaded once, then asked.
 
+use crate::input::Input;
+use crate::names::Names;
 use crate::outcome::Failure;
 use crate::questions::Change;
 use crate::sentences::{list_refused, load_refused};
@@ -7,6 +9,7 @@ use whatif::{Answer, Node, Panel, Plan, Refusal, Rules};
 
 pub struct Loaded {
     pub panel: Panel,
+    pub names: Names,
 }
 
 /// An answered question: its answer, and the roots of its parts with their states, as the record has them.
@@ -20,7 +23,13 @@ impl Loaded {
     /// Of any bytes: what a Load refuses is refused here, in its order.
     pub fn new(plan: &[u8], rules: &[u8]) -> Result<Loaded, Failure> {
         let panel = panel(plan, rules).map_err(|refusal| load_refused(refusal, plan, rules))?;
-        Ok(Loaded { panel })
+        Ok(Loaded { panel, names: Names::default() })
+    }
+
+    /// Of an input, with its names.
+    pub fn of(input: &Input) -> Result<Loaded, Failure> {
+        let loaded = Loaded::new(&input.plan, &input.rules)?;
+        Ok(Loaded { names: input.names.clone(), ..loaded })
     }
 
     pub fn nodes(&self) -> usize {
@@ -69,7 +78,9 @@ impl Loaded {
     pub fn changed(&self, changes: &[Change]) -> Result<Loaded, Failure> {
         let plan = self.panel.changed_plan(changes);
         let panel = plan.and_then(|plan| Panel::new(plan, self.rules().clone()));
-        panel.map(|panel| Loaded { panel }).map_err(|refusal| self.list_refused(refusal, changes))
+        panel
+            .map(|panel| Loaded { panel, names: self.names.clone() })
+            .map_err(|refusal| self.list_refused(refusal, changes))
     }
 
     fn list_refused(&self, refusal: Refusal, changes: &[Change]) -> Failure {

@@ -1,6 +1,9 @@
 //! What a verb makes of its input: what it writes and its status, or why it writes nothing.
 
 use crate::lines::Wrong;
+use crate::terminal::painted;
+use std::fmt;
+use whatif::Refusal;
 
 /// Answered.
 pub const ANSWERED: i32 = 0;
@@ -25,17 +28,40 @@ impl Made {
         Made { bytes: text.into(), status: ANSWERED }
     }
 
+    /// With verdicts in colours.
+    pub fn painted(self) -> Made {
+        let text = String::from_utf8(self.bytes).map(|text| painted(&text).into_bytes());
+        Made { bytes: text.unwrap_or_else(|error| error.into_bytes()), status: self.status }
+    }
+
     /// Text in which a refusal is told, or none.
     pub fn with_refusals(text: String, refused: bool) -> Made {
         Made { bytes: text.into(), status: if refused { REFUSED } else { ANSWERED } }
     }
 }
 
+/// A refusal of the library, and which entry it is about where that is found.
+#[derive(Clone, Debug, PartialEq, Eq)]
+pub struct Refused {
+    pub refusal: Refusal,
+    pub about: Option<String>,
+}
+
+impl fmt::Display for Refused {
+    fn fmt(&self, f: &mut fmt::Formatter<'_>) -> fmt::Result {
+        match &self.about {
+            Some(about) => write!(f, "{} ({})", self.refusal, about),
+            None => self.refusal.fmt(f),
+        }
+    }
+}
+
 /// Why nothing is written, as a sentence.
-#[derive(Debug, PartialEq, Eq)]
+#[derive(Clone, Debug, PartialEq, Eq)]
 pub enum Failure {
     Wrong(String),
-    Refused(String),
+    Refused(Refused),
+    Usage(String),
 }
 
 impl Failure {
@@ -43,9 +69,19 @@ impl Failure {
         Failure::Wrong(what.into())
     }
 
-    pub fn what(&self) -> &str {
+    pub fn refused(refusal: Refusal) -> Failure {
+        Failure::Refused(Refused { refusal, about: None })
+    }
+
+    /// With the entry that the refusal is about.
+    pub fn refused_about(refusal: Refusal, about: impl Into<String>) -> Failure {
+        Failure::Refused(Refused { refusal, about: Some(about.into()) })
+    }
+
+    pub fn what(&self) -> String {
         match self {
-            Failure::Wrong(what) | Failure::Refused(what) => what,
+            Failure::Wrong(what) | Failure::Usage(what) => what.clone(),
+            Failure::Refused(refused) => refused.to_string(),
         }
     }
 
@@ -53,6 +89,7 @@ impl Failure {
         match self {
             Failure::Wrong(_) => WRONG,
             Failure::Refused(_) => REFUSED,
+            Failure::Usage(_) => USAGE,
         }
     }
 }

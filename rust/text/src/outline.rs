@@ -1,35 +1,16 @@
-//! `whatif-text outline`: the parts of a question as Graphviz text, one node each, so that any plan is one page.
+//! `whatif-text outline`: the parts of a question as a picture, one node each, so that any plan can be looked at. Above
+//! 25 parts or 12 rows it has pages: a node with parts below it that stand on another page says on which.
 
-use crate::input::Input;
-use crate::loaded::{Asked, Loaded};
+use crate::dot::from_the_top;
+use crate::drawing::{legend, Question};
+use crate::loaded::Loaded;
 use crate::outcome::Failure;
-use crate::questions::Change;
-use crate::sentences::{self, count};
+use crate::picture::{climbed, Edge as Line, Look, Node, Picture, Stroke, PLAIN_LOOK};
+use crate::sentences::count;
 
-const HEAD: &str = "\
-// The roots of the parts alone. A box is a listed node, with the label it is to take.
-// A full line leads to a child, a dashed one is a climb: so many nodes are passed over, in so many links.
-digraph outline {
-    graph [ordering=out, labelloc=t, fontname=\"sans-serif\", fontsize=20];
-    graph [size=\"7.5,10.5\", nodesep=0.15, ranksep=0.35];
-    node [shape=ellipse, style=filled, fontname=\"sans-serif\", margin=\"0.05,0.03\"];
-    edge [dir=none, fontname=\"sans-serif\"];
-";
-const CLEARED: &str = "#9ed89e";
-const NOT_CLEARED: &str = "#f2a0a0";
-const CHANGED: &str = "#ffdca8";
-const AS_BEFORE: &str = "#ffffff";
-/// What is passed over, drawn lightly.
-const LINE: &str = "#bbbbbb";
-const WORDS: &str = "#777777";
-
-/// Of one of the questions, counted from 1.
-pub fn of_question(input: &Input, question: usize) -> Result<String, Failure> {
-    let changes = input.question(question)?;
-    let mut loaded = Loaded::new(&input.plan, &input.rules)?;
-    let asked = loaded.ask(changes)?;
-    Ok(picture(&loaded, &asked, question, changes))
-}
+/// The most parts of a page, and the most rows of them: more would be too small in print.
+pub const MOST: usize = 25;
+const ROWS: usize = 12;
 
 /// An edge of the outline: from the next root above down to a root, which is its child or is climbed from.
 pub struct Edge {
@@ -65,44 +46,98 @@ fn links(loaded: &Loaded, from: usize, t: u16) -> usize {
     links
 }
 
-fn picture(loaded: &Loaded, asked: &Asked, question: usize, changes: &[Change]) -> String {
-    let mut text = HEAD.to_string() + &title(loaded, asked, question);
-    for (&v, &after) in asked.roots.iter().zip(&asked.states) {
-        let to = changes.iter().rev().find(|change| change.0 as usize == v).map(|change| change.1);
-        let label = to.map_or(String::new(), |to| format!(" to {}", to));
-        let states = sentences::state(loaded.before(v), after);
-        let words = format!("node {}\\nlabel {}{}\\n{}", v, loaded.labels()[v], label, states);
-        text += &format!("    {} [label=\"{}\"{}];\n", v, words, look(loaded, asked, v, after, to.is_some()));
+/// A page of the outline, from 1 on.
+pub fn picture(question: &Question, page: usize) -> Result<Picture, Failure> {
+    let (loaded, roots) = (question.loaded, &question.asked.roots);
+    let edges = edges(loaded, roots);
+    let climbs: usize = edges.iter().filter_map(|edge| edge.climb).map(|climb| climb.1).sum();
+    if climbs != question.asked.answer.links as usize {
+        return Err(Failure::wrong("a fault of whatif-text: the links of its climbs are not those of the answer"));
     }
-    for edge in edges(loaded, &asked.roots) {
-        let climbed = |(passed, links)| {
-            let words = format!("{} passed over in {}", count(passed, "node"), count(links, "link"));
-            format!(" [style=dashed, color=\"{}\", fontcolor=\"{}\", label=\" {} \"]", LINE, WORDS, words)
-        };
-        text += &format!("    {} -> {}{};\n", edge.above, edge.root, edge.climb.map_or(String::new(), climbed));
+    let below = below(roots, &edges);
+    let pages = Pages::of(&below);
+    let first = pages.firsts.get(page.wrapping_sub(1)).copied();
+    let last = pages.firsts.len();
+    let first = first
+        .ok_or_else(|| Failure::wrong(format!("there is no page {}: the outline has {}", page, count(last, "page"))))?;
+    let shown = from_the_top(first, |i| match i != first && pages.number(i).is_some() {
+        true => vec![],
+        false => below[i].clone(),
+    });
+    let mut title = question.title();
+    if last > 1 {
+        let here = shown.iter().filter(|&&i| i == first || pages.number(i).is_none()).count();
+        title.push(format!("page {} of {}: {}", page, last, count(here, "part")));
     }
-    text + "}\n"
-}
-
-fn title(loaded: &Loaded, asked: &Asked, question: usize) -> String {
-    let root = loaded.nodes() - 1;
-    let before = loaded.before(root);
-    let was = sentences::verdict(loaded.is_cleared());
-    let told = sentences::answer(&asked.answer);
-    let as_it_is = format!("as it is: {}, state {}, {}", was, before, count(root + 1, "node"));
-    format!("    label=\"Question {}: {}\\n({})\\n \";\n", question, told, as_it_is)
-}
-
-/// The plan's root has the verdict's colour, another one whether its state is as before.
-fn look(loaded: &Loaded, asked: &Asked, v: usize, after: u8, listed: bool) -> String {
-    let is_root = v + 1 == loaded.nodes();
-    let colour = match (is_root, asked.answer.yes) {
-        (true, true) => CLEARED,
-        (true, false) => NOT_CLEARED,
-        _ if loaded.before(v) == after => AS_BEFORE,
-        _ => CHANGED,
+    let place = |i: usize| shown.iter().position(|&at| at == i);
+    let line = |edge: &Edge| {
+        let at = |v: usize| roots.binary_search(&v).ok().and_then(place);
+        let (from, to) = (at(edge.above)?, at(edge.root)?);
+        let stroke = if edge.climb.is_some() { Stroke::Climb } else { Stroke::Plain };
+        let words = edge.climb.map_or(String::new(), |(passed, links)| climbed(passed, links));
+        Some(Line { from, to, stroke, words })
     };
-    let shape = if listed { ", shape=box" } else { "" };
-    let rings = if is_root { ", peripheries=2" } else { "" };
-    format!(", fillcolor=\"{}\"{}{}", colour, shape, rings)
+    let mut lines: Vec<Line> = edges.iter().filter_map(line).collect();
+    lines.sort_by_key(|line| (line.from, line.to));
+    let node = |&i: &usize| match pages.number(i).filter(|_| i != first) {
+        Some(page) => elsewhere(roots[i], page),
+        None => question.node(roots[i], question.asked.states[i], false),
+    };
+    let nodes = shown.iter().map(node).collect();
+    let mut explained = legend();
+    explained[3].1 = "grey and dashed: a climb, or what stands on another page";
+    Ok(Picture { name: "outline", title, nodes, edges: lines, legend: explained })
+}
+
+/// A root whose parts stand on another page.
+fn elsewhere(root: usize, page: usize) -> Node {
+    let lines = vec![format!("node {}", root), format!("on page {}", page)];
+    let tip = lines.join(", ");
+    Node { lines, look: Look { light: true, ..PLAIN_LOOK }, tip }
+}
+
+/// The roots right below each root, by their places.
+fn below(roots: &[usize], edges: &[Edge]) -> Vec<Vec<usize>> {
+    let mut below = vec![Vec::new(); roots.len()];
+    for (i, edge) in edges.iter().enumerate() {
+        below[roots.binary_search(&edge.above).expect("a root")].push(i);
+    }
+    below
+}
+
+/// Where the outline is cut: the first root of each page, the plan's first of all.
+struct Pages {
+    firsts: Vec<usize>,
+}
+
+impl Pages {
+    /// From below: where a page would have too many parts, the largest tree on it goes to a page of its own.
+    fn of(below: &[Vec<usize>]) -> Pages {
+        // of each root what is at and below it on its page: parts, and rows
+        let (mut parts, mut rows, mut cut) = (vec![1; below.len()], vec![1; below.len()], Vec::new());
+        for v in 0..below.len() {
+            loop {
+                parts[v] = 1 + below[v].iter().map(|&w| parts[w]).sum::<usize>();
+                rows[v] = 1 + below[v].iter().map(|&w| rows[w]).max().unwrap_or(0);
+                let too_tall = rows[v] > ROWS;
+                let by = if too_tall { &rows } else { &parts };
+                let largest = below[v].iter().copied().max_by_key(|&w| by[w]).filter(|&w| parts[w] > 1);
+                match largest {
+                    Some(largest) if too_tall || parts[v] > MOST => {
+                        parts[largest] = 1;
+                        rows[largest] = 1;
+                        cut.push(largest);
+                    }
+                    _ => break,
+                }
+            }
+        }
+        let whole = from_the_top(below.len() - 1, |v| below[v].clone());
+        Pages { firsts: whole.into_iter().filter(|v| *v + 1 == below.len() || cut.contains(v)).collect() }
+    }
+
+    /// The page that begins with a root.
+    fn number(&self, root: usize) -> Option<usize> {
+        self.firsts.iter().position(|&first| first == root).map(|i| i + 1)
+    }
 }

@@ -11,11 +11,15 @@
 //! p1->4 p2->0
 //! ```
 //!
-//! A file that has no such form is written with lines of the word `bytes`.
+//! A file that has no such form is written with lines of the word `bytes`. The planner's own files are read and written
+//! as bytes too.
 
+use crate::dot::from_the_top;
+use crate::formats::{form, text_of, Form};
 use crate::lines::{self, all_raw, raw_text, Line, Wrong};
 use crate::outcome::Failure;
-use crate::{plan, questions, rules};
+use crate::picture::{Drawn, Edge, Look, Node, Picture, Stroke, PLAIN_LOOK};
+use crate::{parts_of, plan, questions, rules};
 use std::fmt;
 use whatif::{layout, Planned, PlannerNode, Refusal};
 
@@ -39,7 +43,7 @@ impl From<Failed> for Failure {
     fn from(failed: Failed) -> Failure {
         match failed {
             Failed::Wrong(wrong) => wrong.into(),
-            Failed::Refused(refusal) => Failure::Refused(refusal.to_string()),
+            Failed::Refused(refusal) => Failure::refused(refusal),
         }
     }
 }
@@ -69,9 +73,46 @@ pub fn verb(words: &[&str]) -> Option<Verb> {
     }
 }
 
+/// The verb on text or on bytes: a planner's file for `import` and the pictures, a plan for `export`. `as_bytes`: what is
+/// written are bytes as well, the plan's or the planner's file.
+pub fn made(word: &str, input: &[u8], as_bytes: bool) -> Result<Vec<u8>, Failure> {
+    let home = word == "export";
+    let planned = match (text_of(input), form(input)) {
+        (Some(text), _) => {
+            let first = if home { "plan" } else { "planner" };
+            if !as_bytes && word != "svg" {
+                return Ok(verb(&[word]).map_or(Ok(String::new()), |verb| verb(text))?.into_bytes());
+            }
+            let text = Text::of(text, first)?;
+            if home {
+                Planned::home(plan::to_bytes(&text.nodes)?)
+            } else {
+                Planned::out(text.file()?)
+            }
+        }
+        (None, Form::Whole) if home => Planned::home(parts_of(input).expect("asked by its form")[0]),
+        (None, _) if home => Planned::home(input),
+        (None, _) => Planned::out(input),
+    }
+    .map_err(Failure::refused)?;
+    Ok(match (as_bytes, word) {
+        (true, "export") => planned.file().to_vec(),
+        (true, _) => planned.plan().as_bytes().to_vec(),
+        (false, "export") => home_text(&planned).into_bytes(),
+        (false, "import") => plan_text(&planned).into_bytes(),
+        (false, "svg") => both(&planned).drawn(Drawn::Svg).into_bytes(),
+        (false, _) => drawn(&planned).into_bytes(),
+    })
+}
+
+/// The planner's tree of a text.
+pub fn of_text(text: &Text) -> Result<Planned, Failed> {
+    Ok(Planned::out(text.file()?)?)
+}
+
 /// A text whose first section is named `planner`, or `plan`.
 #[derive(Default)]
-struct Text<'a> {
+pub struct Text<'a> {
     nodes: Vec<Line<'a>>,
     /// Of each of these lines.
     indents: Vec<usize>,
@@ -82,7 +123,7 @@ struct Text<'a> {
 
 impl<'a> Text<'a> {
     /// Rules that are wrong are told, and otherwise left as they stand.
-    fn of(text: &'a str, first: &'static str) -> Result<Text<'a>, Wrong> {
+    pub fn of(text: &'a str, first: &'static str) -> Result<Text<'a>, Wrong> {
         let names = [first, "rules", "questions"];
         let (mut found, mut at, mut of_rules) = (Text::default(), None, Vec::new());
         for (i, raw) in text.lines().enumerate() {
@@ -110,6 +151,15 @@ impl<'a> Text<'a> {
         }
         rules::to_bytes(&of_rules)?;
         Ok(found)
+    }
+
+    /// Rules and questions as bytes, a planner's node by its place; none of a section that is not there.
+    pub fn rest_as_bytes(&self, places: &[u16]) -> Result<[Option<Vec<u8>>; 2], Wrong> {
+        let text = self.rest(|line| by_places(line, places))?;
+        let found = crate::sections(&text)?;
+        let rules = (!found.rules.is_empty()).then(|| rules::to_bytes(&found.rules)).transpose()?;
+        let questions = (!found.questions.is_empty()).then(|| questions::to_bytes(&found.questions)).transpose()?;
+        Ok([rules, questions])
     }
 
     /// The sections after the first; each question as `said` has it.
@@ -185,20 +235,25 @@ fn above(planned: &Planned) -> Vec<(Option<usize>, usize)> {
 /// Our plan of a planner's text, with its rules, and its questions by our nodes.
 fn import(text: &str) -> Result<String, Failed> {
     let text = Text::of(text, "planner")?;
-    let planned = Planned::out(text.file()?)?;
-    let of_plan = of_plan(&planned);
+    let planned = of_text(&text)?;
+    Ok(plan_text(&planned) + &text.rest(|line| by_places(line, planned.places()))?)
+}
+
+fn plan_text(planned: &Planned) -> String {
     let mut made =
         "plan    # of a planner's file: label 63 is at every leaf, so its rules have 64 labels\n".to_string();
-    for (line, node) in plan::to_text(planned.plan().as_bytes()).lines().zip(of_plan) {
+    for (line, node) in plan::to_text(planned.plan().as_bytes()).lines().zip(of_plan(planned)) {
         made += &node.map_or(format!("{}\n", line), |v| format!("{}, planner's node {}\n", line, v));
     }
-    Ok(made + &text.rest(|line| by_places(line, planned.places()))?)
+    made
 }
 
 /// A question with `pNODE->LABEL` as our node.
-fn by_places(line: &Line, places: &[u16]) -> Result<String, Wrong> {
+pub fn by_places(line: &Line, places: &[u16]) -> Result<String, Wrong> {
+    let no_planner = "'pNODE' names a planner's node, and the plan is not a planner's";
     let said = |word: &&str| match word.strip_prefix('p').and_then(|word| word.split_once("->")) {
         None => Ok(word.to_string()),
+        Some(_) if places.is_empty() => Err(line.wrong(no_planner)),
         Some((node, label)) => Ok(format!("{}->{}", places[line.number(node, places.len() - 1)?], label)),
     };
     let words = line.words.iter().map(said).collect::<Result<Vec<String>, Wrong>>()?;
@@ -214,7 +269,12 @@ const MAX_DEPTH: usize = 200;
 fn export(text: &str) -> Result<String, Failed> {
     let text = Text::of(text, "plan")?;
     let planned = Planned::home(plan::to_bytes(&text.nodes)?)?;
-    let (of_plan, above) = (of_plan(&planned), above(&planned));
+    let of_plan = of_plan(&planned);
+    Ok(home_text(&planned) + &text.rest(|line| by_planner(line, &of_plan))?)
+}
+
+fn home_text(planned: &Planned) -> String {
+    let above = above(planned);
     let mut made = "planner\n".to_string();
     if above.iter().any(|&(_, depth)| depth > MAX_DEPTH) {
         made += &raw_text(planned.file());
@@ -224,7 +284,7 @@ fn export(text: &str) -> Result<String, Failed> {
             made += &format!("{:<19}# node {}, {} in the plan\n", node, v, planned.places()[v]);
         }
     }
-    Ok(made + &text.rest(|line| by_planner(line, &of_plan))?)
+    made
 }
 
 /// A question with those of our nodes that are a planner's as `pNODE->LABEL`.
@@ -248,17 +308,54 @@ digraph planner {
     edge [dir=none];
 ";
 
+/// The planner's tree and, beside it, our plan: the same for our own layout.
+fn both(planned: &Planned) -> Picture {
+    let (mut nodes, mut edges) = (Vec::new(), Vec::new());
+    for (v, ((above, _), node)) in above(planned).into_iter().zip(planned.nodes()).enumerate() {
+        let lines = vec![format!("p{}", v), format!("label {}", node.label)];
+        nodes.push(Node { tip: lines.join(", "), lines, look: PLAIN_LOOK });
+        edges.extend(above.map(|w| Edge { from: w, to: v, stroke: Stroke::Plain, words: String::new() }));
+    }
+    let (n, labels, children) = (nodes.len(), planned.plan().labels(), planned.plan().children());
+    let (of_plan, root) = (of_plan(planned), labels.len() - 1);
+    let order = from_the_top(root, |v| children[v].map_or(vec![], |(l, r)| vec![l.into(), r.into()]));
+    let mut places = vec![0; labels.len()];
+    order.iter().enumerate().for_each(|(i, &v)| places[v] = n + i);
+    for &v in &order {
+        let lines = match of_plan[v] {
+            Some(u) => vec![format!("{}", v), format!("label {}", labels[v]), format!("p{}", u)],
+            None => vec![format!("{}, the end of a list", v)],
+        };
+        let look = Look { point: of_plan[v].is_none(), ..PLAIN_LOOK };
+        nodes.push(Node { tip: lines.join(", "), lines, look });
+        if let Some((left, right)) = children[v] {
+            for (child, stroke) in [(left, Stroke::Plain), (right, Stroke::Dashed)] {
+                edges.push(Edge { from: places[v], to: places[usize::from(child)], stroke, words: String::new() });
+            }
+        }
+    }
+    let title = vec!["The planner's tree, and our plan of it".to_string()];
+    let legend = vec![
+        (PLAIN_LOOK, "a full line leads to the list of a node's children"),
+        (Look { light: true, ..PLAIN_LOOK }, "a dashed line leads to the rest of its own list; a dot ends a list"),
+    ];
+    Picture { name: "planner", title, nodes, edges, legend }
+}
+
 /// A planner's text as Graphviz text: its tree and, beside it, our plan.
 fn picture(text: &str) -> Result<String, Failed> {
-    let planned = Planned::out(Text::of(text, "planner")?.file()?)?;
+    Ok(drawn(&of_text(&Text::of(text, "planner")?)?))
+}
+
+fn drawn(planned: &Planned) -> String {
     let mut made = HEAD.to_string() + "    subgraph cluster_planner {\n        label=\"planner\";\n";
-    for (v, ((above, _), node)) in above(&planned).into_iter().zip(planned.nodes()).enumerate() {
+    for (v, ((above, _), node)) in above(planned).into_iter().zip(planned.nodes()).enumerate() {
         made += &format!("        p{} [label=\"p{}: {}\"];\n", v, v, node.label);
         made += &above.map_or(String::new(), |w| format!("        p{} -> p{};\n", w, v));
     }
     made += "    }\n    subgraph cluster_plan {\n        label=\"plan\";\n";
     let (labels, children) = (planned.plan().labels(), planned.plan().children());
-    for (v, node) in of_plan(&planned).into_iter().enumerate() {
+    for (v, node) in of_plan(planned).into_iter().enumerate() {
         made += &match node {
             Some(u) => format!("        {} [label=\"{}: {}\\np{}\"];\n", v, v, labels[v], u),
             None => format!("        {} [shape=point];\n", v),
@@ -267,5 +364,5 @@ fn picture(text: &str) -> Result<String, Failed> {
             made += &format!("        {} -> {};\n        {} -> {} [style=dashed];\n", v, left, v, right);
         }
     }
-    Ok(made + "    }\n}\n")
+    made + "    }\n}\n"
 }

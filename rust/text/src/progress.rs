@@ -1,5 +1,6 @@
 //! Lines on standard error while something takes long: the first within two seconds.
 
+use std::io::{self, Write};
 use std::time::{Duration, Instant};
 
 const PAUSE: Duration = Duration::from_secs(1);
@@ -19,7 +20,7 @@ impl Progress {
     pub fn done(&mut self, done: usize) {
         if self.told.elapsed() >= PAUSE {
             self.told = Instant::now();
-            eprintln!("whatif-text: {} of {} {}", done, self.total, self.what);
+            let _ = writeln!(io::stderr(), "whatif-text: {} of {} {}", done, self.total, self.what);
         }
     }
 }

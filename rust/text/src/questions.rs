@@ -42,6 +42,11 @@ fn question(changes: &[Change]) -> Vec<u8> {
     bytes
 }
 
+/// One question after the other.
+pub fn as_bytes(questions: &[Vec<Change>]) -> Vec<u8> {
+    questions.iter().flat_map(|changes| question(changes)).collect()
+}
+
 pub fn to_text(bytes: &[u8]) -> String {
     let (whole, rest) = split(bytes);
     let lines: String = whole.iter().map(|changes| sentences::changes(changes) + "\n").collect();
@@ -51,6 +56,11 @@ pub fn to_text(bytes: &[u8]) -> String {
 /// The questions; a last one that is cut short is dropped.
 pub fn of_bytes(bytes: &[u8]) -> Vec<Vec<Change>> {
     split(bytes).0
+}
+
+/// How many bytes the whole questions take: all of them where the last one is not cut short.
+pub fn whole_bytes(bytes: &[u8]) -> usize {
+    bytes.len() - split(bytes).1.len()
 }
 
 /// The whole questions, and what stands after them.

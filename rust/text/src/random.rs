@@ -1,6 +1,7 @@
 //! `whatif-text random`: a plan to try, with rules and questions, as text. The same words give the same text.
 
 use crate::generator::{arch, balanced, lasting_rules, left_comb, random_rules, uniform, Random};
+use crate::nearest::nearest;
 use crate::outcome::Failure;
 use crate::show;
 use whatif::layout::with_header;
@@ -46,6 +47,22 @@ pub fn text(words: &[&str]) -> Option<Result<String, Failure>> {
         return None;
     }
     Some(wanted.text())
+}
+
+const OPTIONS: [&str; 8] =
+    ["--nodes", "--shape", "--states", "--labels", "--questions", "--changes", "--rules", "--seed"];
+
+/// What is wrong with words that are no options.
+pub fn usage(words: &[&str]) -> Failure {
+    let unknown = words.iter().step_by(2).find(|word| !OPTIONS.contains(word));
+    Failure::Usage(match unknown {
+        Some(word) => {
+            let near = nearest(word, OPTIONS).map_or(String::new(), |near| format!("; did you mean '{}'?", near));
+            format!("'{}' is no option of 'random'{} (whatif-text help random)", word, near)
+        }
+        None if words.len() % 2 == 1 => format!("'{}' needs a value", words[words.len() - 1]),
+        None => "'random' needs --nodes N and --shape arch|comb|balanced|random".to_string(),
+    })
 }
 
 impl Wanted {

@@ -10,17 +10,18 @@
 //! ```
 
 use crate::input::Input;
+use crate::json::Object;
 use crate::lines::{self, Line, Wrong};
 use crate::outcome::{Failure, Made};
 use crate::questions;
 use crate::script::in_state;
-use crate::sentences::{self, count, list_refused, load_refused};
+use crate::sentences::{self, count, list_refused, load_refused, Said};
 use whatif::sizes::{MAX_PARTS, SCREENS};
 use whatif::{Deal, Lent, Mill, Plan, Progress, Refusal, Rules, Screens, State};
 
 /// A refused call is reported in its place, and the script goes on.
-pub fn run(input: &Input, script: &str) -> Result<Made, Failure> {
-    let mut script_run = Run { input, mill: None, text: String::new(), refused: false };
+pub fn run(input: &Input, script: &str, json: bool) -> Result<Made, Failure> {
+    let mut script_run = Run { input, mill: None, json, text: String::new(), refused: false };
     for line in lines::of(script) {
         script_run.take(&line).map_err(|wrong| Failure::Wrong(format!("in the script, {}", wrong)))?;
     }
@@ -34,6 +35,7 @@ const NOTHING: Lent<'static> = Lent { plan: &[], rules: &[], node_table: &[], st
 struct Run<'a> {
     input: &'a Input,
     mill: Option<Mill>,
+    json: bool,
     text: String,
     refused: bool,
 }
@@ -48,11 +50,8 @@ impl Run<'_> {
         for _ in 0..times {
             let said = self.call(line)?;
             let goes_on = said.is_ok() && self.screens().is_running();
-            let said = said.unwrap_or_else(|failure| {
-                self.refused = true;
-                failure.what().to_string()
-            });
-            self.text += &format!("{}: {}\n", words, said);
+            self.refused |= said.is_err();
+            self.text += &sentences::call(&words, said, self.json);
             if !goes_on {
                 break;
             }
@@ -65,7 +64,7 @@ impl Run<'_> {
     }
 
     /// What one call answers, or its refusal; wrong where the line is none.
-    fn call(&mut self, line: &Line) -> Result<Result<String, Failure>, Wrong> {
+    fn call(&mut self, line: &Line) -> Result<Result<Said, Failure>, Wrong> {
         let screen = |word: &&str| line.number(word, u32::MAX as usize).map(|number| number as u32);
         Ok(match &line.words[..] {
             ["load"] => self.load(),
@@ -84,21 +83,23 @@ impl Run<'_> {
         })
     }
 
-    fn load(&mut self) -> Result<String, Failure> {
+    fn load(&mut self) -> Result<Said, Failure> {
         let (plan, rules) = (&self.input.plan, &self.input.rules);
         let running = self.screens().running().next();
         load(&mut self.mill, plan, rules).map_err(|refusal| match (refusal, running) {
             (Refusal::SessionState, Some(screen)) => {
-                Failure::Refused(format!("{} (screen {} is running)", refusal, screen))
+                Failure::refused_about(refusal, format!("screen {} is running", screen))
             }
             _ => load_refused(refusal, plan, rules),
         })?;
         let [n, s, k] = self.input.counts();
         let all = count(SCREENS, "screen");
-        Ok(format!("{}, {}, {}, {}", all, count(n, "node"), count(s, "state"), count(k, "label")))
+        let words = format!("{}, {}, {}, {}", all, count(n, "node"), count(s, "state"), count(k, "label"));
+        let object = Object::new().count("screens", SCREENS).count("nodes", n);
+        Ok((words, object.count("states", s).count("labels", k)))
     }
 
-    fn start(&mut self, screen: u32, changes: &[questions::Change]) -> Result<String, Failure> {
+    fn start(&mut self, screen: u32, changes: &[questions::Change]) -> Result<Said, Failure> {
         let started = match &mut self.mill {
             Some(mill) => mill.start(screen, changes),
             None => Screens::new().start(screen, &NOTHING, &[], &[]),
@@ -109,39 +110,50 @@ impl Run<'_> {
             }
             state => on_screen(refusal, screen, state),
         })?;
-        Ok(count(parts as usize, "part"))
+        Ok((count(parts as usize, "part"), Object::new().number("screen", screen).number("parts", parts)))
     }
 
-    fn deal(&mut self) -> Result<String, Failure> {
+    fn deal(&mut self) -> Result<Said, Failure> {
         let dealt = self.mill.as_mut().map_or(Ok(None), |mill| mill.deal());
-        match dealt.map_err(|refusal| Failure::Refused(refusal.to_string()))? {
-            None => Err(Failure::Refused(format!("{} (no screen is running)", Refusal::SessionState))),
+        match dealt.map_err(Failure::refused)? {
+            None => Err(Failure::refused_about(Refusal::SessionState, "no screen is running")),
             Some(Deal { screen, progress }) => {
-                let said = if progress == Progress::More { "more" } else { "finished" };
+                let finished = progress == Progress::Finished;
                 let (done, parts) = (self.screens().parts_done(screen), self.screens().parts(screen));
-                Ok(format!("screen {}, part {} of {}, {}", screen, done, parts, said))
+                let said = if finished { "finished" } else { "more" };
+                let object = Object::new().number("screen", screen).number("part", done).number("of", parts);
+                let words = format!("screen {}, part {} of {}, {}", screen, done, parts, said);
+                Ok((words, object.truth("finished", finished)))
             }
         }
     }
 
     /// An earlier question's answer stays.
-    fn cancel(&mut self, screen: u32) -> Result<String, Failure> {
+    fn cancel(&mut self, screen: u32) -> Result<Said, Failure> {
         let state = self.screens().state(screen);
         let cancelled = match &mut self.mill {
             Some(mill) => mill.cancel(screen),
             None => Screens::new().cancel(screen),
         };
         cancelled.map_err(|refusal| on_screen(refusal, screen, state))?;
-        let kept = if self.screens().read(screen).is_ok() { ", with the last answer kept" } else { "" };
-        Ok(format!("the screen is loaded, as after load{}", kept))
+        let kept = self.screens().read(screen).is_ok();
+        let words = if kept { ", with the last answer kept" } else { "" };
+        let object = Object::new().number("screen", screen).truth("answer_kept", kept);
+        Ok((format!("the screen is loaded, as after load{}", words), object))
     }
 
     /// The last finished answer, in whatever state.
-    fn read(&self, screen: u32) -> Result<String, Failure> {
+    fn read(&self, screen: u32) -> Result<Said, Failure> {
         let state = self.screens().state(screen);
-        self.screens().read(screen).map(|answer| sentences::answer(&answer)).map_err(|refusal| match state {
+        let said = |answer| {
+            (
+                sentences::answer(&answer, &self.input.names),
+                Object::new().number("screen", screen).answer(&answer, &self.input.names),
+            )
+        };
+        self.screens().read(screen).map(said).map_err(|refusal| match state {
             Some(State::Loaded) | Some(State::Running) => {
-                Failure::Refused(format!("{} (no question is finished since load)", refusal))
+                Failure::refused_about(refusal, "no question is finished since load")
             }
             _ => on_screen(refusal, screen, state),
         })
@@ -160,7 +172,9 @@ fn load(mill: &mut Option<Mill>, plan: &[u8], rules: &[u8]) -> Result<(), Refusa
 /// A refusal 1 says in which state the screen is, 25 which screens there are.
 fn on_screen(refusal: Refusal, screen: u32, state: Option<State>) -> Failure {
     match refusal {
-        Refusal::Screen => Failure::Refused(format!("{} (screen {}; there are 0 to {})", refusal, screen, SCREENS - 1)),
+        Refusal::Screen => {
+            Failure::refused_about(refusal, format!("screen {}; there are 0 to {}", screen, SCREENS - 1))
+        }
         _ => in_state(refusal, state),
     }
 }

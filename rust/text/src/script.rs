@@ -9,15 +9,16 @@
 //! ```
 
 use crate::input::Input;
+use crate::json::Object;
 use crate::lines::{self, Line, Wrong};
 use crate::outcome::{Failure, Made};
 use crate::questions;
-use crate::sentences::{self, count, list_refused, load_refused};
+use crate::sentences::{self, count, list_refused, load_refused, Said};
 use whatif::{Panel, Plan, Progress, Refusal, Rules, Session, State};
 
 /// A refused call is reported in its place, and the script goes on.
-pub fn run(input: &Input, script: &str) -> Result<Made, Failure> {
-    let mut script_run = Run { input, panel: None, text: String::new(), refused: false };
+pub fn run(input: &Input, script: &str, json: bool) -> Result<Made, Failure> {
+    let mut script_run = Run { input, panel: None, json, text: String::new(), refused: false };
     for line in lines::of(script) {
         script_run.take(&line).map_err(|wrong| Failure::Wrong(format!("in the script, {}", wrong)))?;
     }
@@ -29,6 +30,7 @@ pub fn run(input: &Input, script: &str) -> Result<Made, Failure> {
 struct Run<'a> {
     input: &'a Input,
     panel: Option<Panel>,
+    json: bool,
     text: String,
     refused: bool,
 }
@@ -43,11 +45,8 @@ impl Run<'_> {
         for _ in 0..times {
             let said = self.call(line)?;
             let goes_on = said.is_ok() && self.state() == Some(State::Running);
-            let said = said.unwrap_or_else(|failure| {
-                self.refused = true;
-                failure.what().to_string()
-            });
-            self.text += &format!("{}: {}\n", words, said);
+            self.refused |= said.is_err();
+            self.text += &sentences::call(&words, said, self.json);
             if !goes_on {
                 break;
             }
@@ -60,7 +59,7 @@ impl Run<'_> {
     }
 
     /// What one call answers, or its refusal; wrong where the line is none.
-    fn call(&mut self, line: &Line) -> Result<Result<String, Failure>, Wrong> {
+    fn call(&mut self, line: &Line) -> Result<Result<Said, Failure>, Wrong> {
         let state = self.state();
         let plain = |refusal: Refusal| in_state(refusal, state);
         Ok(match &line.words[..] {
@@ -79,17 +78,18 @@ impl Run<'_> {
         })
     }
 
-    fn load(&mut self) -> Result<String, Failure> {
+    fn load(&mut self) -> Result<Said, Failure> {
         let (plan, rules) = (&self.input.plan, &self.input.rules);
         load(&mut self.panel, plan, rules).map_err(|refusal| match refusal {
             Refusal::SessionState => in_state(refusal, self.state()),
             _ => load_refused(refusal, plan, rules),
         })?;
         let [n, s, k] = self.input.counts();
-        Ok(format!("{}, {}, {}", count(n, "node"), count(s, "state"), count(k, "label")))
+        let words = format!("{}, {}, {}", count(n, "node"), count(s, "state"), count(k, "label"));
+        Ok((words, Object::new().count("nodes", n).count("states", s).count("labels", k)))
     }
 
-    fn start(&mut self, changes: &[questions::Change]) -> Result<String, Failure> {
+    fn start(&mut self, changes: &[questions::Change]) -> Result<Said, Failure> {
         let panel = self.panel.as_mut().ok_or(Refusal::SessionState);
         let parts = panel.and_then(|panel| panel.start(changes)).map_err(|refusal| match self.state() {
             Some(State::Loaded) | Some(State::Answered) => {
@@ -97,29 +97,41 @@ impl Run<'_> {
             }
             other => in_state(refusal, other),
         })?;
-        Ok(count(parts as usize, "part"))
+        Ok((count(parts as usize, "part"), Object::new().number("parts", parts)))
     }
 
-    fn advance(&mut self) -> Result<String, Refusal> {
+    /// The part's root and its state are those of the record.
+    fn advance(&mut self) -> Result<Said, Refusal> {
         let panel = self.panel.as_mut().ok_or(Refusal::SessionState)?;
-        let said = if panel.advance()? == Progress::More { "more" } else { "finished" };
-        Ok(format!("part {} of {}, {}", panel.session().parts_done(), panel.session().parts(), said))
+        let finished = panel.advance()? == Progress::Finished;
+        let (done, parts) = (panel.session().parts_done(), panel.session().parts());
+        let words = format!("part {} of {}, {}", done, parts, if finished { "finished" } else { "more" });
+        let object = Object::new().number("part", done).number("of", parts).truth("finished", finished);
+        let newest = panel.session().handled().last();
+        let told = newest
+            .into_iter()
+            .fold(object, |o, part| o.number("root", part.root).state("state", part.state, &self.input.names));
+        Ok((words, told))
     }
 
     /// An earlier question's answer stays.
-    fn cancel(&mut self) -> Result<String, Refusal> {
+    fn cancel(&mut self) -> Result<Said, Refusal> {
         let panel = self.panel.as_mut().ok_or(Refusal::SessionState)?;
         panel.cancel()?;
-        let kept = if panel.last().is_ok() { ", with the last answer kept" } else { "" };
-        Ok(format!("the session is loaded, as after load{}", kept))
+        let kept = panel.last().is_ok();
+        let words = if kept { ", with the last answer kept" } else { "" };
+        Ok((format!("the session is loaded, as after load{}", words), Object::new().truth("answer_kept", kept)))
     }
 
     /// The last finished answer, in whatever state.
-    fn read(&self, state: Option<State>) -> Result<String, Failure> {
+    fn read(&self, state: Option<State>) -> Result<Said, Failure> {
         let last = self.panel.as_ref().ok_or(Refusal::SessionState).and_then(|panel| panel.last());
-        last.map(|answer| sentences::answer(&answer)).map_err(|refusal| match state {
+        last.map(|answer| {
+            (sentences::answer(&answer, &self.input.names), Object::new().answer(&answer, &self.input.names))
+        })
+        .map_err(|refusal| match state {
             Some(State::Loaded) | Some(State::Running) => {
-                Failure::Refused(format!("{} (no question is finished since load)", refusal))
+                Failure::refused_about(refusal, "no question is finished since load")
             }
             other => in_state(refusal, other),
         })
@@ -144,8 +156,8 @@ pub fn in_state(refusal: Refusal, state: Option<State>) -> Failure {
         Some(State::Answered) => "answered",
         None => "in no state",
     };
-    Failure::Refused(match refusal {
-        Refusal::SessionState => format!("{} (it is {})", refusal, name),
-        _ => refusal.to_string(),
-    })
+    match refusal {
+        Refusal::SessionState => Failure::refused_about(refusal, format!("it is {}", name)),
+        _ => Failure::refused(refusal),
+    }
 }

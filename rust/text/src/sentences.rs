@@ -1,6 +1,8 @@
 //! The words of answers and refusals.
 
-use crate::outcome::Failure;
+use crate::json::Object;
+use crate::names::Names;
+use crate::outcome::{Failure, Refused};
 use crate::questions::Change;
 use whatif::layout::number;
 use whatif::sizes::plan_bytes;
@@ -19,9 +21,23 @@ pub fn verdict(yes: bool) -> &'static str {
     }
 }
 
-pub fn answer(answer: &Answer) -> String {
-    let parts = count(answer.parts as usize, "part");
-    format!("{}, state {}, {}, {}", verdict(answer.yes), answer.state, parts, climbed(answer.links, answer.passed))
+pub fn answer(answer: &Answer, names: &Names) -> String {
+    let (state, parts) = (names.state(answer.state), count(answer.parts as usize, "part"));
+    format!("{}, state {}, {}, {}", verdict(answer.yes), state, parts, climbed(answer.links, answer.passed))
+}
+
+/// What a call says: in words, and as fields.
+pub type Said = (String, Object);
+
+/// A line of a script with what its call says, or its refusal.
+pub fn call(words: &str, said: Result<Said, Failure>, json: bool) -> String {
+    let object = Object::new().text("call", words);
+    match (json, said) {
+        (true, Ok((_, fields))) => object.and(fields).line(),
+        (true, Err(failure)) => object.failure(&failure).line(),
+        (false, Ok((said, _))) => format!("{}: {}\n", words, said),
+        (false, Err(failure)) => format!("{}: {}\n", words, failure.what()),
+    }
 }
 
 /// The moves of climbs, and the nodes that they passed over.
@@ -48,20 +64,17 @@ pub fn question(number: usize, list: &[Change]) -> String {
 }
 
 /// `before to after`, or that it is as before.
-pub fn state(before: u8, after: u8) -> String {
+pub fn state(before: u8, after: u8, names: &Names) -> String {
     if before == after {
-        format!("state {}, as before", after)
+        format!("state {}, as before", names.state(after))
     } else {
-        format!("state {} to {}", before, after)
+        format!("state {} to {}", names.state(before), names.state(after))
     }
 }
 
 /// A refusal, and which entry it is about where that is found.
 pub fn refused(refusal: Refusal, about: Option<String>) -> Failure {
-    Failure::Refused(match about {
-        Some(about) => format!("{} ({})", refusal, about),
-        None => refusal.to_string(),
-    })
+    Failure::Refused(Refused { refusal, about })
 }
 
 /// Of a plan and rules.

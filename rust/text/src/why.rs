@@ -1,6 +1,7 @@
 //! `whatif-text why`: the states along the path from each changed node, until they rejoin the old run.
 
 use crate::input::Input;
+use crate::json::Object;
 use crate::loaded::Loaded;
 use crate::outcome::Failure;
 use crate::questions::Change;
@@ -13,19 +14,29 @@ const FIRST: usize = 4;
 const LAST: usize = 2;
 
 /// Of one of the questions, counted from 1; every step where `whole`.
-pub fn of_question(input: &Input, question: usize, whole: bool) -> Result<String, Failure> {
+pub fn of_question(input: &Input, question: usize, whole: bool, json: bool) -> Result<String, Failure> {
     let list = input.question(question)?;
-    let mut loaded = Loaded::new(&input.plan, &input.rules)?;
+    let mut loaded = Loaded::of(input)?;
     let answer = loaded.ask(list)?.answer;
     let changed = loaded.changed(list)?;
     let root = loaded.nodes() - 1;
     if changed.before(root) != answer.state {
         return Err(Failure::wrong("a fault of whatif-text: the changed plan's run and the library's answer differ"));
     }
+    let paths = Paths { loaded: &loaded, changed: &changed, list, whole, told: BTreeSet::new() };
+    if json {
+        let asked = Object::new()
+            .count("question", question)
+            .changes("changes", list, &input.names)
+            .answer(&answer, &input.names);
+        let asked =
+            asked.truth("was_cleared", loaded.is_cleared()).state("was_state", loaded.before(root), &input.names);
+        return Ok(asked.line() + &paths.objects());
+    }
     let was = sentences::verdict(loaded.is_cleared());
-    let (said, before) = (sentences::answer(&answer), loaded.before(root));
+    let (said, before) = (sentences::answer(&answer, &input.names), input.names.state(loaded.before(root)));
     let head = format!("{}: {}\nas it is: {}, state {}\n", sentences::question(question, list), said, was, before);
-    Ok(head + &Paths { loaded: &loaded, changed: &changed, list, whole, told: BTreeSet::new() }.all())
+    Ok(head + &paths.all())
 }
 
 struct Paths<'a> {
@@ -49,6 +60,27 @@ impl Paths<'_> {
     fn all(mut self) -> String {
         let listed: BTreeSet<u16> = self.list.iter().map(|change| change.0).collect();
         listed.into_iter().map(|v| self.from(v as usize)).collect()
+    }
+
+    /// Every listed node and every one above it whose state is another, by rising number: an object each.
+    fn objects(&self) -> String {
+        let mut nodes = BTreeSet::new();
+        for &(v, _) in self.list {
+            let mut at = usize::from(v);
+            while nodes.insert(at) && self.differs(at) && at + 1 < self.loaded.nodes() {
+                at = self.loaded.parent(at);
+            }
+        }
+        nodes.into_iter().map(|v| self.object(v)).collect()
+    }
+
+    fn object(&self, v: usize) -> String {
+        let (before, after) = self.states(v);
+        let names = &self.loaded.names;
+        let object = Object::new().count("node", v).label("label", self.loaded.labels()[v], names);
+        let object = self.takes(v).into_iter().fold(object, |object, to| object.label("to", to, names));
+        let object = object.state("before", before, names).state("after", after, names);
+        object.truth("root", v + 1 == self.loaded.nodes()).line()
     }
 
     /// From a listed node up.
@@ -103,7 +135,7 @@ impl Paths<'_> {
 
     fn step(&self, step: &Step) -> String {
         let (before, after) = self.states(step.from);
-        let states = sentences::state(before, after);
+        let states = sentences::state(before, after, &self.loaded.names);
         match step.nodes {
             1 => format!("  node {}: {}\n", step.from, states),
             nodes => format!("  nodes {} up to {}, {} of them: {}\n", step.from, step.to, nodes, states),
@@ -113,11 +145,11 @@ impl Paths<'_> {
     fn line(&self, v: usize, end: &str) -> String {
         let (before, after) = self.states(v);
         let label = self.takes(v).map_or(String::new(), |to| {
-            let own = self.loaded.labels()[v];
-            format!(", label {} to {}", own, to)
+            let names = &self.loaded.names;
+            format!(", label {} to {}", names.label(self.loaded.labels()[v]), names.label(to))
         });
         let root = if v + 1 == self.loaded.nodes() { ", the root" } else { "" };
-        format!("node {}{}{}: {}{}\n", v, root, label, sentences::state(before, after), end)
+        format!("node {}{}{}: {}{}\n", v, root, label, sentences::state(before, after, &self.loaded.names), end)
     }
 
     /// The label that a listed node is to take.

@@ -2,7 +2,8 @@
 
 use std::fs;
 use std::process::{Command, Output};
-use text::agree::{clears, needed, picture, text};
+use text::agree::{clears, needed, picture, text, verdict};
+use text::picture::Drawn;
 use text::{rules_of, write};
 use whatif::{Line, Plan, Rules};
 
@@ -23,7 +24,11 @@ fn shown(first: &str, second: &str) -> (Vec<Line>, Option<Plan>) {
     let needed = needed(&lines);
     assert_ne!(clears(&first, &needed), clears(&second, &needed));
     assert_eq!((clears(&first, &needed), clears(&second, &needed)), (clears(&first, &lines), clears(&second, &lines)));
-    (needed, separating.to_plan())
+    let plan = separating.to_plan();
+    for rules in [&first, &second] {
+        assert_eq!(verdict(rules, &needed, plan.as_ref()), Ok(clears(rules, &needed)), "the library's is the same");
+    }
+    (needed, plan)
 }
 
 #[test]
@@ -35,9 +40,11 @@ fn a_plan_of_three_levels() {
     // it may be pasted, before the rules
     let bytes = write(&said).unwrap();
     assert_eq!(bytes[0] as usize, 12 + 2 * 15);
-    let drawn = picture(&lines);
-    assert!(drawn.contains("    3 [label=\"3: 0\"];\n    3 -> 2;\n    3 -> 2;\n"), "{}", drawn);
-    assert!(drawn.ends_with("    0 [label=\"0: 0\", shape=box];\n}\n"), "{}", drawn);
+    let drawn = picture(&lines, Drawn::Dot);
+    assert!(drawn.contains("    0 [label=\"line 3\\nlabel 0\""), "{}", drawn);
+    assert!(drawn.contains("    0 -> 1 [label=\" left and right \"];\n"), "{}", drawn);
+    let svg = picture(&lines, Drawn::Svg);
+    assert_eq!((svg.matches("<g class=\"node\">").count(), svg.matches(">left and right<").count()), (4, 3), "{}", svg);
 }
 
 #[test]
@@ -54,7 +61,8 @@ fn a_plan_beyond_65_535_nodes() {
     let but_14 = |s: usize| (0..s).filter(|&state| state != 14).map(|state| format!("{} ", state)).collect::<String>();
     let (lines, plan) = shown(&balanced(15, &but_14(15)), &balanced(16, &but_14(16)));
     let said = text(&lines, plan.as_ref());
-    assert!(said.ends_with("# as a tree it has more than 65,535 nodes, the most that a plan can have\n"), "{}", said);
+    assert!(said.contains("# as a tree it has more than 65,535 nodes, the most that a plan can have\n"), "{}", said);
+    assert!(said.ends_with("# so the two verdicts are worked out by whatif-text, not by the library\n"), "{}", said);
     assert!(!said.contains("plan\n"), "{}", said);
 }
 
@@ -79,7 +87,9 @@ fn the_program() {
     let head = "# yes by the first, no by the second\n# line 0: leaf 0\nplan\nleaf 0 ";
     assert!(status == Some(4) && text.starts_with(head), "{}", text);
     let (status, text) = said(&["agree", &four, &none, "dot"]);
-    assert!(status == Some(4) && text.starts_with("// LINE: LABEL."), "{}", text);
+    assert!(status == Some(4) && text.starts_with("digraph separating {"), "{}", text);
+    let (status, text) = said(&["agree", &four, &none, "svg"]);
+    assert!(status == Some(4) && text.starts_with("<svg "), "{}", text);
     assert_eq!(said(&["agree", &sample, &four]), (Some(3), String::new()), "23");
     assert_eq!(said(&["agree", &sample]), (Some(2), String::new()));
     [sample, four, none].iter().for_each(|path| fs::remove_file(path).unwrap());

@@ -1,75 +1,113 @@
-//! Plan A with the parts of its sample questions, as Graphviz text.
+//! The pictures of plan A's questions: the same words and looks for Graphviz and as SVG, states before and after, the
+//! verdict at the root; and the library is asked first.
 
-use text::dot::picture;
 use text::input::Input;
 use text::outcome::Failure;
+use text::picture::Drawn;
 
 const SAMPLE: &str = include_str!("../../../examples/sample.txt");
 
-/// What `whatif-text dot` prints for a question of the sample, its head left out.
-fn drawn(question: usize) -> Result<String, Failure> {
-    let shown = text::draw(&Input::of_text(SAMPLE)?, question)?;
-    Ok(shown.split_once("edge [dir=none];\n").expect("the head").1.to_string())
+fn drawn(question: usize, how: Drawn) -> Result<String, Failure> {
+    text::draw(&Input::of_text(SAMPLE)?, question, true, 1, how)
+}
+
+/// The nodes of Graphviz text, from the top, with their looks.
+fn nodes(graphviz: &str) -> Vec<String> {
+    let told = graphviz.lines().filter(|line| line.contains("[label=\"") && line.contains("tooltip"));
+    let plain = |line: &str| line.trim().replace("\\n", " / ");
+    told.map(|line| {
+        let line = plain(line);
+        let (from, to) = (line.find(", tooltip=\"").unwrap(), line.find("\", tooltip=\"").unwrap());
+        let after = to + 1 + line[to + 1..].find("tooltip=\"").unwrap() + "tooltip=\"".len();
+        let end = after + line[after..].find('"').unwrap() + 1;
+        line[..from].to_string() + &line[end..]
+    })
+    .collect()
 }
 
 #[test]
 fn one_change_has_two_parts() {
-    let expected = r##"    0 [label="0: 1 to 0\npart 1", fillcolor=1, shape=box, peripheries=2];
-    1 [label="1: 1", fillcolor=2];
-    2 [label="2: 1", fillcolor="#ffffff", color="#bbbbbb", fontcolor="#999999"];
-    3 [label="3: 0", fillcolor=2];
-    4 [label="4: 1", fillcolor=2];
-    5 [label="5: 0", fillcolor=2];
-    6 [label="6: 1\npart 2", fillcolor=2, peripheries=2];
-    2 -> 0 [style=dashed, color="#bbbbbb", fontcolor="#999999"];
-    2 -> 1;
-    5 -> 3;
-    5 -> 4;
-    6 -> 2;
-    6 -> 5;
-}
-"##;
-    assert_eq!(drawn(2).as_deref(), Ok(expected));
+    let expected = [
+        "0 [label=\"node 6, part 2 / label 1 / state 1 to 0 / the root: not cleared\", fillcolor=\"#f2a0a0\", peripheries=2, penwidth=2];",
+        "1 [label=\"node 2 / label 1 / state 1 to 0\", style=\"filled,rounded,dashed\", fillcolor=\"#ffdca8\", color=\"#999999\", fontcolor=\"#666666\", penwidth=2];",
+        "2 [label=\"node 0, part 1 / label 1 to 0 / state 1 to 0\", style=\"filled\", fillcolor=\"#ffdca8\", peripheries=2, penwidth=2];",
+        "3 [label=\"node 1 / label 1 / state 1, as before\"];",
+        "4 [label=\"node 5 / label 0 / state 1, as before\"];",
+        "5 [label=\"node 3 / label 0 / state 0, as before\"];",
+        "6 [label=\"node 4 / label 1 / state 1, as before\"];",
+    ];
+    let graphviz = drawn(2, Drawn::Dot).unwrap();
+    assert_eq!(nodes(&graphviz), expected);
+    assert!(graphviz.contains("label=\"Question 2: not cleared, state 0, 2 parts, 1 link, 1 node passed over\\n"));
+    for edge in ["0 -> 1;", "0 -> 4;", "1 -> 2 [style=dashed, color=\"#999999\"", "1 -> 3;", "4 -> 5;", "4 -> 6;"] {
+        assert!(graphviz.contains(&format!("    {}", edge)), "{} {}", edge, graphviz);
+    }
 }
 
-/// Under 0->0 3->1 the children of the root root parts too.
+/// Every line of words, the title and the legend stand in both; a node has a tip in both.
 #[test]
-fn two_changes_have_five_parts() {
-    let expected = r#"    0 [label="0: 1 to 0\npart 1", fillcolor=1, shape=box, peripheries=2];
-    1 [label="1: 1", fillcolor=2];
-    2 [label="2: 1\npart 2", fillcolor=2, peripheries=2];
-    3 [label="3: 0 to 1\npart 3", fillcolor=3, shape=box, peripheries=2];
-    4 [label="4: 1", fillcolor=4];
-    5 [label="5: 0\npart 4", fillcolor=4, peripheries=2];
-    6 [label="6: 1\npart 5", fillcolor=5, peripheries=2];
-    2 -> 0 [style=dashed];
-    2 -> 1;
-    5 -> 3 [style=dashed];
-    5 -> 4;
-    6 -> 2 [style=dashed];
-    6 -> 5 [style=dashed];
-}
-"#;
-    assert_eq!(drawn(4).as_deref(), Ok(expected));
+fn both_ways_say_the_same() {
+    for question in [1, 2, 3, 4, 5, 6, 9] {
+        let (graphviz, svg) = (drawn(question, Drawn::Dot).unwrap(), drawn(question, Drawn::Svg).unwrap());
+        assert_eq!((svg.matches("<g class=\"node\">").count(), nodes(&graphviz).len()), (7, 7));
+        assert_eq!(svg.matches("<g class=\"node\"><title>").count(), 7);
+        let texts = svg.split("</text>").filter_map(|piece| piece.rsplit_once('>')).map(|(_, words)| words.trim());
+        for words in texts.filter(|words| !words.is_empty()) {
+            assert!(graphviz.contains(words), "{}: {}", words, graphviz);
+        }
+    }
 }
 
 /// 0->0 0->1: the last entry is the node's own label, so nothing changes and the whole plan is one part.
 #[test]
 fn own_labels_are_no_change() {
-    let drawn = drawn(9).unwrap();
-    assert!(drawn.contains("6 [label=\"6: 1\\npart 1\""), "{}", drawn);
-    assert!(!drawn.contains("part 2") && !drawn.contains("dashed"), "{}", drawn);
+    let drawn = drawn(9, Drawn::Dot).unwrap();
+    assert!(drawn.contains("node 6, part 1\\nlabel 1\\nstate 1, as before\\nthe root: cleared"), "{}", drawn);
+    assert!(!drawn.contains("part 2") && !drawn.contains(" [style=dashed"), "{}", drawn);
 }
 
+/// What the library refuses is refused, with its number: also a label that the rules do not have.
 #[test]
 fn what_cannot_be_drawn_is_said() {
-    let refused = |what: &str| Err(Failure::Refused(what.into()));
     let wrong = |what: &str| Err(Failure::wrong(what));
-    assert_eq!(drawn(7), refused("refused 13: A node given is not one of the plan."));
-    assert_eq!(drawn(9).map(|_| ()), Ok(()), "the last entry holds");
-    assert_eq!(drawn(0), wrong("there is no question 0: the input has 9"));
-    assert_eq!(drawn(10), wrong("there is no question 10: the input has 9"));
-    assert_eq!(picture(&[], &[]), Err(whatif::Refusal::PlanShort));
+    for (question, number) in [(7, 13), (8, 14)] {
+        match drawn(question, Drawn::Svg) {
+            Err(Failure::Refused(refused)) => assert_eq!(refused.refusal.number(), number),
+            other => panic!("{:?}", other),
+        }
+    }
+    assert_eq!(drawn(0, Drawn::Dot), wrong("there is no question 0: the input has 9"));
+    assert_eq!(drawn(10, Drawn::Dot), wrong("there is no question 10: the input has 9"));
     let line = Input::of_text("plan\nleaf x\nquestions\nnone").err().expect("no number");
     assert_eq!(line, Failure::wrong("line 2: 'x' is not a number from 0 to 255"));
+}
+
+/// 64 changes on the most nodes: every part is on exactly one page, no page has too many, and pages are named.
+#[test]
+fn outlines_have_pages() {
+    let words: Vec<&str> =
+        "--nodes 65535 --shape random --changes 64 --questions 1 --states 16 --labels 64".split(' ').collect();
+    let input = Input::of_text(&text::random::text(&words).unwrap().unwrap()).unwrap();
+    let asked = text::loaded::Loaded::of(&input).unwrap().ask(&input.questions[0]).unwrap();
+    let (mut parts, mut page, mut elsewhere) = (Vec::new(), 1, 0);
+    let last = loop {
+        let graphviz = match text::draw(&input, 1, true, page, Drawn::Dot) {
+            Ok(graphviz) => graphviz,
+            Err(failure) => break failure,
+        };
+        let nodes = nodes(&graphviz);
+        let shown = nodes.iter().filter(|node| node.contains(", part ")).count();
+        assert!((1..=text::outline::MOST).contains(&shown) && nodes.len() <= text::outline::MOST, "{}", graphviz);
+        assert!(graphviz.contains(&format!("page {} of ", page)), "{}", graphviz);
+        elsewhere += nodes.len() - shown;
+        let part = |node: &String| {
+            node.split(", part ").nth(1).map(|rest| rest.split(' ').next().unwrap().parse::<usize>().unwrap())
+        };
+        parts.extend(nodes.iter().filter_map(part));
+        page += 1;
+    };
+    parts.sort_unstable();
+    assert!(parts.iter().copied().eq(1..=asked.roots.len()), "{:?}", parts);
+    assert_eq!(elsewhere, page - 2, "each page but the first is named on another");
+    assert_eq!(last, Failure::wrong(format!("there is no page {}: the outline has {} pages", page, page - 1)));
 }

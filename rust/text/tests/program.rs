@@ -50,8 +50,14 @@ fn statuses() {
 fn help_and_version() {
     let said = |words| String::from_utf8(program(words, "/dev/null", Stdio::piped()).stdout).expect("text");
     assert!(said(&["--help"]).starts_with("usage: whatif-text VERB"));
-    assert_eq!(said(&["outline", "--help"]), said(&["--help"]));
+    assert_eq!((said(&["-h"]), said(&["help"])), (said(&["--help"]), said(&["--help"])));
+    assert!(said(&["help", "outline"]).starts_with("usage: whatif-text outline QUESTION"));
+    assert_eq!(
+        (said(&["outline", "--help"]), said(&["outline", "-h"])),
+        (said(&["help", "outline"]), said(&["help", "outline"]))
+    );
     assert_eq!(said(&["--version"]), concat!("whatif-text ", env!("CARGO_PKG_VERSION"), "\n"));
+    assert_eq!(said(&["-V"]), said(&["--version"]));
 }
 
 /// docs/whatif-text.md has the verbs of the help, and shows what is written.
@@ -59,12 +65,12 @@ fn help_and_version() {
 fn the_page() {
     let page = include_str!("../../../docs/whatif-text.md");
     let help = String::from_utf8(program(&["--help"], "/dev/null", Stdio::piped()).stdout).expect("text");
-    let verbs: Vec<&str> =
-        help.lines().filter_map(|line| line.strip_prefix("  ")).filter(|l| !l.starts_with(' ')).collect();
-    assert_eq!(verbs.len(), 22, "{}", help);
-    for verb in verbs {
-        let verb = verb.split([' ', ',']).next().unwrap();
-        assert!(page.contains(&format!("`{}", verb)), "{}", verb);
+    for verb in text::verbs::ALL {
+        assert!(help.contains(&format!("\n  {}", verb.name)) && help.contains(verb.what), "{}", verb.name);
+        assert!(page.contains(&format!("`{}", verb.name)), "{}", verb.name);
+        for option in text::args::options(verb) {
+            assert!(page.contains(&format!("`{}", option)), "{}", option);
+        }
     }
     let answers = include_str!("stored/answer");
     let shown: Vec<&str> = page.lines().filter_map(|line| line.strip_prefix("    question ")).collect();

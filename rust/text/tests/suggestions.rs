@@ -45,7 +45,7 @@ fn choices_that_clear() {
     for seed in 0..60 {
         let input = input(&format!("--nodes 41 --shape random --states 5 --labels 3 --seed {}", seed));
         let open: Vec<usize> = (0..41).step_by(7 + seed % 5).collect();
-        let text = text::count::of_nodes(&input, &open).unwrap();
+        let text = text::count::of_nodes(&input, &open, false).unwrap();
         match text.split_once("a choice that clears it: ") {
             Some((_, choice)) => {
                 let pairs = choice.trim().split(' ').map(|pair| pair.split_once("->").expect("NODE->LABEL"));
@@ -70,8 +70,9 @@ fn choices_that_clear() {
 fn the_largest_plan() {
     let input = input("--nodes 65535 --shape comb --labels 64 --states 16");
     let begun = std::time::Instant::now();
-    let text = text::suggest::of_nodes(&input, &[]).unwrap();
+    let text = text::suggest::of_nodes(&input, &[], None, false).unwrap();
     assert!(text.contains("of 4128705 changes at 65535 nodes turn that"), "{}", &text[..200]);
+    assert!(text.contains("\n# worked out by whatif-text; the library says the same of "), "{}", &text[..300]);
     println!("{} changes in {:?}", 65_535 * 63, begun.elapsed());
 }
 
@@ -88,9 +89,17 @@ fn climbs_of_outlines() {
             let climbs = || edges.iter().filter_map(|edge| edge.climb);
             assert_eq!(climbs().map(|climb| climb.1).sum::<usize>(), asked.answer.links as usize);
             assert_eq!(climbs().map(|climb| climb.0).sum::<usize>(), asked.answer.passed as usize);
-            let drawn = text::dot::picture(&input.plan, question).unwrap();
-            let light = drawn.lines().filter(|line| line.contains("[label=") && line.contains("fillcolor=\"#ffffff\""));
+            let light = text::dot::passed_over(&loaded, &asked.roots).into_iter().filter(|&passed| passed);
             assert_eq!(light.count(), asked.answer.passed as usize);
         }
     }
+}
+
+/// With at most 4 states all that are told are asked of the library, by colours.
+#[test]
+fn all_are_asked_where_the_rules_have_few_states() {
+    let input = input("--nodes 20001 --shape arch --labels 8 --states 4");
+    let text = text::suggest::of_nodes(&input, &[], None, false).unwrap();
+    assert!(text.lines().count() > 5_000, "{}", text.lines().count());
+    assert!(text.contains("# worked out by whatif-text; the library says the same of each\n"), "{}", &text[..300]);
 }
