@@ -7,11 +7,12 @@
 --     ask-on-states         on any run states and maps below S: what the parts by the rule give on those bytes
 --     ask-named, ask-promised, ask-cause-of-18   what holds on any tables
 --     ask-short             17 where a buffer does not fit the headers
+--     ask-sample            the sample clearance
 -- The numbers 17, 12, 13, 14, 18 and that a refused call alters nothing: Calls.
 use Prim.Native.Nat.{ℕ, zero, suc}
 use mathlib.Core.Path.{_≡_, refl, sym, ap, ap₂, _∙_, subst}
 use mathlib.Core.Bool.{Bool, true, false}
-use mathlib.Core.List.{List, []}
+use mathlib.Core.List.{List, [], _∷_}
 use mathlib.Core.Option.{Option, none, some}
 use native.Mathlib.Omega.{arith}
 use lib.ListN.{length}
@@ -35,6 +36,7 @@ use Rattle.whole_questions.specs.Question.{viewLent, leftLent, Whole, wholeLent
 use Rattle.whole_questions.specs.Question.{answerFor, askAnswer, askingNumber}
 use Rattle.whole_questions.specs.Promise.{AskUsable, rootsLeft, TotalKept, AskKept}
 use Rattle.whole_questions.proofs.AskBuilt.{built-usable}
+use Rattle.whole_questions.proofs.Sample.{askA, ask-rows}
 use Rattle.capi.specs.numbers.Numbers.{bitOf}
 use Rattle.capi.proofs.table_calls.Theorems.{build-as-built}
 use Rattle.capi_ask.specs.WholeExported.{WholeExported, endOf, acceptedOf, partsOf, linksOf, passedOf}
@@ -166,3 +168,13 @@ ask-after-build : (p r x y x′ y′ : List ℕ) → BuildCall p r x y 0 x′ y�
     → firstNo (listChecks (nodeCount p) (labelCount r) vs bs) ≡ 0 → AskAnswered p r vs bs n s₁ y₁ m₁ k₁ d₁
 ask-after-build p r x y x′ y′ C vs bs n s₀ y₀ m₀ k₀ d₀ s₁ y₁ m₁ k₁ d₁ E =
     ask-answers p r x′ y′ vs bs n s₀ y₀ m₀ k₀ d₀ s₁ y₁ m₁ k₁ d₁ E (build-as-built p r x y 0 x′ y′ C refl)
+
+-- ---- "Sample clearance, to be proved as one table": on plan A with table A and their tables, in the order of Read
+
+ask-sample :
+    askA [] [] ∷ askA (0 ∷ []) (0 ∷ []) ∷ askA (0 ∷ 2 ∷ []) (0 ∷ 0 ∷ []) ∷ askA (0 ∷ 3 ∷ []) (0 ∷ 1 ∷ [])
+    ∷ askA (4 ∷ []) (0 ∷ []) ∷ askA (6 ∷ []) (0 ∷ []) ∷ askA (7 ∷ []) (0 ∷ []) ∷ askA (0 ∷ []) (2 ∷ [])
+    ∷ askA (0 ∷ 0 ∷ []) (0 ∷ 1 ∷ []) ∷ []
+    ≡ Answered 1 true 1 0 0 ∷ Answered 0 false 2 1 1 ∷ Answered 1 true 3 0 0 ∷ Answered 0 false 5 0 0
+    ∷ Answered 0 false 2 1 1 ∷ Answered 1 true 1 0 0 ∷ Refused 13 ∷ Refused 14 ∷ Answered 1 true 1 0 0 ∷ []
+ask-sample = ask-rows

@@ -8,3 +8,4 @@ pub mod RuledLaws
 pub mod AskBuilt
 pub mod AskTheorem
 pub mod Theorems
+pub mod Sample

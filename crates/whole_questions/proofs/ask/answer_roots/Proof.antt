@@ -56,7 +56,7 @@ shared-slice-read-yes c =
 cast-t22 : tie.Need-cast-t22
 cast-t22 c =
     let a = c .before .before .before .before .before in
-    omega (arith, of a .pre .all .few)
+    omega (arith, of a .pre .all .few, of a .pre .all .many-list)
 
 returns : tie.Need-returns
 returns c =

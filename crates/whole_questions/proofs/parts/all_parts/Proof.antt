@@ -50,7 +50,9 @@ add-links c =
     let o = e .before .loop in
     let l = next-links _ _ _ _ _ _ _ _ _ _ (o .states) (o .last) (o .links) (o .passed) (o .i) (o .inv)
     (e .loop-test .taken) (f .part .result) (f .part .ensures) (x .x .given .0 .0) (x .x .given .1) in
-    omega (arith, l, e .loop-test .taken, o .inv .args .few)
+    let d = next-passed _ _ _ _ _ _ _ _ _ _ (o .states) (o .last) (o .links) (o .passed) (o .i) (o .inv)
+    (e .loop-test .taken) (f .part .result) (f .part .ensures) (x .x .given .0 .0) (x .x .given .1) in
+    omega (arith, l, d, o .inv .few-links, e .loop-test .taken, o .inv .args .few)
 
 add-passed : tie.Need-add-passed Inv-loop μ-loop
 add-passed c =
