@@ -41,7 +41,7 @@ use Rattle.questions.specs.ready.Members.{roots}
 use Rattle.questions.specs.ready.StaysInside.{StaysInside}
 use Rattle.questions.proofs.ready.ListLaws.{list-members}
 use Rattle.questions.proofs.ready.PartsRun.{Members, RunGiven}
-use Rattle.reference.proofs.FreshLaws.{rules-inside}
+use Rattle.questions.proofs.FreshLaws.{rules-inside}
 use Rattle.reference.specs.Sample.{planA, tableA}
 use Rattle.colours.specs.StateSets.{setOf, member, setStep}
 use Rattle.colours.proofs.BitLaws.{member-setOf}

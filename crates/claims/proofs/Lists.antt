@@ -54,7 +54,7 @@ use Rattle.capi.proofs.list_calls.Ties as ties
 use Rattle.model.specs.Calls.{Answer}
 use Rattle.reference.specs.Reference.{Question, rootsOf, partCount, givenBy}
 use Rattle.reference.specs.Undisturbed.{EveryOutcomeAfter}
-use Rattle.reference.proofs.FreshLaws.{whole-state, whole-before}
+use Rattle.questions.proofs.FreshLaws.{whole-state, whole-before}
 use Rattle.reference.proofs.Ceilings.{parts-never-rise}
 use Rattle.reference.proofs.Controls.{inputsFive, withLeft, withListed, links-either-way}
 use Rattle.reference.specs.Outcomes.{CleanOutcomes}
@@ -148,7 +148,8 @@ left = differing-is
 as-before : (z : Sizes) (q : Question) → Built z (q .inputs) → stateTableBuilt z (q .inputs) ≡ true
     → lastState (partsOf (givenBy z q (q .inputs)) (rootsOf q)) 0
     ≡ lastState (partsOf (givenBy z q (q .inputs)) (roots (planTree (q .inputs .plan)) (q .nodes))) 0
-as-before z q B e = whole-state z q B e ∙ sym (whole-before z q B e)
+as-before z q B e =
+    whole-state z (q .inputs) (q .nodes) (q .labels) B e ∙ sym (whole-before z (q .inputs) (q .nodes) (q .labels) B e)
 
 -- "parts and advances needed never rise": of what every form answers, few and never-more of CleanOutcomes (Main,
 -- finished-answers)

@@ -1,5 +1,4 @@
 -- What the model takes from the questions layer: two facts about a node table as built.
---     SettledInputs z y vs bs x    what an advance is given: plan, rules and node table as built and as at Start (y), states below S
 --     Handled s rs ps              parts of the first of the roots rs, with any states below s
 --     nextRoot rs ps               the root of the part after ps
 --     reachedBy p                  what an advance finds for part p
@@ -13,27 +12,17 @@ use mathlib.Core.List.{List}
 use mathlib.Core.Option.{some}
 use lib.ListN.{length, getD, take}
 use Rattle.list_laws.specs.Tests.{allBelow}
-use Rattle.formats.specs.Checks.{firstNo, listChecks}
-use Rattle.formats.specs.Inputs.{Inputs, Sizes, fits, sameNodeInputs, nodeTableBuilt, statesBelow}
+use Rattle.formats.specs.Inputs.{Inputs, Sizes, nodeTableBuilt}
 use Rattle.questions.specs.ready.Parts.{Part, nodesOf, statesOf, partOf}
 use Rattle.tables.specs.declared.answers.Reached.{Reached}
 use Rattle.tables.specs.Climbs.{reached}
 use Rattle.questions.specs.Part.{partOn}
 use Rattle.questions.specs.Promises.{RootsAre}
-use Rattle.model.specs.Model.{rootsIn, viewBy}
-use Rattle.model.specs.PartInputs.{givenOf}
+use Rattle.model.specs.Model.{rootsIn}
+use Rattle.questions.specs.PartInputs.{viewBy, givenOf, SettledInputs}
 
 abbrev pub reachedBy : Part → Reached
 reachedBy p = reached (p .state) (p .links) (p .passed)
-
--- "Where plan and rules name the record's N, S and K and, like the 16-bit numbers, are as at Start and as built, but
--- run states and maps are any bytes below S"
-pub record SettledInputs (z : Sizes) (y : Inputs) (vs bs : List ℕ) (x : Inputs) : Type 0 where
-  pub built : nodeTableBuilt z y ≡ true
-  pub same : sameNodeInputs z y x ≡ true
-  pub below : statesBelow z x ≡ true
-  pub room : fits z x ≡ true
-  pub listed : firstNo (listChecks (z .n) (z .k) vs bs) ≡ 0
 
 pub record Handled (s : ℕ) (rs : List ℕ) (ps : List Part) : Type 0 where
   pub nodes : nodesOf ps ≡ take (length ps) rs

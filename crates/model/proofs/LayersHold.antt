@@ -1,66 +1,35 @@
 -- The facts that the model takes from the questions layer hold: proved from that layer's theorems roots-built, rootsOn-are, part-built.
---     tree-size, cells    on inputs as built the tree has N nodes, and the node table's cells are the tree's
 --     layers              the facts
-use Prim.Native.Nat.{ℕ, zero, suc, _+_, _*_, _≤_, _<_}
-use mathlib.Core.Path.{_≡_, refl, sym, ap, ap₂, _∙_, subst}
-use mathlib.Core.Bool.{Bool, true, false, cond, _&&_}
-use mathlib.Core.List.{List, [], _∷_, _++_, List·Memᴰ, List·Memᴰ·head, List·Memᴰ·tail, List·Memᴰ·cases-cons, List·Memᴰ·not-nil}
-use mathlib.Core.Logic.{_⊎_, inl, inr}
-use mathlib.Core.Option.{Option, some}
-use native.Mathlib.Decide.{ℕ-discrete, decLt}
+use Prim.Native.Nat.{ℕ, suc, _+_, _<_}
+use mathlib.Core.Path.{_≡_, sym, ap, ap₂, _∙_}
+use mathlib.Core.Bool.{true}
+use mathlib.Core.List.{List, _∷_, _++_}
+use mathlib.Core.Option.{some}
 use native.Mathlib.Omega.{arith}
-use lib.Dec.{eqb, ltb}
-use lib.ListN.{length, getD, take, drop, set, take-append-drop}
-use lib.Seq.{take-all, drop-cons, getD-set-same, getD-set-other, set-out}
-use borrow.Author.Tests.{ltb-true, eqb-true}
-use Rattle.trees.specs.Tree.{Tree, size, kindsOf, labelsOf, labelAt}
+use lib.ListN.{length, take, drop, take-append-drop}
+use lib.Seq.{drop-cons}
 use Rattle.trees.specs.Changes.{changed}
-use Rattle.list_laws.proofs.RowLaws.{cell-in}
 use Rattle.list_laws.specs.Tests.{allBelow, holds}
-use Rattle.formats.specs.Plan.{nodeCount, planTree, labelsIn, kindsIn, planLength}
-use Rattle.formats.specs.Rules.{stateCount, labelCount, leafStates, innerStates, ruleAutomaton}
-use Rattle.formats.specs.Checks.{nodeTableLength, stateTableLength}
-use Rattle.formats.specs.Built.{builtNodeTable}
-use Rattle.list_laws.proofs.TestLaws.{allBelow-all}
-use Rattle.formats.proofs.PlanLaws.{size-planTree, kinds-planTree, labels-planTree}
-use Rattle.formats.specs.Passing.{PlanPasses}
-use Rattle.formats.proofs.RuleLaws.{RulesPass, leaf-state-below, inner-state-below}
-use Rattle.formats.proofs.InputLaws.{ListPasses, list-passes, label-below}
-use Rattle.tables.specs.node_tables.NodeCells.{NodeCells}
-use Rattle.tables.proofs.node_tables.CellLaws.{link-cells, length-nodeTableOf}
-use Rattle.tables.specs.StateCells.{stateCell, mapCell}
-use Rattle.tables.specs.Climbs.{View, viewOf}
+use Rattle.formats.specs.Plan.{planTree}
+use Rattle.formats.proofs.PlanLaws.{labels-planTree}
 use Rattle.questions.specs.ready.Members.{roots}
-use Rattle.questions.specs.ready.Parts.{Given, Part, nodesOf, statesOf, stateOf, partOf}
+use Rattle.questions.specs.ready.Parts.{Part, nodesOf, statesOf, partOf}
 use Rattle.questions.proofs.ready.PartsRun.{Members}
 use Rattle.questions.proofs.ready.ListLaws.{list-members}
 use Rattle.questions.specs.Roots.{rootsOn}
 use Rattle.questions.specs.Part.{partOn}
-use Rattle.questions.specs.Promises.{Reads, RootsAre}
+use Rattle.questions.specs.Promises.{RootsAre}
 use Rattle.questions.proofs.Promised.{all-small}
 use Rattle.questions.proofs.RootsLaws.{rootsOn-are}
 use Rattle.questions.proofs.RootsBuilt as roots-theorem
 use Rattle.questions.proofs.PartBuilt as part-theorem
-use Rattle.formats.specs.Inputs.{Inputs, Sizes, usedNodeTable, usedStateTable, nodeTableBuilt, statesBelow}
-use Rattle.model.specs.Model.{rootsIn, viewBy}
-use Rattle.model.specs.PartInputs.{givenOf}
-use Rattle.model.proofs.Facts.{SettledInputs, Handled, nextRoot, reachedBy, Layers}
-use Rattle.formats.proofs.InputsLaws.{node-table-built, plan-of, rules-of, labels-of, Same, same-node-inputs}
+use Rattle.formats.specs.Inputs.{Inputs, Sizes, usedNodeTable, nodeTableBuilt}
+use Rattle.questions.specs.PartInputs.{givenOf, viewBy, SettledInputs}
+use Rattle.questions.proofs.PartInputsLaws.{tree-size, cells, states-some, states-small, reads}
+use Rattle.model.specs.Model.{rootsIn}
+use Rattle.model.proofs.Facts.{Handled, nextRoot, reachedBy, Layers}
+use Rattle.formats.proofs.InputsLaws.{node-table-built, plan-of}
 use Rattle.formats.specs.Passing.{Built}
-
--- ---- the node table
-
-module _ (z : Sizes) (x : Inputs) (B : Built z x) where
-  pub tree-size : z .n ≡ size (planTree (x .plan))
-  tree-size = sym (size-planTree (x .plan) (plan-of z x B) ∙ B .n-is)
-
-  -- the node table in use is that of the definition, so their cells are the tree's
-  pub cells : NodeCells (planTree (x .plan)) (usedNodeTable z x)
-  cells =
-      link-cells (planTree (x .plan)) (size (planTree (x .plan))) (usedNodeTable z x) refl
-      (take-all (nodeTableLength (size (planTree (x .plan)))) (usedNodeTable z x)
-      (let e : length (usedNodeTable z x) ≡ size (planTree (x .plan)) * 4 = ap length (B .nodeTable) ∙ length-nodeTableOf (planTree (x .plan)) in omega arith)
-      ∙ B .nodeTable)
 
 -- ---- Start
 
@@ -75,104 +44,9 @@ roots-fact z x vs l a =
 
 -- ---- advance
 
--- labels changed to labels below k are below k, at every index
-changed-below : (k : ℕ) (ls vs bs : List ℕ) → 0 < k → ((j : ℕ) → getD ls j 0 < k) → ((j : ℕ) → getD bs j 0 < k) → (j : ℕ)
-    → getD (changed ls vs bs) j 0 < k
-unfolding changed
-changed-below k ls [] bs h a b j = a j
-changed-below k ls (v ∷ vs) [] h a b j = a j
-changed-below k ls (v ∷ vs) (c ∷ bs) h a b j = changed-below k (set ls v c) vs bs h (λ i. one i) (λ i. b (suc i)) j
-  where
-    one : (i : ℕ) → getD (set ls v c) i 0 < k
-    one i = elim (ℕ-discrete i v) [
-      | no n ↦ rw (getD-set-other ls v i c 0 n) (a i)
-      | yes e ↦ elim (decLt v (length ls)) [
-        | yes l ↦ rw (e, getD-set-same ls v c 0 l) (b 0)
-        | no l ↦ rw (set-out ls v c (omega arith)) (a i)
-      ]
-    ]
-
-pub states-small : (s : ℕ) (ps : List Part) → 0 < s → allBelow s (statesOf ps) ≡ true → (x : ℕ) → stateOf ps x < s
-unfolding allBelow stateOf
-states-small s [] h e x = h
-states-small s (p ∷ ps) h e x = go (ltb (p .state) s) refl e (states-small s ps h)
-  where
-    go : (b : Bool) → ltb (p .state) s ≡ b → (b && allBelow s (statesOf ps)) ≡ true
-        → (allBelow s (statesOf ps) ≡ true → (x : ℕ) → stateOf ps x < s) → cond (eqb (p .node) x) (p .state) (stateOf ps x) < s
-    go true q f ih = either (eqb (p .node) x)
-      where
-        either : (c : Bool) → cond c (p .state) (stateOf ps x) < s
-        either true = ltb-true (p .state) s q
-        either false = ih f x
-    go false q f ih = absurd (let z : _≡_ {A = ℕ} 0 1 = cc in omega arith)
-
 module _ (z : Sizes) (y : Inputs) (vs bs : List ℕ) (x : Inputs) (F : SettledInputs z y vs bs x) where
   B : Built z y
   B = node-table-built z y (F .built)
-
-  S : Same z y x
-  S = same-node-inputs z y x (F .same)
-
-  t : Tree
-  t = planTree (y .plan)
-
-  pp : PlanPasses (y .plan)
-  pp = plan-of z y B
-
-  rp : RulesPass (y .rules)
-  rp = rules-of z y B
-
-  lp : ListPasses (z .n) (z .k) vs bs
-  lp = list-passes (z .n) (z .k) vs bs (F .listed)
-
-  k-pos : 0 < z .k
-  k-pos = omega (arith, rp .labels-least, B .k-is)
-
-  s-pos : 0 < z .s
-  s-pos = omega (arith, rp .states-least, B .s-is)
-
-  plan-labels : (j : ℕ) → getD (labelsIn (y .plan)) j 0 < z .k
-  plan-labels j =
-      omega (arith, B .k-is, label-below (y .plan) (y .rules) (rp .labels-least) (labels-of z y B) j)
-
-  -- the rule for left p, label a, right q, where the table names m states and l labels
-  ruled : ℕ → ℕ → ℕ → ℕ → ℕ → List ℕ → ℕ
-  ruled p a q m l r = getD (take (m * l * m) (drop (20 + l) r)) ((p * l + a) * m + q) 0
-
-  inner-same : (p a q : ℕ)
-      → ruled p a q (stateCount (y .rules)) (labelCount (y .rules)) (y .rules) ≡ ruled p a q (z .s) (z .k) (x .rules)
-  inner-same p a q =
-      ap₂ (λ (m l : ℕ). ruled p a q m l (y .rules)) (B .s-is) (B .k-is) ∙ ap (ruled p a q (z .s) (z .k)) (S .rules)
-
-  state-table-small : (j : ℕ) → getD (usedStateTable z x) j 0 < z .s
-  unfolding statesBelow
-  state-table-small j = allBelow-all (z .s) (usedStateTable z x) (F .below) s-pos j
-
-  pub reads : Reads (viewBy z x) (givenOf z y x vs bs)
-  unfolding givenOf ruled
-  reads = record {
-    count = tree-size z y B;
-    labels = ap₂ (λ (n : ℕ) (p : List ℕ). take n (drop 12 p)) (sym (B .n-is)) (sym (S .plan)) ∙ sym (labels-planTree (y .plan) pp);
-    kinds = ap₂ (λ (n : ℕ) (p : List ℕ). take n (drop (12 + n) p)) (sym (B .n-is)) (sym (S .plan)) ∙ sym (kinds-planTree (y .plan) pp);
-    cells = subst (λ (l : List ℕ). NodeCells (planTree (y .plan)) l) (S .nodeTable) (cells z y B);
-    states = B .s-is;
-    leaf = λ a. ap₂ (λ (k : ℕ) (r : List ℕ). getD (take k (drop 20 r)) a 0) (B .k-is) (S .rules);
-    inner = λ p a q. inner-same p a q;
-    leaf-below = λ a. omega (arith, B .s-is, leaf-state-below (y .rules) rp a);
-    inner-below = λ p a q. omega (
-      arith,
-      B .s-is,
-      inner-state-below (y .rules) rp
-          ((p * labelCount (y .rules) + a) * stateCount (y .rules) + q),
-    );
-    label-below = λ v. rw (labels-planTree (y .plan) pp) (plan-labels v);
-    changed-below = λ v. changed-below (z .k) (labelsIn (y .plan)) vs bs k-pos plan-labels
-        (allBelow-all (z .k) bs (lp .labels-below) k-pos) v;
-    run = λ v. refl;
-    map = λ v q. refl;
-    run-below = λ v h. state-table-small (v * (z .s + 1));
-    map-below = λ v q h l. state-table-small (v * (z .s + 1) + (1 + q));
-  }
 
   module _ (ws : List ℕ) (ps : List Part) (H : Handled (z .s) (rootsIn y ws) ps) (l : length ps < length (rootsIn y ws)) where
     -- the roots are those of the parts before, the next one, and the rest
@@ -186,9 +60,9 @@ module _ (z : Sizes) (y : Inputs) (vs bs : List ℕ) (x : Inputs) (F : SettledIn
     unfolding partOf givenOf roots
     advance-fact =
         ap (λ (es : List ℕ). partOn (viewBy z x) es (statesOf ps) vs bs (nextRoot (rootsIn y ws) ps)) (sym (H .nodes))
-        ∙ part-theorem.part-built (viewBy z x) (givenOf z y x vs bs) reads (λ v. holds v ws) (rootsIn y ws) members ps (nextRoot (rootsIn y ws) ps)
-        (drop (suc (length ps)) (rootsIn y ws)) cut (states-small (z .s) ps s-pos (H .states)) vs bs
-        (ap (λ (ls : List ℕ). changed ls vs bs) (sym (labels-planTree (y .plan) pp)))
+        ∙ part-theorem.part-built (viewBy z x) (givenOf z y x vs bs) (reads z y vs bs x F) (λ v. holds v ws) (rootsIn y ws) members ps (nextRoot (rootsIn y ws) ps)
+        (drop (suc (length ps)) (rootsIn y ws)) cut (states-small (z .s) ps (states-some z y B) (H .states)) vs bs
+        (ap (λ (ls : List ℕ). changed ls vs bs) (sym (labels-planTree (y .plan) (plan-of z y B))))
       where
         members : Members (λ v. holds v ws) (planTree (y .plan)) (rootsIn y ws)
         members = list-members (λ v. holds v ws) (planTree (y .plan))

@@ -17,8 +17,7 @@ use Rattle.formats.specs.Checks.{check, firstNo}
 use Rattle.list_laws.proofs.BoolLaws.{and-both, true-false}
 use Rattle.list_laws.proofs.TestLaws.{sameList-refl}
 use Rattle.tables.specs.declared.answers.Reached.{Reached}
-use Rattle.questions.specs.ready.Parts.{Part, nodesOf, statesOf, partOf}
-use Rattle.questions.specs.Part.{partOn}
+use Rattle.questions.specs.ready.Parts.{Part, partOf}
 use Rattle.tables.proofs.ClimbBounds.{Bounded}
 use Rattle.questions.proofs.PartBounds.{part-bounded}
 use Rattle.questions.proofs.PartRange.{part-out-of-range}
@@ -26,13 +25,13 @@ use Rattle.formats.specs.Inputs.{Inputs, inputsOf, sameNodeInputs, usedNodeTabl
 use Rattle.model.specs.Calls.{Call, load, start, advance, cancel, read, refused, more, finished, Phase}
 use Rattle.model.specs.Refusals.{refusal}
 use Rattle.model.specs.Model.{Record, stageOf, acted, leftIn, rootsIn, started, stepped, advanceWith, partNext, marksBy}
-use Rattle.model.specs.Model.{viewBy, proceeds, unless, act}
-use Rattle.model.specs.PartInputs.{givenOf}
+use Rattle.model.specs.Model.{proceeds, unless, act}
+use Rattle.questions.specs.PartInputs.{viewBy, givenOf, SettledInputs}
 use Rattle.model.specs.LeftOpen.{Usable, ruleGives, AdvanceProperties}
-use Rattle.model.proofs.Facts.{SettledInputs, Handled}
+use Rattle.model.proofs.Facts.{Handled}
 use Rattle.model.proofs.LayersHold.{layers}
 use Rattle.model.proofs.ModelLaws.{some-root, start-list, start-built, advance-fits}
-use Rattle.model.proofs.ResultLaws.{length-states}
+use Rattle.questions.proofs.PartListLaws.{length-states}
 
 -- "a refusal alters nothing"
 pub refused-unchanged : (r : Record) (c : Call) (n : ℕ) → act r c .answer ≡ refused n → act r c .record′ ≡ r

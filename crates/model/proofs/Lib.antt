@@ -1,5 +1,4 @@
 pub mod ModelLaws
-pub mod ResultLaws
 pub mod Facts
 pub mod LayersHold
 pub mod SoundLaws

@@ -29,7 +29,7 @@ use Rattle.questions.proofs.ready.ListLaws.{list-last}
 use Rattle.model.specs.Calls.{load, start, advance, Phase, mayLoad, mayStart, isRunning}
 use Rattle.model.specs.Refusals.{Stage, stage, checksBefore18, refusal}
 use Rattle.model.specs.Model.{leftIn, rootsIn, marksBy}
-use Rattle.model.proofs.ResultLaws.{length-more}
+use Rattle.questions.proofs.PartListLaws.{length-more}
 
 -- "Load is allowed unless running"
 pub load-running : (z : Sizes) (l : Bool) (x : Inputs) → refusal (stage Phase.running z l) (load x) ≡ 1

@@ -24,8 +24,8 @@ use Rattle.tables.specs.node_tables.Cells.{depthCell}
 use Rattle.formats.specs.Inputs.{Inputs, usedNodeTable, nodeTableBuilt, statesBelow}
 use Rattle.model.specs.Calls.{Call, load, start, advance, cancel, read, Answer, refused, isRefused}
 use Rattle.model.specs.Refusals.{refusal}
-use Rattle.model.specs.Model.{Record, stageOf, rootsIn, advanceWith, viewBy}
-use Rattle.model.specs.PartInputs.{givenOf}
+use Rattle.model.specs.Model.{Record, stageOf, rootsIn, advanceWith}
+use Rattle.questions.specs.PartInputs.{viewBy, givenOf}
 
 pub record Usable (r : Record) (x : Inputs) (ps : List Part) : Type 0 where
   pub nodeTable : nodeTableBuilt (r .sizes) x ≡ true

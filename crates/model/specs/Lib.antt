@@ -2,6 +2,5 @@ pub mod Calls
 pub mod Refusals
 pub mod Sound
 pub mod Model
-pub mod PartInputs
 pub mod LeftOpen
 pub mod History

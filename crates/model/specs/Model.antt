@@ -22,9 +22,9 @@ use Rattle.formats.specs.Plan.{planTree, labelsIn}
 use Rattle.changes.specs.Differing.{differing}
 use Rattle.questions.specs.ready.Members.{roots}
 use Rattle.tables.specs.declared.answers.Reached.{Reached}
-use Rattle.tables.specs.Climbs.{View, viewOf}
 use Rattle.questions.specs.Part.{partOn}
-use Rattle.formats.specs.Inputs.{Inputs, Sizes, sizesIn, usedNodeTable, usedStateTable}
+use Rattle.questions.specs.PartInputs.{viewBy}
+use Rattle.formats.specs.Inputs.{Inputs, Sizes, sizesIn}
 use Rattle.model.specs.Calls.{Call, load, start, advance, cancel, read, Answer, refused, parts, more, finished}
 use Rattle.model.specs.Calls.{Outcome, outcome, Phase, isSome}
 use Rattle.model.specs.Refusals.{Stage, stage, refusal}
@@ -80,10 +80,6 @@ withLast o r = record {
   yes = r .yes;
   last = o;
 }
-
--- what the calls read of the inputs: by the record's N, S and K, excess aside
-abbrev pub viewBy : Sizes → Inputs → View
-viewBy z x = viewOf (z .n) (z .s) (z .k) (x .plan) (x .rules) (usedNodeTable z x) (usedStateTable z x)
 
 -- the accept marks by the record's S and K
 abbrev pub marksBy : Sizes → Inputs → List ℕ

@@ -27,6 +27,9 @@ pub mod RootsRange
 pub mod PartRange
 pub mod RuleRange
 pub mod Promised
+pub mod PartListLaws
+pub mod PartInputsLaws
+pub mod FreshLaws
 pub mod Theorems
 pub mod PassedSample
 pub mod ready

@@ -5,6 +5,7 @@ pub mod RootsAnswers
 pub mod Part
 pub mod PartAnswers
 pub mod Promises
+pub mod PartInputs
 pub mod OutOfRange
 pub mod inner
 pub mod changed_roots

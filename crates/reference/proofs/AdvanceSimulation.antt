@@ -11,41 +11,38 @@ use lib.Dec.{eqb}
 use lib.ListN.{length, getD, take}
 use lib.Seq.{take-suc}
 use borrow.Author.Tests.{eqb-true, eqb-false}
-use Rattle.trees.proofs.MoveLaws.{none-some}
+use Rattle.trees.proofs.MoveLaws.{none-some, none-some}
 use Rattle.list_laws.specs.Tests.{allBelow}
 use Rattle.formats.specs.Rules.{ruleAutomaton}
-use Rattle.formats.specs.Checks.{check, firstNo}
+use Rattle.formats.specs.Checks.{firstNo}
 use Rattle.list_laws.proofs.BoolLaws.{true-false, and-both, and-left, and-right}
-use Rattle.formats.proofs.CheckLaws.{firstNo-head, firstNo-tail}
 use Rattle.tables.specs.declared.answers.Reached.{Reached}
 use Rattle.questions.specs.ready.Parts.{Given, Part, part, partOf, partsFrom, statesOf, lastState}
-use Rattle.questions.proofs.ready.PartsRun.{nodes-more}
+use Rattle.questions.proofs.ready.PartsRun.{nodes-more, nodes-more}
 use Rattle.questions.specs.Part.{partOn}
 use Rattle.questions.specs.OutOfRange.{PartOutOfRange}
 use Rattle.questions.specs.Rising.{AllBelow}
 use Rattle.questions.proofs.PlaceLaws.{to-below, below-entry}
 use Rattle.questions.proofs.PartRange.{part-out-of-range}
 use Rattle.questions.proofs.PartBounds.{part-bounded}
-use Rattle.trees.proofs.MoveLaws.{none-some}
-use Rattle.questions.proofs.ready.PartsRun.{nodes-more}
 use Rattle.formats.specs.Inputs.{Inputs, Sizes, fits, sameNodeInputs, sameInputs, statesBelow}
 use Rattle.model.specs.Calls.{advance, more, finished, Outcome, outcome, outcomeAnswer, Phase, isRunning, isSome}
 use Rattle.model.specs.Refusals.{stage, refusal}
-use Rattle.model.specs.PartInputs.{givenOf}
+use Rattle.questions.specs.PartInputs.{givenOf, viewBy}
 use Rattle.reference.specs.Reference.{Settlement, clean, byRule, byProgram, Question, State, settled, phase}
 use Rattle.reference.specs.Reference.{inState, leftOf, rootsOf, partCount, givenBy, longer, advanced, goesOn, otherStates}
 use Rattle.reference.specs.Reference.{mayAdvanceWith, byAnswer, advancingByProgram, advancingByRule, advancing}
 use Rattle.reference.specs.Reference.{proceed, finishedWith, ruleAnswer}
-use Rattle.model.specs.Model.{Record, acted, viewBy, marksBy, stepped, advanceWith, partNext, proceeds}
+use Rattle.model.specs.Model.{Record, acted, marksBy, stepped, advanceWith, partNext, proceeds}
 use Rattle.model.proofs.ModelLaws.{advance-fits, left-below, marks-built}
 use Rattle.model.proofs.Facts.{reachedBy, nextRoot, Layers}
 use Rattle.questions.proofs.ready.PassedLaws.{passed-more}
-use Rattle.model.proofs.ResultLaws.{length-states, states-more, length-more, last-more, links-more, below-more}
-use Rattle.model.proofs.ResultLaws.{from-more}
+use Rattle.questions.proofs.PartListLaws.{length-states, states-more, length-more, last-more, links-more, below-more}
+use Rattle.questions.proofs.PartListLaws.{from-more}
 use Rattle.formats.proofs.InputsLaws.{Same, plan-of, node-table-built, same-node-inputs, same-inputs-nodes}
 use Rattle.formats.specs.Passing.{Built}
 use Rattle.formats.proofs.InputsLaws.{same-state-table}
-use Rattle.reference.proofs.FreshLaws.{part-state, given-same, sound-below}
+use Rattle.questions.proofs.FreshLaws.{part-state, given-same, sound-below}
 use Rattle.reference.proofs.CauseLaws.{advance-cause}
 use Rattle.reference.proofs.Relation.{Parted, Counted, Cleanly, SomeParted, SettledAs, Unended, Told, Rel}
 use Rattle.reference.proofs.Simulation.{Sim, referenceOf, Simulates, some-number, by-refusal, does, outcome-same, rule-fresh}
@@ -147,7 +144,7 @@ module _ (L : Layers) (r : Record) (z : Sizes) (l : Option Question) (q : Questi
   counted-next c l f m k = record {
     parted =
         parted-more r z q (q .results) (c .parted) l (reachedBy rule)
-        (part-state z q (node-table-built z (q .inputs) (c .parted .built)) x (q .results) (nextRoot (rootsOf q) (q .results)))
+        (part-state z (q .inputs) (q .nodes) (q .labels) (node-table-built z (q .inputs) (c .parted .built)) x (q .results) (nextRoot (rootsOf q) (q .results)))
         f m k (longer z q x);
     links = ap (λ (n : ℕ). n + rule .links) (c .links) ∙ sym (links-more (q .results) rule);
     passed = ap (λ (n : ℕ). n + rule .passed) (c .passed) ∙ sym (passed-more (q .results) rule);
@@ -324,7 +321,7 @@ module _ (L : Layers) (r : Record) (z : Sizes) (l : Option Question) (q : Questi
     stateTable = k .stateTable;
     replayed =
         ap (λ (G : Given). q .results ++ (partOf G (rootsOf q) (q .results) v ∷ []))
-        (given-same z q x (q .inputs) (sym (same-state-table z (q .inputs) x e)))
+        (given-same z (q .inputs) (q .nodes) (q .labels) x (q .inputs) (sym (same-state-table z (q .inputs) x e)))
         ∙ ap (λ (ps : List Part). ps ++ (partOf (givenBy z q (q .inputs)) (rootsOf q) ps v ∷ [])) (k .replayed)
         ∙ sym (from-more (givenBy z q (q .inputs)) (rootsOf q) [] (take (length (q .results)) (rootsOf q)) v)
         ∙ ap (partsFrom (givenBy z q (q .inputs)) (rootsOf q) [])
@@ -353,7 +350,7 @@ module _ (L : Layers) (r : Record) (z : Sizes) (l : Option Question) (q : Questi
       go true e =
           let low : statesBelow z x ≡ true =
           ap (allBelow (z .s)) (sym (same-state-table z (q .inputs) x e))
-          ∙ sound-below z q (node-table-built z (q .inputs) (s .0 .parted .built)) (s .1 .stateTable) in
+          ∙ sound-below z (q .inputs) (q .nodes) (q .labels) (node-table-built z (q .inputs) (s .0 .parted .built)) (s .1 .stateTable) in
           goes-on clean (s .0) (is-other z q x (same-inputs-nodes z (q .inputs) x e) low)
           (λ y d. (d, cleanly-next (s .0) (s .1) e left-over))
           (λ y o d m n. m ∙ rule-fresh y z (onward clean) d (cleanly-next (s .0) (s .1) e left-over) n)

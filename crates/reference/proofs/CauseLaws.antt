@@ -27,7 +27,7 @@ use Rattle.model.specs.Calls.{refused}
 use Rattle.reference.specs.Causes.{isChildless, isFlat, strays, isApart, nodeTableCause, nodeCause, rulesCause, cause}
 use Rattle.reference.specs.Causes.{advanceCause}
 use Rattle.reference.specs.Reference.{mayAdvanceWith}
-use Rattle.model.specs.Model.{viewBy}
+use Rattle.questions.specs.PartInputs.{viewBy}
 
 -- ---- the node table
 

@@ -1,4 +1,3 @@
-pub mod FreshLaws
 pub mod CauseLaws
 pub mod Relation
 pub mod Simulation

@@ -26,7 +26,7 @@ use Rattle.reference.specs.Demand3.{Conforms, after}
 use Rattle.model.specs.Model.{Record, stageOf as recordStage, Acted, acted, idle, act, unless, proceeds, Does}
 use Rattle.model.specs.Model.{lastAnswer}
 use Rattle.formats.proofs.InputsLaws.{node-table-built}
-use Rattle.reference.proofs.FreshLaws.{whole-state, whole-links, whole-over}
+use Rattle.questions.proofs.FreshLaws.{whole-state, whole-links, whole-over}
 use Rattle.reference.proofs.Relation.{Counted, Cleanly, Told, Lasts, Rel}
 
 abbrev pub Sim : Reply → Acted → Type 0
@@ -97,8 +97,8 @@ pub rule-fresh : (r : Record) (z : Sizes) (q : Question) → Counted r z q → C
 unfolding ruleAnswer freshAnswer partsOf
 rule-fresh r z q c k e =
     outcome-same _ _ _ _ _ _ _ _ _ _ s (ap (ruleAutomaton (q .inputs .rules) .accepting) s) refl
-    (ap allLinks whole ∙ whole-links z q (node-table-built z (q .inputs) (c .parted .built)) (q .inputs))
-    (ap allPassed whole ∙ whole-over z q (node-table-built z (q .inputs) (c .parted .built)) (q .inputs))
+    (ap allLinks whole ∙ whole-links z (q .inputs) (q .nodes) (q .labels) (node-table-built z (q .inputs) (c .parted .built)) (q .inputs))
+    (ap allPassed whole ∙ whole-over z (q .inputs) (q .nodes) (q .labels) (node-table-built z (q .inputs) (c .parted .built)) (q .inputs))
   where
     whole : q .results ≡ partsOf (givenBy z q (q .inputs)) (rootsOf q)
     whole =
@@ -107,7 +107,7 @@ rule-fresh r z q c k e =
         (take-all (length (q .results)) (rootsOf q) (omega (arith, e, c .count)))
 
     s : lastState (q .results) 0 ≡ state (ruleAutomaton (q .inputs .rules)) (changedTree q)
-    s = ap (λ (l : List Part). lastState l 0) whole ∙ whole-state z q (node-table-built z (q .inputs) (c .parted .built)) (k .stateTable)
+    s = ap (λ (l : List Part). lastState l 0) whole ∙ whole-state z (q .inputs) (q .nodes) (q .labels) (node-table-built z (q .inputs) (c .parted .built)) (k .stateTable)
 
 -- ---- Read: the last finished answer
 

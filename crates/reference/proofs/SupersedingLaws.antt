@@ -34,7 +34,8 @@ use Rattle.questions.specs.Part.{labelOn, partOn}
 use Rattle.model.specs.Calls.{Call, load, start, advance, cancel, read, Answer, parts, more, finished, outcomeAnswer, mayStart}
 use Rattle.model.specs.Calls.{Outcome, Phase}
 use Rattle.model.specs.Refusals.{Stage, refusal}
-use Rattle.model.specs.Model.{Record, stageOf, Acted, acted, idle, freshRecord, viewBy, leftIn, rootsIn, started, stepped, advanceWith}
+use Rattle.model.specs.Model.{Record, stageOf, Acted, acted, idle, freshRecord, leftIn, rootsIn, started, stepped, advanceWith}
+use Rattle.questions.specs.PartInputs.{viewBy}
 use Rattle.model.specs.Model.{withLast, loadedRecord, marksBy, partNext, proceeds, unless, act}
 use Rattle.model.proofs.ModelLaws.{start-list}
 use Rattle.reference.specs.Reference.{asked, partCount, freshAnswer}

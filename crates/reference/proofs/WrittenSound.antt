@@ -34,7 +34,7 @@ use Rattle.model.proofs.ModelLaws.{before-numbered}
 use Rattle.reference.specs.Reference.{Question, State, settled, phase, inState, step}
 use Rattle.reference.specs.Reference.{decided, proceed, partCount, asked, starting}
 use Rattle.formats.proofs.InputsLaws.{built-node-table}
-use Rattle.reference.proofs.FreshLaws.{rules-inside, length-stateTableOf}
+use Rattle.tables.proofs.TableLoop.{length-stateTableOf}
 use Rattle.reference.proofs.Simulation.{referenceOf}
 
 -- plan and rules as they were, and what Load leaves in the two buffers
@@ -66,8 +66,7 @@ module _ (x : Inputs) (passed : firstNo (ruleTableChecks (x .plan) (x .rules)) �
 
   state-table-length : length (builtStateTable (x .plan) (x .rules)) ≡ stateTableLength (nodeCount (x .plan)) (stateCount (x .rules))
   state-table-length =
-      length-stateTableOf (ruleAutomaton (x .rules))
-      (rules-inside (x .rules) (rule-table-passes (x .plan) (x .rules) passed .1)) (planTree (x .plan))
+      length-stateTableOf (ruleAutomaton (x .rules)) (planTree (x .plan))
       ∙ ap (λ (n : ℕ). stateTableLength n (stateCount (x .rules))) count
 
   node-table-written : usedNodeTable (sizesIn x) (loaded x) ≡ builtNodeTable (x .plan)

@@ -31,7 +31,7 @@ use Rattle.formats.specs.Inputs.{Inputs, Sizes, sizesIn, sameNodeInputs, sameIn
 use Rattle.model.specs.Calls.{Call, load, start, advance, cancel, read, Answer, refused, parts, more, finished}
 use Rattle.model.specs.Calls.{outcomeAnswer, onRefused, onAdvance, onOutcome, Phase, isSome}
 use Rattle.model.specs.Refusals.{Stage, stage, refusal}
-use Rattle.model.specs.PartInputs.{givenOf}
+use Rattle.questions.specs.PartInputs.{givenOf}
 use Rattle.reference.specs.Causes.{advanceCause}
 
 pub data Settlement : Type 0 where

@@ -32,7 +32,7 @@ use Rattle.formats.specs.Inputs.{sound, statesBelow}
 use Rattle.model.specs.Calls.{Call, load, start, advance, read, Answer, mayLoad, mayStart}
 use Rattle.model.specs.Calls.{isRunning}
 use Rattle.model.specs.Refusals.{refusal}
-use Rattle.model.specs.PartInputs.{givenOf}
+use Rattle.questions.specs.PartInputs.{givenOf}
 use Rattle.reference.specs.Reference.{phase, newReference, inState, longer, freshAnswer, ruleAnswer}
 use Rattle.reference.specs.Reference.{starting, advanced, goesOn, otherStates}
 use Rattle.reference.specs.Reference.{mayAdvanceWith, byAnswer, advancingByProgram, advancingByRule, advancing}

@@ -2,7 +2,7 @@
 --     label-hit, label-miss, label-end   the scan of the list, entry by entry: what its loop uses
 --     label-changed   labelFor is the label that `changed` holds
 --     label-last, label-unlisted   it is the last entry's for the node, or the node's own where none is for it
---     length-changed, label-below  the number of labels is unchanged, and all are in their range
+--     label-below   all are in their range
 use Prim.Native.Nat.{ℕ, suc, _+_, _≤_, _<_}
 use mathlib.Core.Path.{_≡_, refl, sym, ap, _∙_}
 use mathlib.Core.Bool.{Bool, true, false, cond, _||_}
@@ -78,12 +78,6 @@ label-last a [] [] v b us cs e h =
 label-last a [] (x ∷ bs) v b us cs e h = absurd (omega arith)
 label-last a (u ∷ vs) [] v b us cs e h = absurd (omega arith)
 label-last a (u ∷ vs) (x ∷ bs) v b us cs e h = label-last (cond (eqb u v) x a) vs bs v b us cs (omega arith) h
-
-pub length-changed : (ls vs bs : List ℕ) → length (changed ls vs bs) ≡ length ls
-unfolding changed
-length-changed ls [] bs = refl
-length-changed ls (u ∷ vs) [] = refl
-length-changed ls (u ∷ vs) (b ∷ bs) = length-changed (set ls u b) vs bs ∙ length-set ls u b
 
 pub label-below : (k a : ℕ) (vs bs : List ℕ) (v : ℕ) → a < k → ((j : ℕ) → getD bs j 0 < k) → labelFor a vs bs v < k
 unfolding labelFor

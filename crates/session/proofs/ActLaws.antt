@@ -26,12 +26,13 @@ use Rattle.formats.specs.Inputs.{Inputs, Sizes, sizesIn}
 use Rattle.model.specs.Calls as calls
 use Rattle.model.specs.Calls.{Call, load, start, advance, cancel, read, mayLoad, mayStart, isRunning}
 use Rattle.model.specs.Refusals.{refusal}
-use Rattle.model.specs.Model.{stageOf, Record, idle, freshRecord, loadedRecord, withLast, outcomeOf, lastOf, viewBy, marksBy, leftIn}
+use Rattle.model.specs.Model.{stageOf, Record, idle, freshRecord, loadedRecord, withLast, outcomeOf, lastOf, marksBy, leftIn}
+use Rattle.questions.specs.PartInputs.{viewBy}
 use Rattle.model.specs.Model.{rootsIn, started}
 use Rattle.model.specs.Model.{stepped, advanceWith, partNext, acted, proceeds, unless, act}
 use Rattle.model.proofs.ModelLaws.{some-root, left-below, left-most, start-list, start-built}
 use Rattle.model.proofs.LayersHold.{layers}
-use Rattle.model.proofs.ResultLaws.{below-more}
+use Rattle.questions.proofs.PartListLaws.{below-more}
 use Rattle.session.specs.declared.state.Phase.the-variants.{Empty}
 use Rattle.session.specs.declared.state.Session.{Session}
 use Rattle.session.specs.Records.{phaseTo, recordOf, sessionOf, padded, zeroFrom, risesTo}

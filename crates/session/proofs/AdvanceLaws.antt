@@ -30,7 +30,8 @@ use Rattle.formats.specs.Inputs.{Inputs, fits}
 use Rattle.model.specs.Calls as calls
 use Rattle.model.specs.Calls.{Call, advance, isRunning}
 use Rattle.model.specs.Refusals.{refusal}
-use Rattle.model.specs.Model.{Acted, acted, viewBy, lastThen, stepped, advanceWith, partNext, proceeds}
+use Rattle.model.specs.Model.{Acted, acted, lastThen, stepped, advanceWith, partNext, proceeds}
+use Rattle.questions.specs.PartInputs.{viewBy}
 use Rattle.session.specs.declared.state.Phase.{Phase}
 use Rattle.session.specs.declared.state.Phase.the-variants.{Running, Answered}
 use Rattle.session.specs.declared.state.Last.{Last}

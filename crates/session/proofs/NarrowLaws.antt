@@ -17,8 +17,9 @@ use Rattle.tables.specs.node_tables.Cells.{depthCell}
 use Rattle.tables.proofs.node_tables.CellLaws.{length-nodeTableOf}
 use Rattle.questions.proofs.PartBounds.{part-bounded}
 use Rattle.model.specs.Calls.{advance}
-use Rattle.model.specs.Model.{Record, viewBy}
-use Rattle.model.proofs.LayersHold.{tree-size, cells}
+use Rattle.model.specs.Model.{Record}
+use Rattle.questions.specs.PartInputs.{viewBy}
+use Rattle.questions.proofs.PartInputsLaws.{tree-size, cells}
 use Rattle.session.proofs.ActLaws.{Narrow}
 
 module _ (z : Sizes) (x : Inputs) (b : nodeTableBuilt z x ≡ true) where

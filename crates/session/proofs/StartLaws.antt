@@ -36,7 +36,8 @@ use Rattle.model.specs.Calls.{Call, start, mayStart}
 use Rattle.model.specs.Refusals.{refusal}
 use Rattle.model.specs.Model.{leftIn, rootsIn, started, proceeds}
 use Rattle.model.proofs.ModelLaws.{start-built, left-below, left-most}
-use Rattle.model.proofs.LayersHold.{tree-size, cells, layers}
+use Rattle.model.proofs.LayersHold.{layers}
+use Rattle.questions.proofs.PartInputsLaws.{tree-size, cells}
 use Rattle.session.specs.declared.state.Last.{Last}
 use Rattle.session.specs.declared.state.Session.{Session}
 use Rattle.session.specs.declared.answers.StartAnswer.the-variants.{Parts, Refused as NotStarted}

@@ -27,12 +27,11 @@ use Rattle.formats.specs.Checks.{firstNo, listChecks, nodeTableLength, stateTab
 use Rattle.formats.specs.Buffers.{buffersFit, headersFit}
 use Rattle.formats.specs.Inputs.{Inputs, inputsOf, Sizes, sizesIn, fits, usedStateTable, stateTableBuilt}
 use Rattle.formats.proofs.PlanLaws.{size-planTree, labels-planTree}
-use Rattle.formats.specs.Passing.{PlanPasses}
+use Rattle.formats.specs.Passing.{PlanPasses, Built}
 use Rattle.formats.proofs.RuleLaws.{RulesPass}
 use Rattle.formats.proofs.InputLaws.{rule-table-passes, ListPasses, list-passes}
 use Rattle.formats.proofs.BufferLaws.{are-limits, are-lengths}
 use Rattle.formats.proofs.InputsLaws.{built-node-table, node-inputs-same, rules-of}
-use Rattle.formats.specs.Passing.{Built}
 use Rattle.tables.proofs.node_tables.CellLaws.{length-nodeTableOf}
 use Rattle.tables.proofs.BuildLaws.{length-builtStates}
 use Rattle.changes.specs.Differing.{differing}
@@ -48,11 +47,9 @@ use Rattle.questions.specs.RootsAnswers.{rootsGiven}
 use Rattle.questions.proofs.FitLaws.{fit-all, given-yes}
 use Rattle.questions.proofs.Promised.{all-small}
 use Rattle.questions.proofs.RootsBuilt.{roots-built}
-use Rattle.model.specs.PartInputs.{givenOf}
-use Rattle.model.proofs.Facts.{SettledInputs}
-use Rattle.model.proofs.LayersHold.{cells, reads}
-use Rattle.reference.specs.Reference.{Question, asked, givenBy}
-use Rattle.reference.proofs.FreshLaws.{rules-inside, sound-below, given-run, whole-state, changes, left-same}
+use Rattle.questions.specs.PartInputs.{givenOf, SettledInputs}
+use Rattle.questions.proofs.PartInputsLaws.{cells, reads}
+use Rattle.questions.proofs.FreshLaws.{rules-inside, sound-below, given-run, whole-state, changes, left-same}
 use Rattle.colour_questions.specs.parts.Searches.{questionSearches}
 use Rattle.colour_tables.specs.ColourCells.{copyRow}
 use Rattle.colours.specs.StateSets.{Tried, tried, setStep, setCount, setCopies}
@@ -67,8 +64,7 @@ use Rattle.colour_questions.specs.parts.Part.{ColourView, handledFrom}
 use Rattle.colour_questions.specs.parts.OneSided.{oneSided}
 use Rattle.colour_questions.proofs.parts.TriesBuilt.{SidesBuilt}
 use Rattle.colour_questions.specs.rule.Question.{handled, handledOn, askedOn, leftIn, lentColours}
-use Rattle.colour_questions.specs.rule.Question.{ruleColoursFit, askedChecks}
-use Rattle.colour_questions.specs.rule.Question.{ruleAnswer, ruleAskAnswer}
+use Rattle.colour_questions.specs.rule.Question.{ruleColoursFit, askedChecks, ruleAnswer, ruleAskAnswer}
 use Rattle.colour_questions.specs.rule.Promise.{RuleColoursBuilt, rootsLeft, searchesLeft, RuleColourAnswer}
 use Rattle.colour_questions.proofs.rule.AskChecks.{few-states, then-list}
 use Rattle.colour_questions.proofs.rule.AskNumbers.{lent-is}
@@ -187,9 +183,6 @@ module _ (p r nodeTable stateTable numbers bytes vs bs : List ℕ)
     abbrev z : Sizes
     z = sizesIn (inputsOf p r nodeTable stateTable)
 
-    abbrev q : Question
-    q = asked (inputsOf p r nodeTable stateTable) vs bs
-
     built : Built (sizesIn (inputsOf p r nodeTable stateTable)) (inputsOf p r nodeTable stateTable)
     built = record {
       passed = D .tables .accepted;
@@ -210,14 +203,14 @@ module _ (p r nodeTable stateTable numbers bytes vs bs : List ℕ)
     settled = record {
       built = built-node-table z x built;
       same = node-inputs-same z x x (record { plan = refl; rules = refl; nodeTable = refl });
-      below = sound-below z q built table-built;
+      below = sound-below z x vs bs built table-built;
       room = lengths;
       listed = ok;
     }
 
     abbrev G : Given
-    G = givenBy (sizesIn (inputsOf p r nodeTable stateTable)) (asked (inputsOf p r nodeTable stateTable) vs bs)
-        (inputsOf p r nodeTable stateTable)
+    G = givenOf (sizesIn (inputsOf p r nodeTable stateTable)) (inputsOf p r nodeTable stateTable)
+        (inputsOf p r nodeTable stateTable) vs bs
 
     abbrev L : ColourView
     L = lentColours p r nodeTable stateTable numbers bytes
@@ -287,17 +280,17 @@ module _ (p r nodeTable stateTable numbers bytes vs bs : List ℕ)
     unfolding givenOf roots partsOf allBelow lastState questionSearches
     whole =
         let w : ℕ → Bool = λ v. holds v (differing (labelsIn p) vs bs) in
-        let N = handled-built L G (changedTree p vs bs) (reads z x vs bs x settled) (given-run z q built table-built)
+        let N = handled-built L G (changedTree p vs bs) (reads z x vs bs x settled) (given-run z x vs bs built table-built)
         (rules-inside r (rules-of z x built)) four sides w (rootsLeft p vs bs) (list-members w t) vs bs
         (ap (λ (ls : List ℕ). changed ls vs bs) (sym (labels-planTree p plan-passes))) (omega (
           arith,
           rules-pass
               .states-least,
         ))
-        (changes z q built w (left-same z q built))
+        (changes z x vs bs built w (left-same z x vs bs built))
         (rootsLeft p vs bs) [] (tried 0 []) refl refl refl (λ y k. absurd (List·Memᴰ·not-nil k)) in
         record {
-          found = N .found ∙ ap (λ (y : ℕ). some (tried y (searchesLeft p r vs bs))) (whole-state z q built table-built);
+          found = N .found ∙ ap (λ (y : ℕ). some (tried y (searchesLeft p r vs bs))) (whole-state z x vs bs built table-built);
           falls = N .falls;
           few = N .few;
         }

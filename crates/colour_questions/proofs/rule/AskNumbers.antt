@@ -14,7 +14,7 @@ use Rattle.formats.specs.Rules.{labelCount}
 use Rattle.formats.specs.Checks.{Check, check, firstNo}
 use Rattle.formats.proofs.CheckLaws.{firstNo-append-zero, firstNo-append-no, Numbered}
 use Rattle.formats.proofs.InputLaws.{list-numbered}
-use Rattle.model.specs.Calls.{isSome}
+use Rattle.branches.specs.Question.{isSome}
 use Rattle.colour_questions.specs.declared.rule.answers.RuleDescending.{RuleDescending}
 use Rattle.colour_questions.specs.declared.rule.answers.RuleDescending.the-variants.{Refused}
 use Rattle.colour_questions.specs.rule.Question.{Handled, askedOn, askedChecks, ruleAskChecks, ruleAskNumber, ruleAnswer}

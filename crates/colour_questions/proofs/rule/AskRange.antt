@@ -25,7 +25,7 @@ use Rattle.questions.specs.OutOfRange.{links}
 use Rattle.questions.proofs.FitLaws.{fit-all, given-yes, given-are}
 use Rattle.questions.proofs.PlaceLaws.{to-below, below-entry}
 use Rattle.questions.proofs.RootsRange.{roots-out-of-range}
-use Rattle.model.specs.Calls.{isSome}
+use Rattle.branches.specs.Question.{isSome}
 use Rattle.colours.specs.StateSets.{Tried, tried}
 use Rattle.colour_questions.specs.parts.Part.{ColourView, handledFrom}
 use Rattle.colour_tables.specs.rule.Build.{setStatesFit}

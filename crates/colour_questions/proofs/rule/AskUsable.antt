@@ -14,62 +14,51 @@ use Rattle.list_laws.specs.Tests.{allBelow, holds}
 use Rattle.list_laws.proofs.BoolLaws.{and-both}
 use Rattle.list_laws.proofs.RowLaws.{stride}
 use Rattle.list_laws.proofs.SliceLaws.{length-part}
-use Rattle.list_laws.proofs.TestLaws.{sameList-is}
-use Rattle.trees.specs.Tree.{Tree, size, height}
+use Rattle.trees.specs.Tree.{Tree, size}
 use Rattle.trees.specs.Automaton.{Automaton}
 use Rattle.trees.specs.Changes.{changed}
-use Rattle.trees.specs.Climb.{andThen, digits}
+use Rattle.trees.specs.Climb.{andThen}
 use Rattle.formats.specs.Limits.{changeLimit}
 use Rattle.formats.specs.Plan.{nodeCount, planTree, labelsIn}
 use Rattle.formats.specs.Rules.{stateCount, labelCount, ruleLength, ruleAutomaton}
 use Rattle.formats.specs.Checks.{firstNo, listChecks, nodeTableLength, stateTableLength}
 use Rattle.formats.specs.Buffers.{buffersFit, headersFit}
-use Rattle.formats.specs.Inputs.{Inputs, inputsOf, Sizes, sizesIn, fits, usedStateTable, stateTableBuilt}
+use Rattle.formats.specs.Inputs.{Inputs, inputsOf, Sizes, sizesIn, fits}
 use Rattle.formats.proofs.PlanLaws.{size-planTree, labels-planTree}
-use Rattle.formats.specs.Passing.{PlanPasses}
+use Rattle.formats.specs.Passing.{PlanPasses, Built}
 use Rattle.formats.proofs.RuleLaws.{RulesPass}
 use Rattle.formats.proofs.InputLaws.{rule-table-passes, ListPasses, list-passes}
 use Rattle.formats.proofs.BufferLaws.{are-limits, are-lengths}
 use Rattle.formats.proofs.InputsLaws.{built-node-table, node-inputs-same, rules-of}
-use Rattle.formats.specs.Passing.{Built}
 use Rattle.tables.proofs.node_tables.CellLaws.{length-nodeTableOf}
-use Rattle.tables.proofs.BuildLaws.{length-builtStates}
 use Rattle.changes.specs.Differing.{differing}
 use Rattle.changes.specs.inner.LastDiffering.{lastDiffering}
 use Rattle.changes.proofs.LastDifferingLaws.{last-same, last-most, last-below}
 use Rattle.questions.specs.ready.Members.{roots}
-use Rattle.questions.specs.ready.Parts.{Given, partsOf, lastState}
+use Rattle.questions.specs.ready.Parts.{Given, lastState, lastState}
 use Rattle.questions.proofs.ready.ListLaws.{list-members}
 use Rattle.questions.proofs.ready.MonotoneLaws.{roots-same}
-use Rattle.runs.specs.FreshRun.{changedTree, rootState}
 use Rattle.questions.specs.Roots.{rootsOn}
 use Rattle.questions.specs.RootsAnswers.{rootsGiven}
 use Rattle.questions.proofs.FitLaws.{fit-all, given-yes}
 use Rattle.questions.proofs.Promised.{all-small}
 use Rattle.questions.proofs.RootsBuilt.{roots-built}
-use Rattle.model.specs.PartInputs.{givenOf}
-use Rattle.model.proofs.Facts.{SettledInputs}
-use Rattle.model.proofs.LayersHold.{cells, reads}
-use Rattle.reference.specs.Reference.{Question, asked, givenBy}
-use Rattle.reference.proofs.FreshLaws.{rules-inside}
+use Rattle.questions.specs.PartInputs.{givenOf, SettledInputs}
+use Rattle.questions.proofs.PartInputsLaws.{cells, reads}
+use Rattle.questions.proofs.FreshLaws.{rules-inside}
 use Rattle.colour_tables.specs.ColourCells.{copyRow}
 use Rattle.colours.specs.StateSets.{Tried, tried, setStep, setCount, setCopies}
 use Rattle.colours.proofs.CopyLaws.{copy-colouring}
-use Rattle.colours.specs.Descents.{AllLe}
 use Rattle.colours.proofs.SetLaws.{setStep-below}
-use Rattle.colours.proofs.Theorems.{links-limit}
 use Rattle.colour_tables.specs.rule.Build.{setNumbersLength, setBytesLength, setColoursFit, builtSetNumbers, builtSetBytes}
 use Rattle.colour_tables.proofs.rule.BuildLaws.{length-setNumbers, length-setBytes}
 use Rattle.colour_tables.proofs.rule.ColouredLaws.{coloured-cells, coloured-copies}
 use Rattle.colour_questions.specs.parts.Part.{ColourView, handledFrom}
-use Rattle.colour_questions.specs.parts.OneSided.{oneSided}
 use Rattle.colour_questions.proofs.parts.TriesBuilt.{SidesBuilt}
 use Rattle.colour_questions.specs.rule.Question.{handled, handledOn, askedOn, leftIn, lentColours}
-use Rattle.colour_questions.specs.rule.Question.{ruleColoursFit, askedChecks}
-use Rattle.colour_questions.specs.rule.Question.{ruleAnswer, ruleAskAnswer}
+use Rattle.colour_questions.specs.rule.Question.{ruleColoursFit, askedChecks, ruleAnswer, ruleAskAnswer}
 use Rattle.colour_questions.specs.rule.Promise.{RuleColoursUsable, rootsLeft}
 use Rattle.colour_questions.specs.rule.Question.{answeredWith}
-use Rattle.questions.specs.ready.Parts.{lastState}
 use Rattle.colour_questions.specs.parts.Trials.{triedParts, trialsFrom}
 use Rattle.colour_questions.proofs.rule.AskChecks.{few-states, then-list}
 use Rattle.colour_questions.proofs.rule.AskNumbers.{lent-is}
@@ -188,9 +177,6 @@ module _ (p r nodeTable stateTable numbers bytes vs bs : List ℕ)
     abbrev z : Sizes
     z = sizesIn (inputsOf p r nodeTable stateTable)
 
-    abbrev q : Question
-    q = asked (inputsOf p r nodeTable stateTable) vs bs
-
     built : Built (sizesIn (inputsOf p r nodeTable stateTable)) (inputsOf p r nodeTable stateTable)
     built = record {
       passed = D .accepted;
@@ -212,8 +198,8 @@ module _ (p r nodeTable stateTable numbers bytes vs bs : List ℕ)
     }
 
     abbrev G : Given
-    G = givenBy (sizesIn (inputsOf p r nodeTable stateTable)) (asked (inputsOf p r nodeTable stateTable) vs bs)
-        (inputsOf p r nodeTable stateTable)
+    G = givenOf (sizesIn (inputsOf p r nodeTable stateTable)) (inputsOf p r nodeTable stateTable)
+        (inputsOf p r nodeTable stateTable) vs bs
 
     abbrev L : ColourView
     L = lentColours p r nodeTable stateTable numbers bytes

@@ -14,7 +14,7 @@ use Rattle.trees.specs.Numbering.{sub}
 use Rattle.questions.specs.ready.Members.{Rising}
 use Rattle.questions.specs.ready.Parts.{stateOf}
 use Rattle.questions.proofs.ready.ChangedRun.{Changes}
-use Rattle.questions.proofs.ready.PartsRun.{rising-first, rising-not, part-right}
+use Rattle.questions.proofs.ready.PartsRun.{rising-first, rising-not, part-right, Members, RunGiven, nodes-more}
 use Rattle.colour_questions.specs.parts.Searches.{partSearches, gathered}
 use mathlib.Core.Option.{Option, some}
 use native.Mathlib.Omega.{arith}
@@ -25,12 +25,11 @@ use Rattle.trees.specs.Changes.{changed}
 use Rattle.trees.specs.Climb.{andThen, digits}
 use Rattle.questions.specs.ready.StaysInside.{StaysInside}
 use Rattle.questions.specs.ready.Parts.{Given, Part, nodesOf, statesOf, partState, partOf, partsFrom, lastState, sumOf}
-use Rattle.questions.proofs.ready.PartsRun.{Members, RunGiven, nodes-more}
 use Rattle.colours.specs.marks.Marks.{bit}
 use Rattle.questions.specs.Promises.{Reads}
-use Rattle.model.proofs.ResultLaws.{states-more, last-more, below-more}
-use Rattle.model.proofs.LayersHold.{states-small}
-use Rattle.reference.proofs.FreshLaws.{part-below}
+use Rattle.questions.proofs.PartListLaws.{states-more, last-more, below-more}
+use Rattle.questions.proofs.PartInputsLaws.{states-small}
+use Rattle.questions.proofs.FreshLaws.{part-below}
 use Rattle.colours.specs.StateSets.{Tried, tried}
 use Rattle.colours.proofs.DescentLaws.{all-append}
 use Rattle.colours.specs.Descents.{AllLe}

@@ -8,7 +8,7 @@ use mathlib.Core.Option.{Option, some}
 use native.Mathlib.Omega.{arith}
 use lib.ListN.{length, getD, length-append}
 use Rattle.list_laws.specs.Tests.{allBelow}
-use Rattle.trees.specs.Tree.{Tree, height, labelsOf, kindAt}
+use Rattle.trees.specs.Tree.{height, labelsOf, kindAt}
 use Rattle.trees.specs.Changes.{changed}
 use Rattle.trees.specs.Climb.{andThen, digits}
 use Rattle.questions.specs.ready.StaysInside.{StaysInside}
@@ -20,8 +20,8 @@ use borrow.Author.Tests.{eq-eqb, ne-eqb}
 use Rattle.questions.proofs.ready.PartsRun.{Members, nodes-more}
 use Rattle.colours.specs.marks.Marks.{bit}
 use Rattle.questions.specs.Promises.{Reads}
-use Rattle.model.proofs.ResultLaws.{states-more, last-more, below-more}
-use Rattle.model.proofs.LayersHold.{states-small}
+use Rattle.questions.proofs.PartListLaws.{states-more, last-more, below-more}
+use Rattle.questions.proofs.PartInputsLaws.{states-small}
 use Rattle.colours.specs.StateSets.{Tried, tried}
 use Rattle.colours.proofs.DescentLaws.{all-append}
 use Rattle.colours.specs.Descents.{AllLe}

@@ -25,7 +25,7 @@ use Rattle.tables.proofs.LookupLaws.{below-state, below-none}
 use Rattle.questions.specs.Part.{Found, found, lastFound, foundBelow, labelOn}
 use Rattle.questions.specs.OutOfRange.{children, run, leaf, rule, changed}
 use Rattle.questions.proofs.RootsRange.{fork-test}
-use Rattle.model.proofs.ResultLaws.{below-more}
+use Rattle.questions.proofs.PartListLaws.{below-more}
 use Rattle.colours.specs.Descents.{ColourTable, Descent, descend}
 use Rattle.colours.specs.StateSets.{member, Tried, tried, targetColour, setAt, afterTrial, tryOne, tryFrom}
 use Rattle.colour_questions.specs.parts.Part.{ColourView, sidesIn, untried, colourFrom, sideTried, joinTried, forkTried}

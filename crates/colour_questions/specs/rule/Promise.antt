@@ -23,7 +23,7 @@ use Rattle.colours.specs.Descents.{AllLe}
 use Rattle.changes.specs.Differing.{differing}
 use Rattle.questions.specs.ready.Members.{roots}
 use Rattle.questions.specs.ready.Parts.{Given, lastState}
-use Rattle.model.specs.PartInputs.{givenOf}
+use Rattle.questions.specs.PartInputs.{givenOf}
 use Rattle.colour_questions.specs.parts.Trials.{triedParts, trialsFrom}
 use Rattle.colours.specs.Descents.{sum}
 use Rattle.colour_tables.specs.rule.Build.{RuleColoured}

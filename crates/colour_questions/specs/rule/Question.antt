@@ -23,7 +23,7 @@ use Rattle.formats.specs.Rules.{stateCount, labelCount, ruleAutomaton}
 use Rattle.formats.specs.Checks.{Check, check, firstNo, listChecks, stateTableLength}
 use Rattle.formats.specs.Buffers.{headedBuffersFit, ruleTables}
 use Rattle.changes.specs.inner.LastDiffering.{givenDiffering}
-use Rattle.model.specs.Calls.{isSome}
+use Rattle.branches.specs.Question.{isSome}
 use Rattle.questions.specs.RootsAnswers.{rootsGiven}
 use Rattle.questions.specs.PartAnswers.{viewIn}
 use Rattle.colours.specs.Descents.{sum}

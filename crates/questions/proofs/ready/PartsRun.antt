@@ -1,4 +1,5 @@
 -- Worked out one by one on the run's own bytes, the parts give the changed run.
+--     nodes-more, state-kept, state-new   one more part
 --     RunGiven           what is given is the run's: its states, its maps, and the changed tree's labels
 --     climb-walk         a climb carries a state as the walk does
 --     part-right         the part of a member has the changed run's state at its root, if those before it have
@@ -56,7 +57,7 @@ pub nodes-more : (ps : List Part) (p : Part) → nodesOf (ps ++ (p ∷ [])) ≡ 
 nodes-more [] p = refl
 nodes-more (q ∷ ps) p = ap (λ (l : List ℕ). q .node ∷ l) (nodes-more ps p)
 
-state-kept : (ps : List Part) (p : Part) (x : ℕ) → List·Memᴰ x (nodesOf ps) → stateOf (ps ++ (p ∷ [])) x ≡ stateOf ps x
+pub state-kept : (ps : List Part) (p : Part) (x : ℕ) → List·Memᴰ x (nodesOf ps) → stateOf (ps ++ (p ∷ [])) x ≡ stateOf ps x
 unfolding stateOf
 state-kept [] p x m = absurd (List·Memᴰ·not-nil m)
 state-kept (q ∷ ps) p x m = elim (ℕ-discrete (q .node) x) [
@@ -64,7 +65,7 @@ state-kept (q ∷ ps) p x m = elim (ℕ-discrete (q .node) x) [
   | no n ↦ rw (ne-eqb (q .node) x n) (elim (List·Memᴰ·cases-cons m) [ inl e ↦ absurd (n (sym e)) | inr k ↦ state-kept ps p x k ])
 ]
 
-state-new : (ps : List Part) (p : Part) (x : ℕ) → p .node ≡ x → (List·Memᴰ x (nodesOf ps) → ⊥) → stateOf (ps ++ (p ∷ [])) x ≡ p .state
+pub state-new : (ps : List Part) (p : Part) (x : ℕ) → p .node ≡ x → (List·Memᴰ x (nodesOf ps) → ⊥) → stateOf (ps ++ (p ∷ [])) x ≡ p .state
 unfolding stateOf
 state-new [] p x e n = rw (eq-eqb (p .node) x e)
 state-new (q ∷ ps) p x e n =

@@ -8,7 +8,8 @@ use lib.ListN.{length, getD}
 use Rattle.trees.specs.Changes.{changed}
 use Rattle.runs.specs.inner.Listed.{marked, Marks}
 use Rattle.runs.specs.inner.Pass.{reads, readOn, Stacked}
-use Rattle.runs.proofs.ListedLaws.{label-below, label-changed, length-changed}
+use Rattle.trees.proofs.RunLaws.{changed-length}
+use Rattle.runs.proofs.ListedLaws.{label-below, label-changed}
 use Rattle.runs.proofs.PassLoop.{pass-start, pass-end, no-trees}
 use Rattle.runs.proofs.pass.pass_in.Statement.{statement}
 use Rattle.runs.proofs.pass.pass_in.Tie as tie
@@ -34,7 +35,7 @@ labelled l = changed (entered l .args .labels .now) (entered l .args .nodes .now
 labelled-length : (l : tie.At-loop Inv-loop μ-loop) → length (labelled l) ≡ length (entered l .args .kinds .now)
 labelled-length l =
     let s = entered l in
-    length-changed (s .args .labels .now) (s .args .nodes .now) (s .args .news .now) ∙ s .pre .0 .labelled
+    changed-length (s .args .labels .now) (s .args .nodes .now) (s .args .news .now) ∙ s .pre .0 .labelled
 
 labels-in : (l : tie.At-loop Inv-loop μ-loop) (v : ℕ) → v < length (entered l .args .labels .now)
     → getD (labelled l) v 0 < entered l .args .k

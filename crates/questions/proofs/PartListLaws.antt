@@ -1,6 +1,5 @@
 -- Laws of lists of parts.
 --     length-nodes, length-states, nodes-more, states-more, last-more, links-more    one more part
---     last-states           the last state of a record is that of its last part
 --     below-more            one more state
 --     from-more             the parts of one more root
 --     from-nodes, from-links    parts worked out one after the other: their roots, and their links in all
@@ -14,10 +13,9 @@ use lib.ListN.{length}
 use borrow.Author.Tests.{lt-ltb}
 use Rattle.list_laws.specs.Tests.{allBelow}
 use Rattle.list_laws.proofs.BoolLaws.{and-both, and-left, and-right}
 use Rattle.questions.specs.ready.Parts.{Given, Part, partOf, partLinks, sumOf, partsFrom, lastState, allLinks}
 use Rattle.questions.proofs.ready.PartsRun.{nodes-more}
-use Rattle.model.specs.Model.{lastOf}
 use Rattle.questions.specs.ready.Parts.{nodesOf, statesOf}
 
 pub length-nodes : (ps : List Part) → length (nodesOf ps) ≡ length ps
 length-nodes [] = refl
@@ -44,11 +42,6 @@ pub links-more : (ps : List Part) (p : Part) → allLinks (ps ++ (p ∷ [])) ≡
 unfolding allLinks
 links-more [] p = omega arith
 links-more (x ∷ ps) p = omega (arith, links-more ps p)
-
-pub last-states : (ps : List Part) (q : ℕ) → lastOf (statesOf ps) q ≡ lastState ps q
-unfolding lastOf lastState
-last-states [] q = refl
-last-states (p ∷ ps) q = last-states ps (p .state)
 
 pub below-more : (n : ℕ) (l : List ℕ) (x : ℕ) → allBelow n l ≡ true → x < n → allBelow n (l ++ (x ∷ [])) ≡ true
 unfolding allBelow

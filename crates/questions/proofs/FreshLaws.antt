@@ -11,27 +11,25 @@
 use Prim.Native.Nat.{ℕ, zero, suc, _+_, _-_, _*_, _<_}
 use mathlib.Core.Path.{_≡_, refl, sym, ap, _∙_, subst}
 use mathlib.Core.Bool.{Bool, true, false, cond}
-use mathlib.Core.List.{List, [], _∷_, _++_, List·Memᴰ, List·Memᴰ·head, List·Memᴰ·tail, List·Memᴰ·cases-cons}
-use mathlib.Core.List.{List·Memᴰ·not-nil, Memᴰ·append-right}
-use mathlib.Core.Logic.{inl, inr}
+use mathlib.Core.List.{List, [], _∷_, _++_, List·Memᴰ, List·Memᴰ·head}
+use mathlib.Core.List.{Memᴰ·append-right}
 use native.Mathlib.Omega.{arith}
 use lib.Dec.{eqb}
 use lib.ListN.{length, getD, take}
 use lib.Seq.{take-all}
-use borrow.Author.Tests.{eq-eqb, ne-eqb}
 use Rattle.trees.specs.Tree.{Tree, size, kindsOf, kindAt, labelsOf, labelAt}
 use Rattle.trees.specs.Automaton.{Automaton, state}
 use Rattle.trees.specs.Numbering.{sub}
 use Rattle.trees.specs.Changes.{changed}
+use Rattle.trees.specs.Postorder.{treeOf}
 use Rattle.list_laws.specs.Rows.{rows}
 use Rattle.trees.specs.Tables.{stateMap, stateRow, stateTableOf}
 use Rattle.trees.proofs.NodeLaws.{size-pos, sub-root}
 use Rattle.trees.proofs.PostorderLaws.{treeOf-kinds, treeOf-labels}
-use Rattle.list_laws.proofs.RowLaws.{Cell, cell-split, getD-tabulate, length-rows, getD-rows}
-use Rattle.trees.proofs.TableRows.{length-stateRow}
-use Rattle.trees.proofs.TableRows.{stateTableOf-state, stateTableOf-map}
+use Rattle.list_laws.proofs.RowLaws.{Cell, cell-split, getD-tabulate, getD-rows}
+use Rattle.trees.proofs.TableRows.{length-stateRow, stateTableOf-state, stateTableOf-map}
 use Rattle.trees.proofs.MapLaws.{stateMap-below}
-use Rattle.trees.proofs.RunLaws.{state-below}
+use Rattle.trees.proofs.RunLaws.{state-below, changed-length}
 use Rattle.list_laws.specs.Tests.{allBelow, holds}
 use Rattle.formats.specs.Plan.{planTree, labelsIn, kindsIn}
 use Rattle.formats.specs.Rules.{ruleAutomaton}
@@ -39,24 +37,23 @@ use Rattle.list_laws.proofs.BoolLaws.{true-false}
 use Rattle.list_laws.proofs.TestLaws.{at-allBelow, sameList-true}
 use Rattle.formats.proofs.PlanLaws.{labels-as-kinds, kinds-planTree, labels-planTree}
 use Rattle.formats.proofs.RuleLaws.{RulesPass, leaf-state-below, inner-state-below}
-use Rattle.runs.proofs.ListedLaws.{length-changed}
+use Rattle.changes.specs.Differing.{differing}
 use Rattle.changes.proofs.DifferingLaws.{unlisted-same, differing-listed}
 use Rattle.questions.specs.ready.Ready.{leftChild, rightChild}
 use Rattle.questions.specs.ready.Members.{readyList, roots, Rising}
 use Rattle.questions.specs.ready.Parts.{Given, Part, anyBelow, stateOf, climbedState, innerState, partState, partOf, partsFrom}
 use Rattle.questions.specs.ready.Parts.{partsOf, lastState, allLinks, questionLinks, allPassed, questionPassed}
 use Rattle.questions.proofs.ready.ChangedRun.{Changes}
 use Rattle.questions.specs.ready.StaysInside.{StaysInside}
-use Rattle.questions.proofs.ready.PartsRun.{RunGiven, parts-right}
+use Rattle.questions.proofs.ready.PartsRun.{RunGiven, parts-right, rising-not, state-new}
 use Rattle.questions.proofs.ready.SameTrees.{same-count}
-use Rattle.questions.proofs.ready.BelowLaws.{rising-above}
 use Rattle.questions.proofs.ready.ListLaws.{list-members, list-last, list-rising}
 use Rattle.formats.specs.Inputs.{Inputs, Sizes, usedStateTable, stateTableBuilt, statesBelow}
-use Rattle.model.specs.PartInputs.{givenOf}
-use Rattle.reference.specs.Reference.{Question, leftOf, rootsOf, changedTree, givenBy}
+use Rattle.questions.specs.PartInputs.{givenOf}
 use Rattle.questions.specs.ready.Parts.{nodesOf}
 use Rattle.questions.proofs.ready.PassedLaws.{whole-passed}
-use Rattle.model.proofs.ResultLaws.{last-more, from-more, from-nodes, from-links}
+use Rattle.questions.proofs.PartListLaws.{last-more, from-more, from-nodes, from-links}
+use Rattle.tables.proofs.TableLoop.{length-stateTableOf}
 use Rattle.formats.proofs.InputsLaws.{plan-of, rules-of}
 use Rattle.formats.specs.Passing.{Built}
 
@@ -69,14 +66,10 @@ module _ (A : Automaton) (S : StaysInside A) (t : Tree) where
       rw (getD-tabulate (A .states) (stateMap A t v) q (omega arith))
       (stateMap-below A t (S .next) v q (omega arith))
 
-  pub length-stateTableOf : length (stateTableOf A t) ≡ size t * (A .states + 1)
-  unfolding stateTableOf
-  length-stateTableOf = length-rows (size t) (A .states + 1) (stateRow A t) (λ v h. length-stateRow A t v)
-
   pub table-below : allBelow (A .states) (stateTableOf A t) ≡ true
   unfolding stateTableOf
   table-below = at-allBelow (A .states) (rows (size t) (stateRow A t))
-      (λ j h. each j (omega (arith, length-stateTableOf)))
+      (λ j h. each j (omega (arith, length-stateTableOf A t)))
     where
       each : (j : ℕ) → j < size t * (A .states + 1) → getD (rows (size t) (stateRow A t)) j 0 < A .states
       each j h =
@@ -123,107 +116,97 @@ module _ (G : Given) (ms : List ℕ) (ps : List Part) (v : ℕ) (S : StaysInside
       (inner-below (leftChild (G .tree) v) (rightChild v))
 
 -- the rule reads the state table in use alone
-pub given-same : (z : Sizes) (q : Question) (x y : Inputs) → usedStateTable z x ≡ usedStateTable z y → givenBy z q x ≡ givenBy z q y
+pub given-same : (z : Sizes) (y : Inputs) (vs bs : List ℕ) (x x′ : Inputs) → usedStateTable z x ≡ usedStateTable z x′
+    → givenOf z y x vs bs ≡ givenOf z y x′ vs bs
 unfolding givenOf
-given-same z q x y e = rw e
-
--- ---- the last of a rising list
-
-rising-end : (l : List ℕ) (v lo : ℕ) → Rising lo (l ++ (v ∷ [])) → List·Memᴰ v l → ⊥
-rising-end [] v lo r m = List·Memᴰ·not-nil m
-rising-end (d ∷ l) v lo r m = elim (List·Memᴰ·cases-cons m) [
-  | inl e ↦ omega (arith, rising-above (l ++ (v ∷ [])) (suc d) v (r .1) (Memᴰ·append-right l (List·Memᴰ·head refl)))
-  | inr k ↦ rising-end l v (suc d) (r .1) k
-]
-
-state-last : (ps : List Part) (p : Part) → (List·Memᴰ (p .node) (nodesOf ps) → ⊥)
-    → stateOf (ps ++ (p ∷ [])) (p .node) ≡ p .state
-unfolding stateOf
-state-last [] p n = rw (eq-eqb (p .node) (p .node) refl)
-state-last (x ∷ ps) p n =
-    rw (ne-eqb (x .node) (p .node) (λ e. n (List·Memᴰ·head (sym e)))) (state-last ps p (λ m. n (List·Memᴰ·tail m)))
+given-same z y vs bs x x′ e = rw e
 
 -- ---- a clean question
 
-module _ (z : Sizes) (q : Question) (B : Built z (q .inputs)) where
+module _ (z : Sizes) (y : Inputs) (vs bs : List ℕ) (B : Built z y) where
   abbrev A : Automaton
-  A = ruleAutomaton (q .inputs .rules)
+  A = ruleAutomaton (y .rules)
 
   abbrev t : Tree
-  t = planTree (q .inputs .plan)
+  t = planTree (y .plan)
 
+  -- Start's plan with the listed labels changed
   abbrev u : Tree
-  u = changedTree q
+  u = treeOf (kindsIn (y .plan)) (changed (labelsIn (y .plan)) vs bs)
+
+  -- the nodes that are left in W
+  abbrev left : List ℕ
+  left = differing (labelsIn (y .plan)) vs bs
 
   inside-rules : StaysInside A
-  inside-rules = rules-inside (q .inputs .rules) (rules-of z (q .inputs) B)
+  inside-rules = rules-inside (y .rules) (rules-of z y B)
 
-  pub part-state : (x : Inputs) (ps : List Part) (v : ℕ) → partOf (givenBy z q x) (rootsOf q) ps v .state < z .s
+  pub part-state : (x : Inputs) (ps : List Part) (v : ℕ) → partOf (givenOf z y x vs bs) (roots t left) ps v .state < z .s
   unfolding givenOf
   part-state x ps v =
-      subst (λ (s : ℕ). partOf (givenBy z q x) (rootsOf q) ps v .state < s) (B .s-is)
-      (part-below (givenBy z q x) (rootsOf q) ps v inside-rules)
+      subst (λ (s : ℕ). partOf (givenOf z y x vs bs) (roots t left) ps v .state < s) (B .s-is)
+      (part-below (givenOf z y x vs bs) (roots t left) ps v inside-rules)
 
   -- ---- the changed tree
 
-  labels-length : length (changed (labelsIn (q .inputs .plan)) (q .nodes) (q .labels)) ≡ length (kindsIn (q .inputs .plan))
+  labels-length : length (changed (labelsIn (y .plan)) vs bs) ≡ length (kindsIn (y .plan))
   labels-length =
-      length-changed (labelsIn (q .inputs .plan)) (q .nodes) (q .labels)
-      ∙ labels-as-kinds (q .inputs .plan) (plan-of z (q .inputs) B)
+      changed-length (labelsIn (y .plan)) vs bs
+      ∙ labels-as-kinds (y .plan) (plan-of z y B)
 
-  u-kinds : kindsOf u ≡ kindsIn (q .inputs .plan)
-  u-kinds = treeOf-kinds (kindsIn (q .inputs .plan)) _ labels-length (plan-of z (q .inputs) B .postorder)
+  u-kinds : kindsOf u ≡ kindsIn (y .plan)
+  u-kinds = treeOf-kinds (kindsIn (y .plan)) _ labels-length (plan-of z y B .postorder)
 
-  u-labels : labelsOf u ≡ changed (labelsIn (q .inputs .plan)) (q .nodes) (q .labels)
-  u-labels = treeOf-labels (kindsIn (q .inputs .plan)) _ labels-length (plan-of z (q .inputs) B .postorder)
+  u-labels : labelsOf u ≡ changed (labelsIn (y .plan)) vs bs
+  u-labels = treeOf-labels (kindsIn (y .plan)) _ labels-length (plan-of z y B .postorder)
 
   -- a node that is not left in W keeps its label
-  pub left-same : (v : ℕ) → holds v (leftOf q) ≡ false → labelAt t v ≡ labelAt u v
+  pub left-same : (v : ℕ) → holds v left ≡ false → labelAt t v ≡ labelAt u v
   left-same v e =
-      ap (λ (l : List ℕ). getD l v 0) (labels-planTree (q .inputs .plan) (plan-of z (q .inputs) B))
-      ∙ sym (ap (λ (l : List ℕ). getD l v 0) u-labels ∙ unlisted-same (labelsIn (q .inputs .plan)) (q .nodes) (q .labels) v e)
+      ap (λ (l : List ℕ). getD l v 0) (labels-planTree (y .plan) (plan-of z y B))
+      ∙ sym (ap (λ (l : List ℕ). getD l v 0) u-labels ∙ unlisted-same (labelsIn (y .plan)) vs bs v e)
 
   -- so does one that is not listed
-  listed-same : (v : ℕ) → holds v (q .nodes) ≡ false → labelAt t v ≡ labelAt u v
-  listed-same v e = left-same v (go (holds v (leftOf q)) refl)
+  listed-same : (v : ℕ) → holds v vs ≡ false → labelAt t v ≡ labelAt u v
+  listed-same v e = left-same v (go (holds v left) refl)
     where
-      go : (b : Bool) → holds v (leftOf q) ≡ b → b ≡ false
-      go true h = absurd (true-false (sym (differing-listed (labelsIn (q .inputs .plan)) (q .nodes) (q .labels) v h) ∙ e))
+      go : (b : Bool) → holds v left ≡ b → b ≡ false
+      go true h = absurd (true-false (sym (differing-listed (labelsIn (y .plan)) vs bs v h) ∙ e))
       go false h = refl
 
   pub changes : (w : ℕ → Bool) → ((v : ℕ) → w v ≡ false → labelAt t v ≡ labelAt u v) → Changes w t u
-  changes w same = record { kinds = kinds-planTree (q .inputs .plan) (plan-of z (q .inputs) B) ∙ sym u-kinds; labels = same }
+  changes w same = record { kinds = kinds-planTree (y .plan) (plan-of z y B) ∙ sym u-kinds; labels = same }
 
   -- ---- on the state table that Load writes
 
-  module _ (e : stateTableBuilt z (q .inputs) ≡ true) where
-    stateTable : usedStateTable z (q .inputs) ≡ stateTableOf A t
+  module _ (e : stateTableBuilt z y ≡ true) where
+    stateTable : usedStateTable z y ≡ stateTableOf A t
     unfolding stateTableBuilt
-    stateTable = sameList-true (usedStateTable z (q .inputs)) (stateTableOf A t) e
+    stateTable = sameList-true (usedStateTable z y) (stateTableOf A t) e
 
-    table : take (size t * (A .states + 1)) (usedStateTable z (q .inputs)) ≡ stateTableOf A t
+    table : take (size t * (A .states + 1)) (usedStateTable z y) ≡ stateTableOf A t
     table = rw stateTable (take-all (size t * (A .states + 1)) (stateTableOf A t)
-        (omega (arith, length-stateTableOf A inside-rules t)))
+        (omega (arith, length-stateTableOf A t)))
 
-    pub sound-below : statesBelow z (q .inputs) ≡ true
+    pub sound-below : statesBelow z y ≡ true
     unfolding statesBelow
     sound-below = rw (stateTable, ← B .s-is) (table-below A inside-rules t)
 
-    pub given-run : RunGiven (givenBy z q (q .inputs)) u
+    pub given-run : RunGiven (givenOf z y y vs bs) u
     unfolding givenOf
     given-run = record {
       labels = sym u-labels;
       states = λ v h.
-          ap (λ (s : ℕ). getD (usedStateTable z (q .inputs)) (v * (s + 1)) 0) (sym (B .s-is))
-          ∙ stateTableOf-state A t (usedStateTable z (q .inputs)) table v h;
+          ap (λ (s : ℕ). getD (usedStateTable z y) (v * (s + 1)) 0) (sym (B .s-is))
+          ∙ stateTableOf-state A t (usedStateTable z y) table v h;
       maps = λ v x h l.
           let i : v * (z .s + 1) + (1 + x) ≡ v * (A .states + 1) + 1 + x =
           omega (arith, ap (λ (s : ℕ). v * (s + 1)) (B .s-is)) in
-          ap (λ (j : ℕ). getD (usedStateTable z (q .inputs)) j 0) i ∙ stateTableOf-map A t (usedStateTable z (q .inputs)) table v h x l;
+          ap (λ (j : ℕ). getD (usedStateTable z y) j 0) i ∙ stateTableOf-map A t (usedStateTable z y) table v h x l;
     }
 
     abbrev G : Given
-    G = givenBy z q (q .inputs)
+    G = givenOf z y y vs bs
 
     -- over the ready set of any W that lacks no node whose label is another
     module _ (w : ℕ → Bool) (same : (v : ℕ) → w v ≡ false → labelAt t v ≡ labelAt u v) where
@@ -244,29 +227,29 @@ module _ (z : Sizes) (q : Question) (B : Built z (q .inputs)) where
           let p : Part = partOf G ms ps v in
           let split : partsOf G ms ≡ ps ++ (p ∷ []) = ap (partsFrom G ms []) (L .1) ∙ from-more G ms [] (L .0) v in
           let away : List·Memᴰ v (nodesOf ps) → ⊥ = λ m.
-          rising-end (L .0) v 0 (subst (λ (k : List ℕ). Rising 0 k) (L .1) (list-rising w t))
+          rising-not (L .0) v [] 0 (subst (λ (k : List ℕ). Rising 0 k) (L .1) (list-rising w t))
           (subst (λ (k : List ℕ). List·Memᴰ v k) (from-nodes G ms [] (L .0)) m) in
           let member : List·Memᴰ v ms = subst (λ (k : List ℕ). List·Memᴰ v k) (sym (L .1))
           (Memᴰ·append-right (L .0) (List·Memᴰ·head refl)) in
           let end : v + 1 ≡ size u = top ∙ same-count t u (changes w same .kinds) in
           ap (λ (k : List Part). lastState k 0) split
           ∙ last-more ps p 0
-          ∙ sym (ap (λ (k : List Part). stateOf k v) split ∙ state-last ps p away)
+          ∙ sym (ap (λ (k : List Part). stateOf k v) split ∙ state-new ps p v refl away)
           ∙ all-right v member
           ∙ ap (state A) (sub-root u v end)
 
-    pub whole-state : lastState (partsOf G (rootsOf q)) 0 ≡ state A u
+    pub whole-state : lastState (partsOf G (roots t left)) 0 ≡ state A u
     unfolding roots
-    whole-state = whole (λ v. holds v (leftOf q)) left-same
+    whole-state = whole (λ v. holds v left) left-same
 
-    pub whole-before : lastState (partsOf G (roots t (q .nodes))) 0 ≡ state A u
+    pub whole-before : lastState (partsOf G (roots t vs)) 0 ≡ state A u
     unfolding roots
-    whole-before = whole (λ v. holds v (q .nodes)) listed-same
+    whole-before = whole (λ v. holds v vs) listed-same
 
-  pub whole-links : (x : Inputs) → allLinks (partsOf (givenBy z q x) (rootsOf q)) ≡ questionLinks t (rootsOf q)
+  pub whole-links : (x : Inputs) → allLinks (partsOf (givenOf z y x vs bs) (roots t left)) ≡ questionLinks t (roots t left)
   unfolding partsOf questionLinks givenOf allLinks
-  whole-links x = from-links (givenBy z q x) (rootsOf q) [] (rootsOf q) ∙ (omega arith)
+  whole-links x = from-links (givenOf z y x vs bs) (roots t left) [] (roots t left) ∙ (omega arith)
 
-  pub whole-over : (x : Inputs) → allPassed (partsOf (givenBy z q x) (rootsOf q)) ≡ questionPassed t (rootsOf q)
+  pub whole-over : (x : Inputs) → allPassed (partsOf (givenOf z y x vs bs) (roots t left)) ≡ questionPassed t (roots t left)
   unfolding givenOf
-  whole-over x = whole-passed (givenBy z q x) (rootsOf q)
+  whole-over x = whole-passed (givenOf z y x vs bs) (roots t left)
