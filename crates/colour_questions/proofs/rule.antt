@@ -6,7 +6,6 @@ pub mod AskNumbers
 pub mod TriesRange
 pub mod RangeLaws
 pub mod AskRange
-pub mod PartsBuilt
 pub mod AskBuilt
 pub mod AskTheorem
 pub mod Theorems

@@ -8,21 +8,20 @@ use Prim.Native.Nat.{ℕ, _+_, _*_, _≤_, _<_}
 use mathlib.Core.Path.{_≡_, refl, sym, ap, _∙_, subst}
 use mathlib.Core.Bool.{true}
 use mathlib.Core.List.{List}
-use mathlib.Core.Option.{Option, none, some}
+use mathlib.Core.Option.{none, some, Option·some-injective}
 use native.Mathlib.Omega.{arith}
 use native.Mathlib.Decide.{ℕ-discrete}
-use lib.ListN.{length, getD, take, drop, length-take}
+use lib.ListN.{length, getD, take, drop}
 use lib.Seq.{ext-getD, getD-take, getD-drop}
-use borrow.Author.Tests.{le-leb, lt-ltb, eq-eqb, ne-eqb}
+use borrow.Author.Tests.{le-leb, eq-eqb, ne-eqb}
 use Rattle.list_laws.specs.Tests.{holds}
 use Rattle.list_laws.proofs.RowLaws.{stride}
 use Rattle.list_laws.proofs.SliceLaws.{length-part}
 use Rattle.trees.specs.Tree.{Tree, size}
 use Rattle.trees.specs.Automaton.{WordAutomaton, wordRun}
-use Rattle.trees.specs.Numbering.{parent, word, wordBelow, AtOrBelow}
+use Rattle.trees.specs.Numbering.{parent, AtOrBelow}
 use Rattle.trees.specs.Tables.{nodeTableOf}
 use Rattle.trees.proofs.NodeLaws.{up}
-use Rattle.trees.proofs.BranchMapLaws.{wordRun-below}
 use Rattle.formats.specs.Plan.{nodeCount, planTree}
 use Rattle.formats.specs.Rules.{stateCount, labelCount, branchAutomaton}
 use Rattle.formats.specs.Buffers.{headersFit}
@@ -39,29 +38,23 @@ use Rattle.branches.specs.declared.answers.Reading.the-variants.{WithUpper, Bel
 use Rattle.branches.specs.Promise.{wordOf}
 use Rattle.colours.specs.Colouring.{placeOf, Colouring}
 use Rattle.colours.specs.Copies.{copy, copyAbove}
-use Rattle.colours.specs.Descents.{Place, Descent, drops, links, descend}
+use Rattle.colours.specs.Descents.{Place, Descent, drops, links, descend, colourTableOf}
 use Rattle.colours.specs.Words.{wordStep, aboveOf, colourAbove, colourHere, withUpper, belowUpper}
 use Rattle.colours.proofs.ColouringLaws.{place-lt, has-colour}
 use Rattle.colours.proofs.CopyLaws.{top-colour, copyAbove-root, copyAbove-down, copy-colouring, copyAbove-colouring}
 use Rattle.colours.proofs.WordLaws.{upper-drops, below-drops}
 use Rattle.colours.specs.Answers.{WordAnswer}
 use Rattle.colours.proofs.Theorems.{word-upper, word-below}
-use Rattle.colour_tables.specs.ColourCells.{copyRow, cellTable}
-use Rattle.colour_tables.specs.AsBuilt.{ColourCells}
+use Rattle.colour_tables.specs.ColourCells.{copyRow}
 use Rattle.colour_tables.specs.Layout.{colourNumbersOf, copiesOf, colourNumbersLength, copiesLength}
-use Rattle.colour_tables.proofs.LayoutLaws.{length-numbers, length-copies, numbers-cells, copies-cells}
+use Rattle.colour_tables.proofs.LayoutLaws.{length-numbers, length-copies, copies-cells}
 use Rattle.colour_tables.proofs.RangeLaws.{descend-low}
-use Rattle.colour_questions.proofs.path_drops.Theorems.{upper-built, below-built}
-use Rattle.colour_questions.specs.branch.Question.{colourBuffersFit, startOn, colourIn, coloured, colouredOn}
-use Rattle.colour_questions.specs.branch.Promise.{BranchColoursBuilt, BranchColoursUsable, wordDescent, wordDrops}
-use Rattle.colour_questions.proofs.branch.FitLaws.{are-fits}
-use Rattle.colour_questions.proofs.branch.AnswerLaws.{on-some, below-yes, fromEnd, fromColour, fromPlace}
-
--- a buffer that begins with a list of n elements has n
-begins : (n : ℕ) (b l : List ℕ) → take n b ≡ l → length l ≡ n → n ≤ length b
-begins n b l e z =
-    let q : length (take n b) ≡ n = ap length e ∙ z in
-    omega (arith, length-take n b)
+use Rattle.colour_questions.specs.branch.Question.{colourBuffersFit, colourIn, colourAskAnswer}
+use Rattle.colour_questions.specs.declared.branch.answers.Descending.the-variants.{Answered}
+use Rattle.colour_questions.specs.branch.Promise.{BranchColoursBuilt, BranchColoursUsable, wordStart, wordDescent, wordDrops}
+use Rattle.colour_questions.proofs.branch.FitLaws.{begins, are-fits}
+use Rattle.colour_questions.proofs.branch.AnswerLaws.{below-yes}
+use Rattle.colour_questions.proofs.branch.OnCopies.{on-copies}
 
 module _ (p r nodeTable numbers bytes : List ℕ) (D : BranchColoursBuilt p r nodeTable numbers bytes) where
   abbrev t : Tree
@@ -138,12 +131,6 @@ module _ (p r nodeTable numbers bytes : List ℕ) (D : BranchColoursBuilt p r no
   pub built-links : NodeCells (planTree p) nodeTable
   built-links = link-cells t (nodeCount p) nodeTable (sym size-is) (D .links)
 
-  cells : ColourCells (stateCount r) (wordStep (branchAutomaton r) (planTree p)) (planTree p) numbers
-  cells =
-      numbers-cells s step t numbers
-      (subst (λ (n : ℕ). take (s * (n * 4)) numbers ≡ colourNumbersOf s step t) (sym size-is)
-      (D .coloured .numbers-are))
-
   states : (v c : ℕ) → v < size (planTree p) → c < stateCount r
       → getD bytes (v * stateCount r + c) 0 ≡ getD
       (copy (stateCount r) (wordStep (branchAutomaton r) (planTree p)) (planTree p) v) c 0
@@ -202,20 +189,6 @@ module _ (p r nodeTable numbers bytes : List ℕ) (D : BranchColoursBuilt p r no
     lower-in : l < size (planTree p)
     lower-in = omega (arith, size-is)
 
-    start-upper : startOn WithUpper (nodeCount p) nodeTable u ≡ some (aboveOf (planTree p) u)
-    unfolding startOn aboveOf
-    start-upper = elim (ℕ-discrete (u + 1) (nodeCount p)) [
-      | yes e ↦ rw (eq-eqb (u + 1) (nodeCount p) e, eq-eqb (u + 1) (size t) (e ∙ sym size-is))
-      | no e ↦ (let i : u + 1 < size t = omega (arith, size-is) in
-          let q : parent t u < nodeCount p = omega (arith, up t u i .below, size-is) in
-          rw (
-            ne-eqb (u + 1) (nodeCount p) e,
-            built-links .parents u upper-in,
-            lt-ltb (parent t u) (nodeCount p) q,
-            ne-eqb (u + 1) (size t) (λ z. omega arith),
-          ))
-    ]
-
     colour-above : colourIn (stateCount r) bytes (aboveOf (planTree p) u)
         ≡ some (colourAbove (branchAutomaton r) (planTree p) u)
     unfolding aboveOf colourAbove
@@ -235,35 +208,29 @@ module _ (p r nodeTable numbers bytes : List ℕ) (D : BranchColoursBuilt p r no
     unfolding colourHere
     here-low = zero-below (copy s step t u) (copy-colouring s step t keeps u)
 
-    start-here : startOn BelowUpper (nodeCount p) nodeTable u ≡ some (some u)
-    unfolding startOn
-    start-here = refl
-
     colour-here : colourIn (stateCount r) bytes (some u) ≡ some (colourHere (branchAutomaton r) (planTree p) u)
     unfolding colourHere
     colour-here = colour-node u upper-in (copy s step t u) refl (copy-colouring s step t keeps u)
 
-    -- the answer of a descent that gives what the word automaton does
-    answered : (reading : Reading) (z : Place) (c : ℕ) (w : List ℕ) (o : Option Descent) → c < stateCount r
-        → startOn reading (nodeCount p) nodeTable u ≡ some z → colourIn (stateCount r) bytes z ≡ some c
-        → descend (cellTable (size (planTree p)) numbers) c z l c ≡ o
-        → (W : WordAnswer (branchAutomaton r) (planTree p) l w o)
-        → colouredOn reading p r nodeTable numbers bytes u l
-        ≡ some (coloured (branchAutomaton r) (wordRun (branchAutomaton r) 0 w) (drops (W .way)) (links (W .way)))
-    unfolding colouredOn
-    answered reading z c w o h a b e W =
-        let n : ℕ = nodeCount p in
-        let d : Descent = W .way in
-        let f : descend (cellTable n numbers) c z l c ≡ some d =
-        ap (λ (m : ℕ). descend (cellTable m numbers) c z l c) (sym size-is) ∙ e ∙ W .found in
-        let low : d .colour < s = omega (arith, descend-low (cellTable n numbers) l c z c d f) in
-        let q : getD bytes (l * s + d .colour) 0 ≡ wordRun B 0 w = states l (d .colour) lower-in low ∙ W .state in
-        let k : wordRun B 0 w < s = wordRun-below B below-s 0 w some-state in
-        on-some (startOn reading n nodeTable u) z (fromPlace n s B numbers bytes l) a
-        ∙ on-some (colourIn s bytes z) c (fromColour n s B numbers bytes l z) b
-        ∙ on-some (descend (cellTable n numbers) c z l c) d (fromEnd s B bytes l) f
-        ∙ on-some (below s (getD bytes (l * s + d .colour) 0)) (wordRun B 0 w)
-        (λ x. some (coloured B x (drops d) (links d))) (ap (below s) q ∙ below-yes s (wordRun B 0 w) k)
+    -- the colour of state 0 in the copy where the word begins
+    abbrev first : Reading → ℕ
+    first WithUpper = colourAbove (branchAutomaton r) (planTree p) u
+    first BelowUpper = colourHere (branchAutomaton r) (planTree p) u
+
+    first-is : (reading : Reading) → colourIn (stateCount r) bytes (wordStart reading (planTree p) u) ≡ some (first reading)
+    first-is WithUpper = colour-above
+    first-is BelowUpper = colour-here
+
+    first-low : (reading : Reading) → first reading < stateCount r
+    first-low WithUpper = above-low
+    first-low BelowUpper = here-low
+
+    way-from : (reading : Reading) → wordDescent reading (branchAutomaton r) (planTree p) u l
+        ≡ descend (colourTableOf (stateCount r) (wordStep (branchAutomaton r) (planTree p)) (planTree p)) (first reading)
+        (wordStart reading (planTree p) u) l (first reading)
+    unfolding withUpper belowUpper
+    way-from WithUpper = refl
+    way-from BelowUpper = refl
 
     module _ (A : AtOrBelow (planTree p) u l) where
       pub descent-built : (reading : Reading)
@@ -272,18 +239,29 @@ module _ (p r nodeTable numbers bytes : List ℕ) (D : BranchColoursBuilt p r no
       descent-built WithUpper = word-upper B t below-s u l lower-in A
       descent-built BelowUpper = word-below B t below-s u l lower-in A
 
+      -- what is given on the copies, with the copies' own states
       pub on-built : (reading : Reading)
-          → colouredOn reading p r nodeTable numbers bytes u l
-          ≡ some (coloured (branchAutomaton r) (wordRun (branchAutomaton r) 0 (wordOf reading (planTree p) u l))
-          (drops (descent-built reading .way)) (links (descent-built reading .way)))
-      on-built WithUpper =
-          answered WithUpper (aboveOf t u) (colourAbove B t u) (word t u l)
-          (withUpper B t u l) above-low start-upper colour-above
-          (upper-built B t numbers cells u l upper-in lower-in above-low) (descent-built WithUpper)
-      on-built BelowUpper =
-          answered BelowUpper (some u) (colourHere B t u) (wordBelow t u l)
-          (belowUpper B t u l) here-low start-here colour-here
-          (below-built B t numbers cells u l upper-in lower-in here-low) (descent-built BelowUpper)
+          → colourAskAnswer reading p r nodeTable numbers bytes u l
+          ≡ Answered (wordRun (branchAutomaton r) 0 (wordOf reading (planTree p) u l))
+          (branchAutomaton r .accepting (wordRun (branchAutomaton r) 0 (wordOf reading (planTree p) u l)))
+          (drops (descent-built reading .way)) (links (descent-built reading .way))
+      on-built reading =
+          let C = on-copies reading p r nodeTable numbers bytes built-usable fits-built u l hu hl A in
+          let W = descent-built reading in
+          let table = colourTableOf s step t in
+          let z : Place = wordStart reading t u in
+          let own : descend table (first reading) z l (first reading) ≡ some (W .way) = sym (way-from reading) ∙ W .found in
+          let c : C .colour ≡ first reading = Option·some-injective _ _ (sym (C .starts) ∙ first-is reading) in
+          let d : C .way ≡ W .way =
+          Option·some-injective _ _ (sym (C .found) ∙ ap (λ (i : ℕ). descend table i z l i) c ∙ own) in
+          let low : W .way .colour < s =
+          omega (arith, first-low reading, descend-low table l (first reading) z (first reading) (W .way) own) in
+          let q : getD bytes (l * s + W .way .colour) 0 ≡ wordRun B 0 (wordOf reading t u l) =
+          states l (W .way .colour) lower-in low ∙ W .state in
+          C .is
+          ∙ ap (λ (x : Descent). Answered (getD bytes (l * s + x .colour) 0)
+          (B .accepting (getD bytes (l * s + x .colour) 0)) (drops x) (links x)) d
+          ∙ ap (λ (x : ℕ). Answered x (B .accepting x) (drops (W .way)) (links (W .way))) q
 
       pub drops-built : (reading : Reading) (d : Descent)
           → wordDescent reading (branchAutomaton r) (planTree p) u l ≡ some d

@@ -9,19 +9,19 @@ use mathlib.Core.List.{List}
 use native.Mathlib.Omega.{arith}
 use Rattle.trees.specs.Tree.{Tree, size}
 use Rattle.trees.specs.Numbering.{sub, AtOrBelow}
-use Rattle.trees.proofs.IntervalLaws.{ancestor-interval, interval-ancestor}
+use Rattle.trees.proofs.IntervalLaws.{interval-ancestor}
 use Rattle.formats.specs.Plan.{nodeCount, planTree}
 use Rattle.formats.proofs.InputLaws.{branch-table-passes}
 use Rattle.tables.specs.node_tables.Cells.{isInSubtreeOn}
 use Rattle.branches.specs.declared.answers.Reading.{Reading}
-use Rattle.branches.proofs.FinishLaws.{in-subtree-is, is-in-subtree}
+use Rattle.branches.proofs.FinishLaws.{in-subtree-is}
 use Rattle.colours.proofs.DescentLaws.{sum-le}
 use Rattle.colours.proofs.Theorems.{links-limit}
 use Rattle.colour_questions.specs.declared.branch.answers.Descending.{Descending}
 use Rattle.colour_questions.specs.declared.branch.answers.Descending.the-variants.{Refused}
-use Rattle.colour_questions.specs.branch.Question.{colourAnswer, colourNumber, colourAskAnswer, descendingNumber}
+use Rattle.colour_questions.specs.branch.Question.{colourNumber, colourAskAnswer, descendingNumber}
 use Rattle.colour_questions.specs.branch.Promise.{BranchColoursBuilt, DescentAnswer, stateKept, ColourAskDone}
-use Rattle.colour_questions.proofs.branch.AskChecks.{ask-number, ask-16, ask-on, ask-not-below}
+use Rattle.colour_questions.proofs.branch.AskChecks.{ask-number, ask-16, ask-not-below}
 use Rattle.colour_questions.proofs.branch.AskRange.{ask-out-of-range, ask-kept}
 use Rattle.colour_questions.proofs.branch.AskUsable.{usable-in-range}
 use Rattle.colour_questions.proofs.branch.AskBuilt.{size-is, fits-built, built-links, descent-built, on-built}
@@ -44,17 +44,12 @@ module _ (reading : Reading) (p r nodeTable numbers bytes : List ℕ) (D : Branc
 
   ask-built : AtOrBelow (planTree p) u l → DescentAnswer reading p r u l
       (colourAskAnswer reading p r nodeTable numbers bytes u l)
-  unfolding colourAnswer
   ask-built A =
-      let w = ancestor-interval t u l (A .0) lower-in (A .1) (A .2) in
-      let i : isInSubtreeOn nodeTable u l ≡ true =
-      is-in-subtree nodeTable u l (w .0) (rw (built-links p r nodeTable numbers bytes D .sizes u upper-in) (w .1)) in
       let W = descent-built p r nodeTable numbers bytes D u l hu hl A reading in
       record {
         way = W .way;
         found = W .found;
-        is = ask-on reading p r nodeTable numbers bytes u l (fits-built p r nodeTable numbers bytes D) hu hl i
-            ∙ ap (colourAnswer 0) (on-built p r nodeTable numbers bytes D u l hu hl A reading);
+        is = on-built p r nodeTable numbers bytes D u l hu hl A reading;
         drops-are = drops-built p r nodeTable numbers bytes D u l hu hl A reading (W .way) (W .found);
         falls = W .falls;
         few = sum-le 45 (W .way .searches) (links-limit t (W .way .searches) small (W .few));

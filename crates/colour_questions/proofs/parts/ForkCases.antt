@@ -25,8 +25,7 @@ use Rattle.colour_questions.specs.declared.target_states.trials.Trial.{T
 use Rattle.colour_questions.specs.target_states.Trials.{trialOf}
 use Rattle.colour_questions.proofs.target_states.TrialLoop.{sum-append}
 use Rattle.colour_questions.specs.parts.Part.{ColourView, Sides, sidesOf, sideTried, joinTried, forkTried}
-use Rattle.colour_questions.specs.parts.Part.{leafTried}
-use Rattle.colour_questions.specs.parts.Part.{partTried}
+use Rattle.colour_questions.specs.parts.Part.{leafTried, partTried}
 use Rattle.colour_questions.specs.parts.inner.Args.{FewTried, SideDone, PartDone}
 use Rattle.colour_questions.proofs.parts.TrialLaws.{trial-none, Is, trial-some, none-few}
 

@@ -13,8 +13,8 @@ use lib.ListN.{length, getD, length-append}
 use borrow.Author.Tests.{lt-ltb, le-leb, eq-eqb, ne-eqb}
 use Rattle.trees.specs.Tree.{Tree, size, height, kindAt, labelsOf}
 use Rattle.trees.specs.Changes.{changed}
-use Rattle.trees.specs.Climb.{andThen, digits}
-use Rattle.trees.specs.Numbering.{sub}
+use Rattle.trees.specs.Climb.{andThen, digits, walk}
+use Rattle.trees.specs.Numbering.{sub, depth}
 use Rattle.trees.proofs.NodeLaws.{Inner, inner}
 use Rattle.tables.specs.node_tables.Cells.{sizeCell}
 use Rattle.tables.specs.Climbs.{View, below, runOn, ruleOn}
@@ -42,15 +42,16 @@ use Rattle.colour_questions.specs.parts.Trials.{triedState, innerByTrial
 use Rattle.colours.proofs.Theorems.{set-targets}
 use Rattle.colours.specs.Answers.{SetAnswer}
 use Rattle.trees.proofs.IntervalLaws.{interval-ancestor, above-at}
-use Rattle.trees.specs.Climb.{walk}
 use Rattle.trees.specs.Tables.{stepUp}
-use Rattle.trees.specs.Numbering.{depth}
 use Rattle.colour_questions.specs.parts.Part.{ColourView, sidesIn, untried, colourFrom, sideTried, joinTried, forkTried}
-use Rattle.colour_questions.specs.parts.Part.{leafTried}
-use Rattle.colour_questions.specs.parts.Part.{partTried}
+use Rattle.colour_questions.specs.parts.Part.{leafTried, partTried}
 use Rattle.colour_questions.specs.parts.OneSided.{isOneSided}
-use Rattle.colour_questions.proofs.parts.PartBuilt.{PartIs}
 use Rattle.colour_questions.proofs.parts.TriesBuilt.{SidesBuilt, tries-built}
+
+pub record PartIs (t : Tree) (o : Option Tried) (q : ℕ) (searches : List ℕ) (drops : ℕ) : Type 0 where
+  pub found : o ≡ some (tried q searches)
+  pub falls : length searches ≤ drops
+  pub few : AllLe (3 * digits (height t)) searches
 
 module _ (L : ColourView) (G : Given) (R : Reads (L .view) G)
     (S : StaysInside (G .automaton)) (four : G .automaton .states ≤ 4)

@@ -1,315 +1,120 @@
--- A rule question by colours on tables as built.
+-- A rule question by colours on tables as built: what holds of usable ones, with the states of the run.
+--     built-usable  tables as built are usable
 --     asked-list    the checks before 18 are 12 to 14: 17 and 27 pass
 --     ask-built     the answer is the fresh run's of the changed plan
-use Prim.Native.Nat.{ℕ, _+_, _-_, _*_, _^_, _≤_, _<_}
-use mathlib.Core.Path.{_≡_, refl, sym, ap, _∙_}
-use mathlib.Core.Bool.{Bool, true, cond}
+use Prim.Native.Nat.{ℕ, _*_, _≤_}
+use mathlib.Core.Path.{_≡_, refl, ap₂, _∙_, subst}
+use mathlib.Core.Bool.{Bool, true}
 use mathlib.Core.List.{List, [], List·Memᴰ·not-nil}
-use mathlib.Core.Option.{Option, some}
 use native.Mathlib.Omega.{arith}
-use lib.Dec.{leb, eqb}
-use lib.ListN.{length, take, drop, length-take, length-drop}
-use lib.Seq.{ext-getD, getD-take, getD-drop, length-take-le}
-use borrow.Author.Tests.{le-leb, leb-true, eq-eqb}
-use Rattle.list_laws.specs.Tests.{allBelow, holds}
-use Rattle.list_laws.proofs.BoolLaws.{and-both}
-use Rattle.list_laws.proofs.RowLaws.{stride}
-use Rattle.list_laws.proofs.SliceLaws.{length-part}
+use lib.ListN.{length}
+use Rattle.list_laws.specs.Tests.{holds}
 use Rattle.list_laws.proofs.TestLaws.{sameList-is}
 use Rattle.trees.specs.Tree.{Tree, size, height}
-use Rattle.trees.specs.Automaton.{Automaton}
-use Rattle.trees.specs.Changes.{changed}
-use Rattle.trees.specs.Climb.{andThen, digits}
-use Rattle.formats.specs.Limits.{changeLimit}
+use Rattle.trees.specs.Climb.{digits}
 use Rattle.formats.specs.Plan.{nodeCount, planTree, labelsIn}
-use Rattle.formats.specs.Rules.{stateCount, labelCount, ruleLength, ruleAutomaton}
-use Rattle.formats.specs.Checks.{firstNo, listChecks, nodeTableLength, stateTableLength}
-use Rattle.formats.specs.Buffers.{buffersFit, headersFit}
-use Rattle.formats.specs.Inputs.{Inputs, inputsOf, Sizes, sizesIn, fits, usedStateTable, stateTableBuilt}
-use Rattle.formats.proofs.PlanLaws.{size-planTree, labels-planTree}
-use Rattle.formats.specs.Passing.{PlanPasses, Built}
-use Rattle.formats.proofs.RuleLaws.{RulesPass}
-use Rattle.formats.proofs.InputLaws.{rule-table-passes, ListPasses, list-passes}
-use Rattle.formats.proofs.BufferLaws.{are-limits, are-lengths}
-use Rattle.formats.proofs.InputsLaws.{built-node-table, node-inputs-same, rules-of}
-use Rattle.tables.proofs.node_tables.CellLaws.{length-nodeTableOf}
+use Rattle.formats.specs.Rules.{stateCount, labelCount}
+use Rattle.formats.specs.Checks.{firstNo, listChecks, stateTableLength}
+use Rattle.formats.specs.Inputs.{Inputs, inputsOf, Sizes, sizesIn, usedStateTable, stateTableBuilt}
+use Rattle.formats.specs.Passing.{Built, PlanPasses}
+use Rattle.formats.proofs.PlanLaws.{size-planTree}
+use Rattle.formats.proofs.InputLaws.{rule-table-passes}
+use Rattle.formats.proofs.InputsLaws.{rules-of}
 use Rattle.tables.proofs.BuildLaws.{length-builtStates}
 use Rattle.changes.specs.Differing.{differing}
-use Rattle.changes.specs.inner.LastDiffering.{lastDiffering}
-use Rattle.changes.proofs.LastDifferingLaws.{last-same, last-most, last-below}
+use Rattle.questions.specs.PartInputs.{givenOf}
 use Rattle.questions.specs.ready.Members.{roots}
 use Rattle.questions.specs.ready.Parts.{Given, partsOf, lastState}
 use Rattle.questions.proofs.ready.ListLaws.{list-members}
-use Rattle.questions.proofs.ready.MonotoneLaws.{roots-same}
-use Rattle.runs.specs.FreshRun.{changedTree, rootState}
-use Rattle.questions.specs.Roots.{rootsOn}
-use Rattle.questions.specs.RootsAnswers.{rootsGiven}
-use Rattle.questions.proofs.FitLaws.{fit-all, given-yes}
-use Rattle.questions.proofs.Promised.{all-small}
-use Rattle.questions.proofs.RootsBuilt.{roots-built}
-use Rattle.questions.specs.PartInputs.{givenOf, SettledInputs}
-use Rattle.questions.proofs.PartInputsLaws.{cells, reads}
 use Rattle.questions.proofs.FreshLaws.{rules-inside, sound-below, given-run, whole-state, changes, left-same}
-use Rattle.colour_questions.specs.parts.Searches.{questionSearches}
-use Rattle.colour_tables.specs.ColourCells.{copyRow}
-use Rattle.colours.specs.StateSets.{Tried, tried, setStep, setCount, setCopies}
-use Rattle.colours.proofs.CopyLaws.{copy-colouring}
+use Rattle.runs.specs.FreshRun.{changedTree, rootState}
 use Rattle.colours.specs.Descents.{AllLe}
-use Rattle.colours.proofs.SetLaws.{setStep-below}
 use Rattle.colours.proofs.Theorems.{links-limit}
-use Rattle.colour_tables.specs.rule.Build.{setNumbersLength, setBytesLength, setColoursFit, builtSetNumbers, builtSetBytes}
-use Rattle.colour_tables.proofs.rule.BuildLaws.{length-setNumbers, length-setBytes}
-use Rattle.colour_tables.proofs.rule.ColouredLaws.{coloured-cells, coloured-copies}
-use Rattle.colour_questions.specs.parts.Part.{ColourView, handledFrom}
 use Rattle.colour_questions.specs.parts.OneSided.{oneSided}
-use Rattle.colour_questions.proofs.parts.TriesBuilt.{SidesBuilt}
-use Rattle.colour_questions.specs.rule.Question.{handled, handledOn, askedOn, leftIn, lentColours}
-use Rattle.colour_questions.specs.rule.Question.{ruleColoursFit, askedChecks, ruleAnswer, ruleAskAnswer}
-use Rattle.colour_questions.specs.rule.Promise.{RuleColoursBuilt, rootsLeft, searchesLeft, RuleColourAnswer}
-use Rattle.colour_questions.proofs.rule.AskChecks.{few-states, then-list}
-use Rattle.colour_questions.proofs.rule.AskNumbers.{lent-is}
-use Rattle.colour_questions.proofs.rule.PartsBuilt.{handled-built}
-
--- a buffer that begins with a list of n elements has n
-begins : (n : ℕ) (b l : List ℕ) → take n b ≡ l → length l ≡ n → n ≤ length b
-begins n b l e z =
-    let q : length (take n b) ≡ n = ap length e ∙ z in
-    omega (arith, length-take n b)
+use Rattle.colour_questions.specs.parts.Searches.{questionSearches}
+use Rattle.colour_questions.specs.parts.Trials.{triedParts, trialsFrom}
+use Rattle.colour_questions.specs.rule.Question.{askedChecks, ruleAskAnswer, answeredWith}
+use Rattle.colour_questions.specs.rule.Promise.{RuleColoursBuilt, RuleColoursUsable, rootsLeft, searchesLeft, RuleColourAnswer}
+use Rattle.colour_questions.proofs.branch.FitLaws.{begins}
+use Rattle.colour_questions.proofs.parts.TrialsBuilt.{all-trials}
+use Rattle.colour_questions.proofs.rule.AskUsable as usable
 
 module _ (p r nodeTable stateTable numbers bytes vs bs : List ℕ)
     (D : RuleColoursBuilt p r nodeTable stateTable numbers bytes) where
   abbrev t : Tree
   t = planTree p
 
-  abbrev A : Automaton
-  A = ruleAutomaton r
+  abbrev x : Inputs
+  x = inputsOf p r nodeTable stateTable
 
-  abbrev n : ℕ
-  n = nodeCount p
-
-  abbrev s : ℕ
-  s = stateCount r
+  abbrev z : Sizes
+  z = sizesIn (inputsOf p r nodeTable stateTable)
 
   plan-passes : PlanPasses p
   plan-passes = rule-table-passes p r (D .tables .accepted) .0
 
-  rules-pass : RulesPass r
-  rules-pass = rule-table-passes p r (D .tables .accepted) .1
+  built : Built (sizesIn (inputsOf p r nodeTable stateTable)) (inputsOf p r nodeTable stateTable)
+  built = record {
+    passed = D .tables .accepted;
+    n-is = refl;
+    s-is = refl;
+    k-is = refl;
+    nodeTable = D .tables .links;
+  }
 
-  size-is : size (planTree p) ≡ nodeCount p
-  size-is = size-planTree p plan-passes
+  table-built : stateTableBuilt (sizesIn (inputsOf p r nodeTable stateTable)) (inputsOf p r nodeTable stateTable)
+      ≡ true
+  unfolding stateTableBuilt
+  table-built = sameList-is (usedStateTable z x) _ (D .tables .states)
 
-  four : stateCount r ≤ 4
-  four = leb-true (stateCount r) 4 (D .coloured .few)
-
-  -- ---- the checks before 18
-
-  links-room : nodeCount p * 4 ≤ length nodeTable
-  links-room =
-      begins (n * 4) nodeTable _ (D .tables .links) (length-nodeTableOf t ∙ ap (λ (m : ℕ). m * 4) size-is)
-
-  states-room : stateTableLength (nodeCount p) (stateCount r) ≤ length stateTable
-  states-room = begins (stateTableLength n s) stateTable _ (D .tables .states) (length-builtStates p plan-passes r)
-
-  numbers-room : setNumbersLength (nodeCount p) (stateCount r) ≤ length numbers
-  numbers-room =
-      begins (setNumbersLength n s) numbers (builtSetNumbers p r) (D .coloured .numbers-are) (length-setNumbers p r
-      plan-passes)
-
-  bytes-room : setBytesLength (nodeCount p) (stateCount r) ≤ length bytes
-  bytes-room = begins (setBytesLength n s) bytes (builtSetBytes p r) (D .coloured .bytes-are) (length-setBytes p r
-      plan-passes)
-
-  lengths : buffersFit (nodeCount p) (stateCount r) (ruleLength (stateCount r) (labelCount r)) (length p) (length r)
-      (length nodeTable) (length stateTable) ≡ true
-  lengths =
-      are-lengths n s (ruleLength s (labelCount r)) (length p) (length r) (length nodeTable) (length stateTable)
-      (record {
-        plan-is = plan-passes .exact;
-        table-is = rules-pass .exact;
-        node-table-room = links-room;
-        state-table-room = states-room;
-      })
-
-  heads : headersFit 20 p r ≡ true
-  unfolding headersFit
-  heads =
-      rw (
-        le-leb 12 (length p) (plan-passes .long),
-        le-leb 20 (length r) (rules-pass .long),
-        are-limits (nodeCount p) (stateCount r) (labelCount r) (record {
-          nodes = plan-passes .least;
-          most = plan-passes .most;
-          states = rules-pass .states-least;
-          few = rules-pass .states-most;
-          labels = rules-pass .labels-least;
-          labels-most = rules-pass .labels-most;
-        }),
-      )
-
-  room : setColoursFit (nodeCount p) (stateCount r) (length numbers) (length bytes) ≡ true
-  room =
-      and-both (leb (setNumbersLength n s) (length numbers)) (leb (setBytesLength n s) (length bytes))
-      (le-leb (setNumbersLength n s) (length numbers) numbers-room)
-      (le-leb (setBytesLength n s) (length bytes) bytes-room)
-
-  fit : ruleColoursFit p r (length nodeTable) (length stateTable) (length numbers) (length bytes) ≡ true
-  fit =
-      sym (few-states p r (length nodeTable) (length stateTable) (length numbers) (length bytes) heads n s (labelCount
-      r)
-      refl refl refl lengths four)
-      ∙ room
+  pub built-usable : RuleColoursUsable p r nodeTable stateTable numbers bytes
+  built-usable = record {
+    accepted = D .tables .accepted;
+    links = D .tables .links;
+    coloured = D .coloured;
+    room = begins (stateTableLength (nodeCount p) (stateCount r)) stateTable _ (D .tables .states)
+        (length-builtStates p plan-passes r);
+    below = sound-below z x [] [] built table-built;
+  }
 
   -- the number of the checks before 18 is that of 12 to 14
   pub asked-list : firstNo (listChecks (nodeCount p) (labelCount r) vs bs)
       ≡ firstNo (askedChecks p r (length nodeTable) (length stateTable) (length numbers) (length bytes) vs bs)
-  asked-list =
-      then-list p r (length nodeTable) (length stateTable) (length numbers) (length bytes) vs bs fit s refl n
-      (labelCount r) refl refl four
+  asked-list = usable.asked-list p r nodeTable stateTable numbers bytes vs bs built-usable
 
   module _ (ok : firstNo (listChecks (nodeCount p) (labelCount r) vs bs) ≡ 0) where
-    listed : ListPasses (nodeCount p) (labelCount r) vs bs
-    listed = list-passes (nodeCount p) (labelCount r) vs bs ok
-
-    asked-built : firstNo (askedChecks p r (length nodeTable) (length stateTable) (length numbers) (length bytes) vs bs)
-        ≡ 0
-    asked-built = sym asked-list ∙ ok
-
-    -- ---- the inputs are as built
-
-    abbrev x : Inputs
-    x = inputsOf p r nodeTable stateTable
-
-    abbrev z : Sizes
-    z = sizesIn (inputsOf p r nodeTable stateTable)
-
-    built : Built (sizesIn (inputsOf p r nodeTable stateTable)) (inputsOf p r nodeTable stateTable)
-    built = record {
-      passed = D .tables .accepted;
-      n-is = refl;
-      s-is = refl;
-      k-is = refl;
-      nodeTable = D .tables .links;
-    }
-
-    table-built : stateTableBuilt (sizesIn (inputsOf p r nodeTable stateTable)) (inputsOf p r nodeTable stateTable)
-        ≡ true
-    unfolding stateTableBuilt
-    table-built = sameList-is (usedStateTable z x) _ (D .tables .states)
-
-    settled : SettledInputs (sizesIn (inputsOf p r nodeTable stateTable)) (inputsOf p r nodeTable stateTable) vs bs
-        (inputsOf p r nodeTable stateTable)
-    unfolding fits buffersFit
-    settled = record {
-      built = built-node-table z x built;
-      same = node-inputs-same z x x (record { plan = refl; rules = refl; nodeTable = refl });
-      below = sound-below z x vs bs built table-built;
-      room = lengths;
-      listed = ok;
-    }
-
     abbrev G : Given
     G = givenOf (sizesIn (inputsOf p r nodeTable stateTable)) (inputsOf p r nodeTable stateTable)
         (inputsOf p r nodeTable stateTable) vs bs
 
-    abbrev L : ColourView
-    L = lentColours p r nodeTable stateTable numbers bytes
+    abbrev ms : List ℕ
+    ms = rootsLeft p vs bs
 
-    copies-are : (v : ℕ) → v < size (planTree p)
-        → copyRow (2 ^ stateCount r) (drop (stateTableLength (nodeCount p) (stateCount r)) bytes) v
-        ≡ setCopies (ruleAutomaton r) (planTree p) v
-    copies-are v h =
-        let m : ℕ = 2 ^ s in
-        let base : ℕ = stateTableLength n s in
-        let rest : List ℕ = drop base bytes in
-        let hv : v < n = omega (arith, h, size-is) in
-        let long : length (copyRow m rest v) ≡ m =
-        length-part rest (v * m) m (omega (arith, stride m v n hv, bytes-room, length-drop base bytes)) in
-        let own : length (setCopies A t v) ≡ m = copy-colouring (setCount A) (setStep A t) t (setStep-below A t) v
-        .count
-        in
-        ext-getD 0 (copyRow m rest v) (setCopies A t v) (long ∙ sym own) (λ c l.
-        getD-take m (drop (v * m) rest) c 0 (omega (arith, l, long))
-        ∙ getD-drop (v * m) rest c 0
-        ∙ getD-drop base bytes (v * m + c) 0
-        ∙ coloured-copies p r numbers bytes (D .coloured) v c hv (omega (arith, l, long)))
+    -- the trials are those of the tree's own colours, and end in the fresh run's state
+    record FromRun : Type 0 where
+      pub searches : trialsFrom G (rootsLeft p vs bs) [] (rootsLeft p vs bs) ≡ searchesLeft p r vs bs
+      pub state : lastState (triedParts G (rootsLeft p vs bs) [] (rootsLeft p vs bs)) 0 ≡ rootState p r vs bs
 
-    sides : SidesBuilt (ruleAutomaton r) (planTree p) numbers
-        (copyRow (2 ^ stateCount r) (drop (stateTableLength (nodeCount p) (stateCount r)) bytes))
-    sides = record { cells = coloured-cells p r numbers bytes (D .coloured); copies = copies-are }
-
-    -- ---- the roots
-
-    left-is : leftIn p vs bs ≡ lastDiffering (labelsIn p) vs bs
-    left-is =
-        ap (λ (b : Bool). cond b (lastDiffering (labelsIn p) vs bs) [])
-        (and-both (eqb (length vs) (length bs)) (leb (length vs) changeLimit) (eq-eqb (length vs) (length bs) (listed
-        .lengths))
-        (le-leb (length vs) changeLimit (listed .most)))
-
-    left-few : length (leftIn p vs bs) ≤ 64
-    left-few = omega (arith, ap length left-is, last-most (labelsIn p) vs bs, listed .most)
-
-    left-inside : allBelow (nodeCount p) (leftIn p vs bs) ≡ true
-    left-inside = ap (allBelow n) left-is ∙ last-below n (labelsIn p) vs bs (listed .nodes-below)
-
-    roots-are : rootsGiven (nodeCount p) (take (nodeTableLength (nodeCount p)) nodeTable) (leftIn p vs bs)
-        ≡ some (rootsLeft p vs bs)
-    roots-are =
-        let part : List ℕ = take (nodeTableLength n) nodeTable in
-        given-yes n part (leftIn p vs bs)
-        (sym (fit-all n (length part) (leftIn p vs bs) (plan-passes .least) (plan-passes .most)
-        (omega (arith, length-take-le (nodeTableLength n) nodeTable links-room)) left-few) ∙ left-inside)
-        ∙ ap (λ (i : ℕ). rootsOn i part (leftIn p vs bs)) (sym size-is)
-        ∙ roots-built t part (cells z x built) (leftIn p vs bs)
-        (λ v m. omega (arith, size-is, all-small n (leftIn p vs bs) left-inside v m))
-        ∙ ap some (ap (roots t) left-is
-        ∙ roots-same t (lastDiffering (labelsIn p) vs bs) (differing (labelsIn p) vs bs)
-        (λ v. last-same (labelsIn p) vs bs v (listed .lengths)))
-
-    -- ---- the answer
-
-    record Whole : Type 0 where
-      pub found : handledFrom (lentColours p r nodeTable stateTable numbers bytes) vs bs [] [] (tried 0 []) (rootsLeft p
-          vs bs)
-          ≡ some (tried (rootState p r vs bs) (searchesLeft p r vs bs))
-      pub falls : length (searchesLeft p r vs bs) ≤ 60 * oneSided (planTree p) (rootsLeft p vs bs) (rootsLeft p vs bs)
-      pub few : AllLe (3 * digits (height (planTree p))) (searchesLeft p r vs bs)
-
-    whole : Whole
-    unfolding givenOf roots partsOf allBelow lastState questionSearches
-    whole =
+    from-run : FromRun
+    unfolding givenOf roots partsOf questionSearches
+    from-run =
         let w : ℕ → Bool = λ v. holds v (differing (labelsIn p) vs bs) in
-        let N = handled-built L G (changedTree p vs bs) (reads z x vs bs x settled) (given-run z x vs bs built table-built)
-        (rules-inside r (rules-of z x built)) four sides w (rootsLeft p vs bs) (list-members w t) vs bs
-        (ap (λ (ls : List ℕ). changed ls vs bs) (sym (labels-planTree p plan-passes))) (omega (
-          arith,
-          rules-pass
-              .states-least,
-        ))
-        (changes z x vs bs built w (left-same z x vs bs built))
-        (rootsLeft p vs bs) [] (tried 0 []) refl refl refl (λ y k. absurd (List·Memᴰ·not-nil k)) in
-        record {
-          found = N .found ∙ ap (λ (y : ℕ). some (tried y (searchesLeft p r vs bs))) (whole-state z x vs bs built table-built);
-          falls = N .falls;
-          few = N .few;
-        }
-
-    on-built : askedOn p r nodeTable stateTable numbers bytes vs bs
-        ≡ some (handled (tried (rootState p r vs bs) (searchesLeft p r vs bs)) (length (rootsLeft p vs bs)))
-    unfolding handledOn
-    on-built =
-        ap (λ (o : Option (List ℕ)). andThen o (λ ms.
-        andThen (handledFrom L vs bs [] [] (tried 0 []) ms) (λ y. some (handled y (length ms))))) roots-are
-        ∙ ap (λ (o : Option Tried). andThen o (λ y. some (handled y (length (rootsLeft p vs bs))))) (whole .found)
+        let N = all-trials G (changedTree p vs bs) (given-run z x vs bs built table-built)
+        (rules-inside r (rules-of z x built)) w (changes z x vs bs built w (left-same z x vs bs built)) ms
+        (list-members w t) ms [] [] refl refl (λ y k. absurd (List·Memᴰ·not-nil k))
+        (λ y k. absurd (List·Memᴰ·not-nil k)) refl in
+        record { searches = N .searches; state = N .last ∙ whole-state z x vs bs built table-built }
 
     pub ask-built : RuleColourAnswer p r vs bs (ruleAskAnswer p r nodeTable stateTable numbers bytes vs bs)
-    unfolding ruleAnswer
     ask-built =
-        let small : size t ≤ 65535 = omega (arith, size-is, plan-passes .most) in
+        let U = built-usable in
+        let R : FromRun = from-run in
+        let small : size t ≤ 65535 = omega (arith, size-planTree p plan-passes, plan-passes .most) in
         record {
-          is = sym (lent-is p r nodeTable stateTable numbers bytes vs bs _ asked-built refl)
-              ∙ ap (ruleAnswer r 0) on-built;
-          falls = whole .falls;
-          few = links-limit t (searchesLeft p r vs bs) small (whole .few);
+          is = usable.ask-usable p r nodeTable stateTable numbers bytes vs bs U ok
+              ∙ ap₂ (λ (q : ℕ) (ls : List ℕ). answeredWith r q ls (length ms)) (R .state) (R .searches);
+          falls = subst (λ (ls : List ℕ). length ls ≤ 60 * oneSided t ms ms) (R .searches)
+              (usable.ask-falls p r nodeTable stateTable numbers bytes vs bs U ok);
+          few = links-limit t (searchesLeft p r vs bs) small (subst (AllLe (3 * digits (height t))) (R .searches)
+              (usable.ask-few p r nodeTable stateTable numbers bytes vs bs U ok));
         }

@@ -30,8 +30,7 @@ use Rattle.colours.specs.StateSets.{Tried, tried}
 use Rattle.colour_questions.specs.parts.Part.{ColourView, handledFrom}
 use Rattle.colour_tables.specs.rule.Build.{setStatesFit}
 use Rattle.colour_questions.specs.rule.Question.{Handled, handled, handledOn, askedOn, leftIn, lentColours}
-use Rattle.colour_questions.specs.rule.Question.{ruleColoursFit, askedChecks}
-use Rattle.colour_questions.specs.rule.Question.{ruleAskNumber}
+use Rattle.colour_questions.specs.rule.Question.{ruleColoursFit, askedChecks, ruleAskNumber}
 use Rattle.colour_questions.specs.rule.OutOfRange.{RuleColoursOutOfRange, part}
 use Rattle.colour_questions.proofs.rule.AskChecks.{Passed, passed-are}
 use Rattle.colour_questions.proofs.rule.AskNumbers.{number-asked, number-last}

@@ -16,8 +16,7 @@ use Rattle.colours.specs.StateSets.{Tried, tried}
 use Rattle.colour_questions.specs.parts.Part.{ColourView, handledFrom}
 use Rattle.colour_questions.specs.declared.rule.answers.RuleDescending.{RuleDescending}
 use Rattle.colour_questions.specs.rule.Question.{Handled, handled, handledOn, askedOn, leftIn, lentColours, ruleAskNumber}
-use Rattle.colour_questions.specs.rule.Question.{ruleAnswer}
-use Rattle.colour_questions.specs.rule.Question.{ruleAskAnswer, ruleDescendingNumber}
+use Rattle.colour_questions.specs.rule.Question.{ruleAnswer, ruleAskAnswer, ruleDescendingNumber}
 use Rattle.colour_questions.specs.rule.Promise.{RuleColourAnswer, stateKept, linksKept, RuleAskDone}
 use Rattle.colour_questions.proofs.rule.StateLaws.{handled-state}
 use Rattle.colour_questions.proofs.rule.AskNumbers.{on-number}

@@ -1,23 +1,25 @@
 -- A rule question by colours where plan, rules, node table and colours are as built and the state table is any bytes below S.
+--     asked-list    the checks before 18 are 12 to 14: 17 and 27 pass
+--     ask-falls, ask-few   at most 60 drops for each one-sided part, each found by few links
 --     ask-usable    the answer is that of the parts' trials, never 18
 use Prim.Native.Nat.{ℕ, _+_, _-_, _*_, _^_, _≤_, _<_}
 use mathlib.Core.Path.{_≡_, refl, sym, ap, _∙_}
 use mathlib.Core.Bool.{Bool, true, cond}
-use mathlib.Core.List.{List, [], List·Memᴰ·not-nil}
+use mathlib.Core.List.{List, []}
 use mathlib.Core.Option.{Option, some}
 use native.Mathlib.Omega.{arith}
 use lib.Dec.{leb, eqb}
-use lib.ListN.{length, take, drop, length-take, length-drop}
+use lib.ListN.{length, take, drop, length-drop}
 use lib.Seq.{ext-getD, getD-take, getD-drop, length-take-le}
 use borrow.Author.Tests.{le-leb, leb-true, eq-eqb}
 use Rattle.list_laws.specs.Tests.{allBelow, holds}
 use Rattle.list_laws.proofs.BoolLaws.{and-both}
 use Rattle.list_laws.proofs.RowLaws.{stride}
 use Rattle.list_laws.proofs.SliceLaws.{length-part}
-use Rattle.trees.specs.Tree.{Tree, size}
+use Rattle.trees.specs.Tree.{Tree, size, height}
 use Rattle.trees.specs.Automaton.{Automaton}
 use Rattle.trees.specs.Changes.{changed}
-use Rattle.trees.specs.Climb.{andThen}
+use Rattle.trees.specs.Climb.{andThen, digits}
 use Rattle.formats.specs.Limits.{changeLimit}
 use Rattle.formats.specs.Plan.{nodeCount, planTree, labelsIn}
 use Rattle.formats.specs.Rules.{stateCount, labelCount, ruleLength, ruleAutomaton}
@@ -35,7 +37,7 @@ use Rattle.changes.specs.Differing.{differing}
 use Rattle.changes.specs.inner.LastDiffering.{lastDiffering}
 use Rattle.changes.proofs.LastDifferingLaws.{last-same, last-most, last-below}
 use Rattle.questions.specs.ready.Members.{roots}
-use Rattle.questions.specs.ready.Parts.{Given, lastState, lastState}
+use Rattle.questions.specs.ready.Parts.{Given, lastState}
 use Rattle.questions.proofs.ready.ListLaws.{list-members}
 use Rattle.questions.proofs.ready.MonotoneLaws.{roots-same}
 use Rattle.questions.specs.Roots.{rootsOn}
@@ -53,7 +55,10 @@ use Rattle.colours.proofs.SetLaws.{setStep-below}
 use Rattle.colour_tables.specs.rule.Build.{setNumbersLength, setBytesLength, setColoursFit, builtSetNumbers, builtSetBytes}
 use Rattle.colour_tables.proofs.rule.BuildLaws.{length-setNumbers, length-setBytes}
 use Rattle.colour_tables.proofs.rule.ColouredLaws.{coloured-cells, coloured-copies}
+use Rattle.colour_questions.specs.parts.OneSided.{oneSided}
+use Rattle.colours.specs.Descents.{AllLe}
 use Rattle.colour_questions.specs.parts.Part.{ColourView, handledFrom}
+use Rattle.colour_questions.proofs.branch.FitLaws.{begins}
 use Rattle.colour_questions.proofs.parts.TriesBuilt.{SidesBuilt}
 use Rattle.colour_questions.specs.rule.Question.{handled, handledOn, askedOn, leftIn, lentColours}
 use Rattle.colour_questions.specs.rule.Question.{ruleColoursFit, askedChecks, ruleAnswer, ruleAskAnswer}
@@ -63,12 +68,6 @@ use Rattle.colour_questions.specs.parts.Trials.{triedParts, trialsFrom}
 use Rattle.colour_questions.proofs.rule.AskChecks.{few-states, then-list}
 use Rattle.colour_questions.proofs.rule.AskNumbers.{lent-is}
 use Rattle.colour_questions.proofs.rule.PartsUsable.{handled-usable}
-
--- a buffer that begins with a list of n elements has n
-begins : (n : ℕ) (b l : List ℕ) → take n b ≡ l → length l ≡ n → n ≤ length b
-begins n b l e z =
-    let q : length (take n b) ≡ n = ap length e ∙ z in
-    omega (arith, length-take n b)
 
 module _ (p r nodeTable stateTable numbers bytes vs bs : List ℕ)
     (D : RuleColoursUsable p r nodeTable stateTable numbers bytes) where
@@ -155,7 +154,7 @@ module _ (p r nodeTable stateTable numbers bytes vs bs : List ℕ)
       ∙ room
 
   -- the number of the checks before 18 is that of 12 to 14
-  asked-list : firstNo (listChecks (nodeCount p) (labelCount r) vs bs)
+  pub asked-list : firstNo (listChecks (nodeCount p) (labelCount r) vs bs)
       ≡ firstNo (askedChecks p r (length nodeTable) (length stateTable) (length numbers) (length bytes) vs bs)
   asked-list =
       then-list p r (length nodeTable) (length stateTable) (length numbers) (length bytes) vs bs fit s refl n
@@ -258,9 +257,15 @@ module _ (p r nodeTable stateTable numbers bytes vs bs : List ℕ)
 
     -- ---- the answer
 
-    whole : handledFrom (lentColours p r nodeTable stateTable numbers bytes) vs bs [] [] (tried 0 []) (rootsLeft p vs bs)
-        ≡ some (tried (lastState (triedParts G (rootsLeft p vs bs) [] (rootsLeft p vs bs)) 0)
-        (trialsFrom G (rootsLeft p vs bs) [] (rootsLeft p vs bs)))
+    record Whole : Type 0 where
+      pub found : handledFrom (lentColours p r nodeTable stateTable numbers bytes) vs bs [] [] (tried 0 []) (rootsLeft p vs bs)
+          ≡ some (tried (lastState (triedParts G (rootsLeft p vs bs) [] (rootsLeft p vs bs)) 0)
+          (trialsFrom G (rootsLeft p vs bs) [] (rootsLeft p vs bs)))
+      pub falls : length (trialsFrom G (rootsLeft p vs bs) [] (rootsLeft p vs bs))
+          ≤ 60 * oneSided (planTree p) (rootsLeft p vs bs) (rootsLeft p vs bs)
+      pub few : AllLe (3 * digits (height (planTree p))) (trialsFrom G (rootsLeft p vs bs) [] (rootsLeft p vs bs))
+
+    whole : Whole
     unfolding givenOf roots allBelow lastState
     whole =
         let w : ℕ → Bool = λ v. holds v (differing (labelsIn p) vs bs) in
@@ -268,7 +273,14 @@ module _ (p r nodeTable stateTable numbers bytes vs bs : List ℕ)
         (rootsLeft p vs bs) (list-members w t) vs bs
         (ap (λ (ls : List ℕ). changed ls vs bs) (sym (labels-planTree p plan-passes)))
         (omega (arith, rules-pass .states-least)) (rootsLeft p vs bs) [] (tried 0 []) refl refl refl in
-        N .found
+        record { found = N .found; falls = N .falls; few = N .few }
+
+    pub ask-falls : length (trialsFrom G (rootsLeft p vs bs) [] (rootsLeft p vs bs))
+        ≤ 60 * oneSided (planTree p) (rootsLeft p vs bs) (rootsLeft p vs bs)
+    ask-falls = whole .falls
+
+    pub ask-few : AllLe (3 * digits (height (planTree p))) (trialsFrom G (rootsLeft p vs bs) [] (rootsLeft p vs bs))
+    ask-few = whole .few
 
     on-usable : askedOn p r nodeTable stateTable numbers bytes vs bs
         ≡ some (handled (tried (lastState (triedParts G (rootsLeft p vs bs) [] (rootsLeft p vs bs)) 0)
@@ -277,7 +289,7 @@ module _ (p r nodeTable stateTable numbers bytes vs bs : List ℕ)
     on-usable =
         ap (λ (o : Option (List ℕ)). andThen o (λ ms.
         andThen (handledFrom L vs bs [] [] (tried 0 []) ms) (λ y. some (handled y (length ms))))) roots-are
-        ∙ ap (λ (o : Option Tried). andThen o (λ y. some (handled y (length (rootsLeft p vs bs))))) whole
+        ∙ ap (λ (o : Option Tried). andThen o (λ y. some (handled y (length (rootsLeft p vs bs))))) (whole .found)
 
     pub ask-usable : ruleAskAnswer p r nodeTable stateTable numbers bytes vs bs
         ≡ answeredWith r (lastState (triedParts G (rootsLeft p vs bs) [] (rootsLeft p vs bs)) 0)

@@ -28,8 +28,7 @@ use Rattle.colours.specs.Descents.{AllLe}
 use Rattle.colour_questions.specs.parts.Part.{ColourView, sidesIn, partTried, handledFrom}
 use Rattle.colour_questions.specs.parts.OneSided.{isOneSided, oneSided}
 use Rattle.colour_questions.proofs.parts.TriesBuilt.{SidesBuilt}
-use Rattle.colour_questions.proofs.parts.PartBuilt.{PartIs}
-use Rattle.colour_questions.proofs.parts.PartUsable.{part-usable}
+use Rattle.colour_questions.proofs.parts.PartUsable.{PartIs, part-usable}
 
 module _ (L : ColourView) (G : Given) (R : Reads (L .view) G)
     (S : StaysInside (G .automaton)) (four : G .automaton .states ≤ 4)

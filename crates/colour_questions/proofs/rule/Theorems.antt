@@ -2,7 +2,7 @@
 --     ask-number   on tables as built the number is that of 12 to 14: 17, 27 and 18 never
 --     ask-fresh    the question's answer is the fresh run's of the changed plan
 --     ask-parts    the number of parts is that of the session
--- That each one-sided part's state is the climb's: colour_questions/parts, PartBuilt, tried-side.
+-- That each one-sided part's state is the climb's: colour_questions/parts, TrialsBuilt, part-state.
 use Prim.Native.Nat.{ℕ}
 use mathlib.Core.Path.{_≡_, refl, sym, ap, _∙_}
 use mathlib.Core.List.{List}

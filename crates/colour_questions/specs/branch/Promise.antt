@@ -8,6 +8,9 @@
 -- wordDrops reading B t u l == its drops: the places on the path where the colour falls
 -- DescentAnswer reading p r u l answer == the answer is the word automaton's, with the drops and links of that
 --   descent: at most S - 1 drops, and at most 45 links for each
+-- wordStart reading t u == the copy in which a reading's word begins, by the tree
+-- OnCopies reading p r bytes u l answer == the answer is the byte at l of the colour that the descent by the tree's own
+--   colours ends with, on the copies given
 -- ColourAskDone reading .. == the promise of a branch question by colours
 use Prim.Native.Nat.{ℕ, suc, _+_, _-_, _*_, _≤_, _<_}
 use mathlib.Core.Path.{_≡_}
@@ -29,14 +32,14 @@ use Rattle.branches.specs.declared.answers.Reading.the-variants.{WithUpper, Bel
 use Rattle.branches.specs.Promise.{wordOf}
 use Rattle.colours.specs.Colouring.{placeOf}
 use Rattle.colours.specs.Copies.{dropsDown}
-use Rattle.colours.specs.Descents.{Descent, drops, links}
-use Rattle.colours.specs.Words.{wordStep, colourAbove, colourHere, withUpper, belowUpper}
+use Rattle.colours.specs.Descents.{Place, Descent, drops, links, descend, colourTableOf}
+use Rattle.colours.specs.Words.{wordStep, aboveOf, colourAbove, colourHere, withUpper, belowUpper}
 use Rattle.colour_tables.specs.ColourCells.{copyRow}
 use Rattle.colour_tables.specs.Layout.{colourNumbersLength}
 use Rattle.colour_tables.specs.branch.Build.{builtColourNumbers, BranchColoured}
 use Rattle.colour_questions.specs.declared.branch.answers.Descending.{Descending}
 use Rattle.colour_questions.specs.declared.branch.answers.Descending.the-variants.{Answered, Refused}
-use Rattle.colour_questions.specs.branch.Question.{colourBuffersFit, colourNumber, colourAskAnswer}
+use Rattle.colour_questions.specs.branch.Question.{colourBuffersFit, colourIn, colourNumber, colourAskAnswer}
 use Rattle.colour_questions.specs.branch.Question.{descendingNumber}
 use Rattle.colour_questions.specs.branch.OutOfRange.{BranchColoursOutOfRange}
 
@@ -74,6 +77,22 @@ pub record DescentAnswer (reading : Reading) (p r : List ℕ) (u l : ℕ) (answe
   pub drops-are : drops way ≡ wordDrops reading (branchAutomaton r) (planTree p) u l
   pub falls : drops way ≤ stateCount r - 1
   pub few : links way ≤ drops way * 45
+
+-- the copy in which a reading's word begins, by the tree
+abbrev pub wordStart : Reading → Tree → ℕ → Place
+wordStart WithUpper t u = aboveOf t u
+wordStart BelowUpper t u = some u
+
+-- on any copies below S with state 0 in each: what the descent by the tree's own colours gives there
+pub record OnCopies (reading : Reading) (p r bytes : List ℕ) (u l : ℕ) (answer : Descending) : Type 0 where
+  pub colour : ℕ
+  pub starts : colourIn (stateCount r) bytes (wordStart reading (planTree p) u) ≡ some colour
+  pub way : Descent
+  pub found : descend (colourTableOf (stateCount r) (wordStep (branchAutomaton r) (planTree p)) (planTree p)) colour
+      (wordStart reading (planTree p) u) l colour ≡ some way
+  pub is : answer
+      ≡ Answered (getD bytes (l * stateCount r + way .colour) 0)
+      (branchAutomaton r .accepting (getD bytes (l * stateCount r + way .colour) 0)) (drops way) (links way)
 
 abbrev pub stateKept : List ℕ → Descending → Type 0
 stateKept r (Answered state marked drops links) = (state < stateCount r) × (marked ≡ branchAutomaton r .accepting state)
