@@ -19,7 +19,7 @@ use Rattle.tables.specs.Climbs.{reached}
 use Rattle.questions.specs.Part.{partOn}
 use Rattle.questions.specs.Promises.{RootsAre}
 use Rattle.model.specs.Model.{rootsIn}
-use Rattle.questions.specs.PartInputs.{viewBy, givenOf}
+use Rattle.questions.specs.PartInputs.{viewBy, givenOf, SettledInputs}
 
 abbrev pub reachedBy : Part → Reached
 reachedBy p = reached (p .state) (p .links) (p .passed)

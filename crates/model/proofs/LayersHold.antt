@@ -1,17 +1,13 @@
 -- The facts that the model takes from the questions layer hold: proved from that layer's theorems roots-built, rootsOn-are, part-built.
 --     layers              the facts
-use Prim.Native.Nat.{ℕ, zero, suc, _+_, _*_, _≤_, _<_}
-use mathlib.Core.Path.{_≡_, refl, sym, ap, ap₂, _∙_, subst}
-use mathlib.Core.Bool.{Bool, true, false, cond, _&&_}
-use mathlib.Core.List.{List, [], _∷_, _++_, List·Memᴰ, List·Memᴰ·head, List·Memᴰ·tail, List·Memᴰ·cases-cons, List·Memᴰ·not-nil}
-use mathlib.Core.Logic.{_⊎_, inl, inr}
-use mathlib.Core.Option.{Option, some}
-use native.Mathlib.Decide.{ℕ-discrete, decLt}
+use Prim.Native.Nat.{ℕ, suc, _+_, _<_}
+use mathlib.Core.Path.{_≡_, sym, ap, ap₂, _∙_}
+use mathlib.Core.Bool.{true}
+use mathlib.Core.List.{List, _∷_, _++_}
+use mathlib.Core.Option.{some}
 use native.Mathlib.Omega.{arith}
-use lib.Dec.{eqb, ltb}
-use lib.ListN.{length, getD, take, drop, set, take-append-drop}
-use lib.Seq.{take-all, drop-cons, getD-set-same, getD-set-other, set-out}
-use borrow.Author.Tests.{ltb-true, eqb-true}
+use lib.ListN.{length, take, drop, take-append-drop}
+use lib.Seq.{drop-cons}
 use Rattle.trees.specs.Changes.{changed}
 use Rattle.list_laws.specs.Tests.{allBelow, holds}
 use Rattle.formats.specs.Plan.{planTree}

@@ -3,18 +3,16 @@
 --     states-some         there is a state
 --     states-small        states below s, of any root
 --     reads               settled inputs are what the rule of a part reads
-use Prim.Native.Nat.{ℕ, zero, suc, _+_, _*_, _≤_, _<_}
+use Prim.Native.Nat.{ℕ, suc, _+_, _*_, _<_}
 use mathlib.Core.Path.{_≡_, refl, sym, ap, ap₂, _∙_, subst}
 use mathlib.Core.Bool.{Bool, true, false, cond, _&&_}
-use mathlib.Core.List.{List, [], _∷_, _++_, List·Memᴰ, List·Memᴰ·head, List·Memᴰ·tail, List·Memᴰ·cases-cons, List·Memᴰ·not-nil}
-use mathlib.Core.Logic.{_⊎_, inl, inr}
-use mathlib.Core.Option.{Option, some}
+use mathlib.Core.List.{List, [], _∷_}
 use native.Mathlib.Decide.{ℕ-discrete, decLt}
 use native.Mathlib.Omega.{arith}
 use lib.Dec.{eqb, ltb}
-use lib.ListN.{length, getD, take, drop, set, take-append-drop}
-use lib.Seq.{take-all, drop-cons, getD-set-same, getD-set-other, set-out}
-use borrow.Author.Tests.{ltb-true, eqb-true}
+use lib.ListN.{length, getD, take, drop, set}
+use lib.Seq.{take-all, getD-set-same, getD-set-other, set-out}
+use borrow.Author.Tests.{ltb-true}
 use Rattle.trees.specs.Tree.{Tree, size}
 use Rattle.trees.specs.Changes.{changed}
 use Rattle.list_laws.specs.Tests.{allBelow}

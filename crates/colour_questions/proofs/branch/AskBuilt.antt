@@ -46,9 +46,8 @@ use Rattle.colours.proofs.WordLaws.{upper-drops, below-drops}
 use Rattle.colours.specs.Answers.{WordAnswer}
 use Rattle.colours.proofs.Theorems.{word-upper, word-below}
 use Rattle.colour_tables.specs.ColourCells.{copyRow}
-use Rattle.colour_tables.specs.AsBuilt.{ColourCells}
 use Rattle.colour_tables.specs.Layout.{colourNumbersOf, copiesOf, colourNumbersLength, copiesLength}
-use Rattle.colour_tables.proofs.LayoutLaws.{length-numbers, length-copies, numbers-cells, copies-cells}
+use Rattle.colour_tables.proofs.LayoutLaws.{length-numbers, length-copies, copies-cells}
 use Rattle.colour_tables.proofs.RangeLaws.{descend-low}
 use Rattle.colour_questions.specs.branch.Question.{colourBuffersFit, colourIn, colourAskAnswer}
 use Rattle.colour_questions.specs.declared.branch.answers.Descending.the-variants.{Answered}
@@ -131,12 +130,6 @@ module _ (p r nodeTable numbers bytes : List ℕ) (D : BranchColoursBuilt p r no
 
   pub built-links : NodeCells (planTree p) nodeTable
   built-links = link-cells t (nodeCount p) nodeTable (sym size-is) (D .links)
-
-  cells : ColourCells (stateCount r) (wordStep (branchAutomaton r) (planTree p)) (planTree p) numbers
-  cells =
-      numbers-cells s step t numbers
-      (subst (λ (n : ℕ). take (s * (n * 4)) numbers ≡ colourNumbersOf s step t) (sym size-is)
-      (D .coloured .numbers-are))
 
   states : (v c : ℕ) → v < size (planTree p) → c < stateCount r
       → getD bytes (v * stateCount r + c) 0 ≡ getD

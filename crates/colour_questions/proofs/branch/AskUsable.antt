@@ -1,4 +1,5 @@
 -- Tables that lead nowhere outside.
+--     size-is, links-are, cells   what the node table and the numbers say
 --     usable-in-range   where the numbers are as built, the states below S and state 0 in each copy: so 18 never comes
 use Prim.Native.Nat.{ℕ, _+_, _*_, _≤_, _<_}
 use mathlib.Core.Path.{_≡_, sym, subst}
@@ -32,13 +33,13 @@ module _ (p r nodeTable numbers bytes : List ℕ) (U : BranchColoursUsable p r n
   abbrev step : ℕ → ℕ → ℕ
   step = wordStep (branchAutomaton r) (planTree p)
 
-  size-is : size (planTree p) ≡ nodeCount p
+  pub size-is : size (planTree p) ≡ nodeCount p
   size-is = size-planTree p (branch-table-passes p r (U .accepted) .0)
 
-  links-are : NodeCells (planTree p) nodeTable
+  pub links-are : NodeCells (planTree p) nodeTable
   links-are = link-cells t (nodeCount p) nodeTable (sym size-is) (U .links)
 
-  cells : ColourCells (stateCount r) (wordStep (branchAutomaton r) (planTree p)) (planTree p) numbers
+  pub cells : ColourCells (stateCount r) (wordStep (branchAutomaton r) (planTree p)) (planTree p) numbers
   cells =
       numbers-cells (stateCount r) step t numbers
       (subst (λ (n : ℕ). take (stateCount r * (n * 4)) numbers ≡ colourNumbersOf (stateCount r) step t) (sym size-is)

@@ -17,11 +17,8 @@ use Rattle.trees.proofs.NodeLaws.{up}
 use Rattle.trees.proofs.IntervalLaws.{ancestor-interval}
 use Rattle.formats.specs.Plan.{nodeCount, planTree}
 use Rattle.formats.specs.Rules.{stateCount, branchAutomaton}
-use Rattle.formats.proofs.PlanLaws.{size-planTree}
 use Rattle.formats.proofs.InputLaws.{branch-table-passes}
 use Rattle.tables.specs.node_tables.Cells.{isInSubtreeOn}
-use Rattle.tables.specs.node_tables.NodeCells.{NodeCells}
-use Rattle.tables.proofs.node_tables.CellLaws.{link-cells}
 use Rattle.tables.specs.Climbs.{below}
 use Rattle.branches.specs.declared.answers.Reading.{Reading}
 use Rattle.branches.specs.declared.answers.Reading.the-variants.{WithUpper, BelowUpper}
@@ -31,9 +28,6 @@ use Rattle.colours.specs.Descents.{Place, Descent, drops, links, descend, colou
 use Rattle.colours.specs.Words.{wordStep, aboveOf}
 use Rattle.colours.proofs.AgreeLaws.{PlaceIn}
 use Rattle.colour_tables.specs.ColourCells.{copyRow, cellTable}
-use Rattle.colour_tables.specs.AsBuilt.{ColourCells}
-use Rattle.colour_tables.specs.Layout.{colourNumbersOf}
-use Rattle.colour_tables.proofs.LayoutLaws.{numbers-cells}
 use Rattle.colour_tables.proofs.BuiltLaws.{descend-built}
 use Rattle.colour_tables.proofs.RangeLaws.{descend-low}
 use Rattle.colour_questions.specs.branch.Question.{colourBuffersFit, startOn, colourIn, coloured, colouredOn, colourAnswer}
@@ -41,7 +35,7 @@ use Rattle.colour_questions.specs.branch.Question.{colourAskAnswer, desc
 use Rattle.colour_questions.specs.branch.Promise.{BranchColoursUsable, wordStart, OnCopies}
 use Rattle.colour_questions.proofs.branch.AskChecks.{ask-number, ask-on}
 use Rattle.colour_questions.proofs.branch.AskRange.{ask-out-of-range}
-use Rattle.colour_questions.proofs.branch.AskUsable.{usable-in-range}
+use Rattle.colour_questions.proofs.branch.AskUsable as usable
 use Rattle.colour_questions.proofs.branch.AnswerLaws.{on-some, on-none, below-yes, fromEnd, fromColour, fromPlace}
 
 module _ (reading : Reading) (p r nodeTable numbers bytes : List ℕ) (U : BranchColoursUsable p r nodeTable numbers bytes)
@@ -60,7 +54,7 @@ module _ (reading : Reading) (p r nodeTable numbers bytes : List ℕ) (U : Branc
   step = wordStep (branchAutomaton r) (planTree p)
 
   size-is : size (planTree p) ≡ nodeCount p
-  size-is = size-planTree p (branch-table-passes p r (U .accepted) .0)
+  size-is = usable.size-is p r nodeTable numbers bytes U
 
   some-state : 0 < stateCount r
   some-state = omega (arith, branch-table-passes p r (U .accepted) .1 .states-least)
@@ -71,18 +65,10 @@ module _ (reading : Reading) (p r nodeTable numbers bytes : List ℕ) (U : Branc
   lower-in : l < size (planTree p)
   lower-in = omega (arith, size-is)
 
-  links-are : NodeCells (planTree p) nodeTable
-  links-are = link-cells t (nodeCount p) nodeTable (sym size-is) (U .links)
-
-  cells : ColourCells (stateCount r) (wordStep (branchAutomaton r) (planTree p)) (planTree p) numbers
-  cells =
-      numbers-cells s step t numbers
-      (subst (λ (n : ℕ). take (s * (n * 4)) numbers ≡ colourNumbersOf s step t) (sym size-is) (U .numbers-are))
-
   below-it : isInSubtreeOn nodeTable u l ≡ true
   below-it =
       let w = ancestor-interval t u l (A .0) lower-in (A .1) (A .2) in
-      is-in-subtree nodeTable u l (w .0) (rw (links-are .sizes u upper-in) (w .1))
+      is-in-subtree nodeTable u l (w .0) (rw (usable.links-are p r nodeTable numbers bytes U .sizes u upper-in) (w .1))
 
   start-is : (q : Reading) → startOn q (nodeCount p) nodeTable u ≡ some (wordStart q (planTree p) u)
   unfolding startOn aboveOf
@@ -92,7 +78,7 @@ module _ (reading : Reading) (p r nodeTable numbers bytes : List ℕ) (U : Branc
         let q : parent t u < nodeCount p = omega (arith, up t u i .below, size-is) in
         rw (
           ne-eqb (u + 1) (nodeCount p) e,
-          links-are .parents u upper-in,
+          usable.links-are p r nodeTable numbers bytes U .parents u upper-in,
           lt-ltb (parent t u) (nodeCount p) q,
           ne-eqb (u + 1) (size t) (λ z. omega arith),
         ))
@@ -118,7 +104,7 @@ module _ (reading : Reading) (p r nodeTable numbers bytes : List ℕ) (U : Branc
   never : colouredOn reading p r nodeTable numbers bytes u l ≡ none → ⊥
   unfolding colourAnswer descendingNumber
   never e =
-      usable-in-range p r nodeTable numbers bytes U
+      usable.usable-in-range p r nodeTable numbers bytes U
       (ask-out-of-range reading p r nodeTable numbers bytes u l
       (sym (ask-number reading p r nodeTable numbers bytes u l)
       ∙ ap descendingNumber (ask-on reading p r nodeTable numbers bytes u l fits hu hl below-it ∙ ap (colourAnswer 0) e)))
@@ -143,7 +129,7 @@ module _ (reading : Reading) (p r nodeTable numbers bytes : List ℕ) (U : Branc
           ≡ descend (colourTableOf (stateCount r) (wordStep (branchAutomaton r) (planTree p)) (planTree p)) c z l c
       same =
           ap (λ (m : ℕ). descend (cellTable m numbers) c z l c) (sym size-is)
-          ∙ descend-built s step t numbers cells c z l c lower-in low (place-in reading)
+          ∙ descend-built s step t numbers (usable.cells p r nodeTable numbers bytes U) c z l c lower-in low (place-in reading)
 
       to-colour : colouredOn reading p r nodeTable numbers bytes u l ≡ fromColour (nodeCount p) s B numbers bytes l z c
       to-colour =

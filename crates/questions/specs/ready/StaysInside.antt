@@ -1,7 +1,7 @@
 -- The functions of a tree automaton stay inside its states.
 --
 -- StaysInside A == every value of δ and of ι is one of the states Q. Of the automaton that is read from a rule table it holds where 6 to 9
---   pass: reference/proofs/FreshLaws, rules-inside
+--   pass: questions/proofs/FreshLaws, rules-inside
 use Prim.Native.Nat.{ℕ, _<_}
 use Rattle.trees.specs.Automaton.{Automaton}
 
