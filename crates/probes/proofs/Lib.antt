@@ -1,2 +1,4 @@
+pub mod EightLaws
 pub mod LentRecord
+pub mod LentRun
 pub mod ProbeLaws

@@ -34,7 +34,7 @@ pub struct Question {
 }
 
 // A loaded session of N, S and K.
-fn loaded(n: u16, s: u8, k: u8) -> Session
+pub fn loaded(n: u16, s: u8, k: u8) -> Session
     ensures { λ r. ⌜ r ≡ loadedWith n s k ⌝ }
 {
     let sizes = Sizes { n, s, k };
@@ -43,7 +43,7 @@ fn loaded(n: u16, s: u8, k: u8) -> Session
 }
 
 // The number of parts that Start returns; 0 where it is refused.
-fn parts_in(answer: StartAnswer) -> u32
+pub fn parts_in(answer: StartAnswer) -> u32
     ensures { λ r. ⌜ r ≡ partsIn (startAnswer answer) ⌝ }
 {
     match answer {
@@ -109,7 +109,7 @@ pub extern "C" fn probe_steps(
 }
 
 // What Read returns; state 16 where it is refused.
-fn read_in(answer: ReadAnswer) -> Question
+pub fn read_in(answer: ReadAnswer) -> Question
     ensures { λ r. ⌜ r ≡ readIn (readAnswer answer) ⌝ }
 {
     match answer {
@@ -186,7 +186,7 @@ pub struct Life {
 }
 
 // The number of an answer to Load or Cancel: 0 where it is accepted.
-fn call_number(answer: CallAnswer) -> u32
+pub fn call_number(answer: CallAnswer) -> u32
     ensures { λ r. ⌜ r ≡ callNumber (callAnswer answer) ⌝ }
 {
     match answer {

@@ -1,11 +1,12 @@
 //! The calls in place against the same calls through record bytes: every answer, and every number and byte of the tables.
 //!
 //! A case is a plan, rules and a list, with faults for any of the checks or without, and tables as built or altered. It is
-//! put to a life of a session (fresh, Load, Start, Cancel, the question again), to Start with some advances and to a whole
-//! question. A difference is told with its case and ends the program with 1; so does a kind of answer that never came.
+//! put to a life of a session (fresh, Load, Start, Cancel, the question again), to Start with some advances, to a whole
+//! question and to eight screens (Start on two, deals, Cancel, Read). A difference is told with its case and ends the
+//! program with 1; so does a kind of answer that never came.
 
 use crate::cases::List;
-use crate::probes::{self, Life, Question, Sizes, Steps};
+use crate::probes::{self, Eight, Life, Question, Sizes, Steps, Turns};
 use compare::alterations::ALTERATIONS;
 use compare::calls::{same, Kind};
 use compare::counts::Counts;
@@ -18,15 +19,22 @@ use compare::shapes::most_parts;
 use compare::slices;
 use compare::trace;
 use reference::record::Record;
-use whatif::sizes::MAX_PARTS;
+use whatif::sizes::{MAX_PARTS, SCREENS};
 use whatif::{Lent, Refusal, Session};
 
 /// Around the tables that a life writes: what is outside must stay.
 const MARGIN: usize = 9;
 const LIST_CHECKS: [u32; 3] = [12, 13, 14];
 /// Every answer that these calls give here; an advance's 17 and 18 need other buffers than Start's.
-const CAME: [(&str, &[u32]); 3] =
-    [("Load", &[0, 2, 3, 4, 5, 6, 7, 8, 9, 10, 11]), ("Start", &[0, 1, 12, 13, 14, 17, 18]), ("advance", &[0, 1])];
+const CAME: [(&str, &[u32]); 7] = [
+    ("Load", &[0, 2, 3, 4, 5, 6, 7, 8, 9, 10, 11]),
+    ("Start", &[0, 1, 12, 13, 14, 17, 18]),
+    ("advance", &[0, 1]),
+    ("Start on a screen", &[0, 1, 12, 13, 14, 17, 18, 25]),
+    ("deal", &[0, 1, 25]),
+    ("Cancel on a screen", &[0, 1, 25]),
+    ("Read on a screen", &[0, 1, 25]),
+];
 
 const MOST_PARTS: &str = "Start told 254 parts";
 
@@ -157,6 +165,45 @@ fn questions(case: &Case, random: &mut Random, counts: &mut Counts) {
     assert_eq!(probes::steps(sizes, &lent, &list, count), want, "Start and {} advances in place", count);
     let want = question_by_bytes(&mut loaded(of), &lent, &list, counts);
     assert_eq!(probes::question(sizes, &lent, &list), want, "a question in place");
+    let turns = turns(parts, random);
+    let want = screens_by_bytes(&loaded(of), &lent, &list, turns, counts);
+    assert_eq!(probes::screens(sizes, &lent, &list, turns), want, "eight screens in place, {:?}", turns);
+}
+
+/// Two screens, often one and the same, and deals for the parts of one or of both; now and then a screen above 7.
+fn turns(parts: u32, random: &mut Random) -> Turns {
+    let [screen, other, first] = [0; 3].map(|_| {
+        let most = if random.below(8) == 0 { 12 } else { 8 };
+        random.below(most)
+    });
+    Turns { screen, other, first, count: random.below(2 * parts as usize + 3) as u32 }
+}
+
+fn screens_by_bytes(loaded: &Session, lent: &Lent, (nodes, labels): &List, turns: Turns, counts: &mut Counts) -> Eight {
+    let Lent { plan, rules, node_table, state_table } = *lent;
+    let mut records = loaded.as_bytes().repeat(SCREENS);
+    let mut told = |call: &str, number: u32| {
+        counts.add(answer(call, number));
+        number
+    };
+    let [mut parts, mut others] = [0; 2];
+    for (screen, parts) in [(turns.screen, &mut parts), (turns.other, &mut others)] {
+        let number =
+            slices::screens_start(&mut records, screen as u32, plan, rules, node_table, state_table, nodes, labels, parts);
+        told("Start on a screen", number);
+    }
+    let mut next = turns.first as u32;
+    for _ in 0..turns.count {
+        let mut out = [next, 0];
+        told("deal", slices::screens_deal(&mut records, next, plan, rules, node_table, state_table, &mut out));
+        next = out[0];
+    }
+    let cancel = told("Cancel on a screen", slices::screens_cancel(&mut records, turns.other as u32));
+    let mut out = [16, 0, 0, 0, 0];
+    told("Read on a screen", slices::screens_read(&records, turns.screen as u32, &mut out));
+    let [state, yes, read_parts, links, _] = out;
+    let read = Question { state, yes: yes == 1, parts: read_parts, links };
+    Eight { parts, others, next: next as usize, cancel, read }
 }
 
 fn loaded(case: &Case) -> Session {

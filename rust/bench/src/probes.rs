@@ -1,5 +1,5 @@
 //! The functions of libprobes.a (crates/probes): roots and one part; and, made of the calls in place, Start with some
-//! advances, a whole question and a life of a session.
+//! advances, a whole question, a life of a session and one of eight screens.
 
 use crate::cases::List;
 use crate::sessions::One;
@@ -37,6 +37,27 @@ pub struct Life {
     pub parts: u32,
     pub cancel: u32,
     pub again: Question,
+}
+
+/// The parts that Start answers on two screens (0 where it is refused), the screen to try first after the deals, the
+/// number of Cancel of the second, and what Read answers of the first.
+#[derive(Clone, Copy, Debug, PartialEq, Eq)]
+#[repr(C)]
+pub struct Eight {
+    pub parts: u32,
+    pub others: u32,
+    pub next: usize,
+    pub cancel: u32,
+    pub read: Question,
+}
+
+/// Which screens a life of eight is about, and how many deals it has.
+#[derive(Clone, Copy, Debug)]
+pub struct Turns {
+    pub screen: usize,
+    pub other: usize,
+    pub first: usize,
+    pub count: u32,
 }
 
 // A slice is a pointer, then its count of elements.
@@ -123,6 +144,28 @@ extern "C" {
         labels: *const u8,
         labels_len: usize,
     ) -> Life;
+
+    fn probe_screens(
+        n: u16,
+        s: u8,
+        k: u8,
+        plan: *const u8,
+        plan_len: usize,
+        rules: *const u8,
+        rules_len: usize,
+        node_table: *const u16,
+        node_table_len: usize,
+        state_table: *const u8,
+        state_table_len: usize,
+        nodes: *const u16,
+        nodes_len: usize,
+        labels: *const u8,
+        labels_len: usize,
+        screen: usize,
+        other: usize,
+        first: usize,
+        count: u32,
+    ) -> Eight;
 }
 
 pub fn roots(one: &One, nodes: &[u16], out: &mut [u16; 254]) -> usize {
@@ -237,6 +280,35 @@ pub fn life(plan: &[u8], rules: &[u8], node_table: &mut [u16], state_table: &mut
             nodes.len(),
             labels.as_ptr(),
             labels.len(),
+        )
+    }
+}
+
+/// Eight loaded screens: Start on two, deals from a first one on, Cancel of the second, Read of the first.
+pub fn screens(sizes: Sizes, lent: &Lent, (nodes, labels): &List, turns: Turns) -> Eight {
+    let Lent { plan, rules, node_table, state_table } = *lent;
+    // SAFETY: each pointer comes with its own slice's length
+    unsafe {
+        probe_screens(
+            sizes.n,
+            sizes.s,
+            sizes.k,
+            plan.as_ptr(),
+            plan.len(),
+            rules.as_ptr(),
+            rules.len(),
+            node_table.as_ptr(),
+            node_table.len(),
+            state_table.as_ptr(),
+            state_table.len(),
+            nodes.as_ptr(),
+            nodes.len(),
+            labels.as_ptr(),
+            labels.len(),
+            turns.screen,
+            turns.other,
+            turns.first,
+            turns.count,
         )
     }
 }
