@@ -52,13 +52,13 @@ module _ (t : Tree) where
       elim (U .child) [
         | inl c ↦ absurd (let z : parent t (i - 1) ≡ i = omega arith in omega (arith, e, U .inside, ap (kindAt t) z))
         | inr c ↦ record {
-            top = parent t (i - 1);
-            above = elim (ℕ-discrete (parent t (i - 1)) i) [
-              | yes z ↦ absurd (omega (arith, e, U .inside, ap (kindAt t) z))
-              | no z ↦ omega (arith, U .above)
-            ];
-            below = U .below;
-            inside = λ z. omega (arith, U .inside);
-            first = omega arith;
-          }
+          top = parent t (i - 1);
+          above = elim (ℕ-discrete (parent t (i - 1)) i) [
+            | yes z ↦ absurd (omega (arith, e, U .inside, ap (kindAt t) z))
+            | no z ↦ omega (arith, U .above)
+          ];
+          below = U .below;
+          inside = λ z. omega (arith, U .inside);
+          first = omega arith;
+        }
       ]

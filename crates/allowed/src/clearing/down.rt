@@ -22,7 +22,16 @@ fn leaf_down(cells: &mut [u16], v: usize, c: u64) -> u64
 }
 
 // The iteration of an inner node with the set c: its left child's set waits, its right child's is next.
-fn inner_down(kinds: &[u8], inner: &[u8], s: usize, k: usize, cells: &mut [u16], v: usize, a: usize, c: u64) -> u64
+fn inner_down(
+    kinds: &[u8],
+    inner: &[u8],
+    s: usize,
+    k: usize,
+    cells: &mut [u16],
+    v: usize,
+    a: usize,
+    c: u64,
+) -> u64
     requires { ⌜ InnerDownArgs (now kinds) (now inner) s k (now cells) v a c ⌝ }
     ensures { λ r. ⌜ (now (cells .exit) ≡ innerDown (now (kinds .entry)) (now (inner .entry)) s k (now (cells .entry)) v a c)
         × (r ≡ innerNext (now (kinds .entry)) (now (inner .entry)) s k (now (cells .entry)) v a c) ⌝ }
@@ -60,7 +69,15 @@ fn node_down(
 }
 
 // Writes each node's clearing states, from the root's, c.
-pub fn sets_down(kinds: &[u8], labels: &[u8], inner: &[u8], s: usize, k: usize, cells: &mut [u16], c: u64)
+pub fn sets_down(
+    kinds: &[u8],
+    labels: &[u8],
+    inner: &[u8],
+    s: usize,
+    k: usize,
+    cells: &mut [u16],
+    c: u64,
+)
     requires { ⌜ DownArgs (now kinds) (now labels) (now inner) s k c (now cells) ⌝ }
     ensures { λ _. ⌜ ((leaves marks first : List ℕ)
         → PassArgs (now (kinds .entry)) (now (labels .entry)) leaves (now (inner .entry)) s k
