@@ -4,14 +4,20 @@
 --     kinds-is .. marks-is                each part is the plan's, or the rule table's
 --     first-no, no-room, all-yes          the number of the first check that fails
 --     table-yes, room-yes                 what follows where none does
+--     written-list                        a buffer whose first n numbers are known, as a list
 use Prim.Native.Nat.{ℕ, _+_, _-_, _*_, _≤_, _<_}
 use mathlib.Core.Path.{_≡_, refl, sym, ap, _∙_}
-use mathlib.Core.List.{List, [], _∷_}
+use mathlib.Core.List.{List, [], _∷_, _++_}
+use native.Mathlib.Decide.{decLt}
 use native.Mathlib.Omega.{arith}
 use native.Mathlib.Nat.{mul-le-mul-right}
 use lib.Dec.{leb}
-use lib.ListN.{length, take, drop}
+use lib.ListN.{length, getD, take, drop, length-append, length-drop, List·getD-append}
+use lib.Seq.{ext-getD}
 use borrow.Author.Tests.{le-leb, lt-leb, leb-true}
+use Rattle.list_laws.specs.Rows.{tabulate}
+use Rattle.list_laws.proofs.RowLaws.{length-tabulate, getD-tabulate}
+use Rattle.list_laws.proofs.AppendLaws.{getD-past}
 use Rattle.formats.specs.Plan.{nodeCount, labelsIn, kindsIn}
 use Rattle.formats.specs.Rules.{stateCount, labelCount, leafStates, innerStates, ruleMarks}
 use Rattle.formats.specs.Checks.{check, firstNo, ruleTableChecks}
@@ -134,3 +140,23 @@ module _ (p r : List ℕ) (m : ℕ) where
   unfolding nodeRoomChecks
   room-yes e = leb-true (nodeCount p) m (firstNo-head 11 (leb (nodeCount p) m) [] (omega arith)
       (firstNo-append-right (ruleTableChecks p r) (check 11 (leb (nodeCount p) m) ∷ []) (rule-table-numbered p r) e))
+
+-- ---- the whole buffer
+
+pub written-list : (n : ℕ) (f : ℕ → ℕ) (before after : List ℕ) → ((j : ℕ) → j < n → getD after j 0 ≡ f j)
+    → ((j : ℕ) → n ≤ j → getD after j 0 ≡ getD before j 0) → length after ≡ length before → n ≤ length before
+    → after ≡ tabulate n f ++ drop n before
+written-list n f before after w kept e room = ext-getD 0 after (tabulate n f ++ drop n before) len each
+  where
+    z : length (tabulate n f) ≡ n
+    z = length-tabulate n f
+
+    len : length after ≡ length (tabulate n f ++ drop n before)
+    len = sym (length-append (tabulate n f) (drop n before) ∙ omega (arith, z, length-drop n before))
+
+    each : (j : ℕ) → j < length after → getD after j 0 ≡ getD (tabulate n f ++ drop n before) j 0
+    each j h = elim (decLt j n) [
+      | yes l ↦ w j l ∙ sym (getD-tabulate n f j l)
+          ∙ sym (List·getD-append (tabulate n f) (drop n before) 0 j (omega (arith, z)))
+      | no l ↦ kept j (omega arith) ∙ sym (getD-past (tabulate n f) before n j z (omega arith))
+    ]

@@ -1,3 +1,4 @@
 pub mod Inputs
 pub mod Sets
 pub mod masks
+pub mod clearing

@@ -3,6 +3,8 @@
 //     check   the checks of both calls
 //     sets    the states that lead into a set
 //     masks   the labels that each node may take
+//     clearing   the states with which the plan is cleared
 mod check;
+pub mod clearing;
 pub mod masks;
 mod sets;

@@ -7,7 +7,8 @@
 --     merge, agree                                whatif_merge, whatif_agree
 --     plan-of-planner, planner-of-plan            whatif_plan_of_planner, whatif_planner_of_plan
 --     lay-over, count                             whatif_lay_over, whatif_count
---     ask, allowed                                whatif_ask, whatif_allowed
+--     ask                                         whatif_ask
+--     allowed, clearing                           whatif_allowed, whatif_clearing
 --     colour-branch-build, colour-branch, colour-branch-with-upper, colour-build, colour-ask   those by colours
 --     ..-order                                    the fixed order: the numbers of each call's checks
 -- That each promise is the function's own contract: Contracts, and whatif_version there, which refuses nothing. The
@@ -30,7 +31,7 @@ use Rattle.planner.specs.File.{outChecks, homeChecks}
 use Rattle.planner.specs.out.Out.{OutDone}
 use Rattle.planner.specs.home.Home.{HomeDone}
 use Rattle.choices.specs.question_counts.CountOn.{listedChecks, countChecks}
-use Rattle.allowed.specs.Answers.{nodeRoomChecks, AllowedDone}
+use Rattle.allowed.specs.Answers.{nodeRoomChecks, AllowedDone, ClearingDone}
 use Rattle.colour_tables.specs.branch.Build.{branchColourChecks}
 use Rattle.colour_tables.specs.rule.Build.{ruleColourChecks}
 use Rattle.colour_questions.specs.branch.Question.{colourChecks}
@@ -50,7 +51,8 @@ use Rattle.capi.proofs.product_calls.Ties.{merge-number, merge-kept, agree-numb
 use Rattle.capi.proofs.planner_calls.Ties.{out-number, out-kept, home-number, home-kept}
 use Rattle.capi.proofs.list_calls.Ties.{refused-keeps}
 use Rattle.capi.proofs.choice_calls.Ties.{count-number, count-kept}
-use Rattle.capi.proofs.allowed_calls.Ties.{allowed-number, allowed-kept}
+use Rattle.capi.proofs.allowed_calls.Ties.{allowed-number, allowed-kept, clearing-number}
+use Rattle.capi.proofs.allowed_calls.Ties.{clearing-kept}
 use Rattle.capi_branch_upper.proofs.Ties.{branch-upper-number, branch-upper-kept}
 use Rattle.whole_questions.specs.Question as whole
 use Rattle.capi_ask.specs.WholeExported.{WholeExported}
@@ -257,7 +259,11 @@ allowed : (p r masks : List ℕ) (n : ℕ) (masks′ : List ℕ) → AllowedDone
     → Answers n (nodeRoomChecks p r (length masks)) (masks′ ≡ masks)
 allowed p r m n m′ D = answers _ _ _ (allowed-number p r m n m′ D) (allowed-kept p r m n m′ D)
 
--- "Refused with the first of 2 to 10, then 11"
+clearing : (p r sets : List ℕ) (n : ℕ) (sets′ : List ℕ) → ClearingDone p r sets n sets′
+    → Answers n (nodeRoomChecks p r (length sets)) (sets′ ≡ sets)
+clearing p r b n b′ D = answers _ _ _ (clearing-number p r b n b′ D) (clearing-kept p r b n b′ D)
+
+-- of both: "Refused with the first of 2 to 10, then 11"
 node-room-order : (p r : List ℕ) (room : ℕ)
     → numbersOf (nodeRoomChecks p r room) ≡ 2 ∷ 3 ∷ 4 ∷ 5 ∷ 6 ∷ 7 ∷ 8 ∷ 9 ∷ 10 ∷ 11 ∷ []
 unfolding nodeRoomChecks ruleTableChecks planChecks ruleChecks

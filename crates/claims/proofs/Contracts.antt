@@ -14,7 +14,7 @@ use denote.Ref.{now}
 use Rattle.branches.specs.declared.answers.Reading.the-variants.{WithUpper, BelowUpper}
 use Rattle.planner.specs.out.Out.{OutDone}
 use Rattle.planner.specs.home.Home.{HomeDone}
-use Rattle.allowed.specs.Answers.{AllowedDone}
+use Rattle.allowed.specs.Answers.{AllowedDone, ClearingDone}
 use Rattle.capi.specs.table_calls.RunExported.{RunExported}
 use Rattle.capi.specs.branch_calls.BranchExported.{AskExported}
 use Rattle.capi.specs.product_calls.Exported.{MergeExported, AgreeExported}
@@ -27,7 +27,7 @@ use Rattle.capi.proofs.product_calls.Ties.{merge-tied, agree-tied}
 use Rattle.capi.proofs.planner_calls.Ties.{out-tied, home-tied}
 use Rattle.capi.proofs.list_calls.Ties.{lay-tied}
 use Rattle.capi.proofs.choice_calls.Ties.{count-tied}
-use Rattle.capi.proofs.allowed_calls.Ties.{allowed-tied}
+use Rattle.capi.proofs.allowed_calls.Ties.{allowed-tied, clearing-tied}
 use Rattle.capi_branch_upper.proofs.Ties.{branch-upper-tied}
 use Rattle.capi_ask.specs.WholeExported.{WholeExported}
 use Rattle.capi_ask.proofs.Ties.{ask-tied}
@@ -81,6 +81,9 @@ use Rattle.capi_ask.proofs.whatif_ask.Reads as ask-reads
 use Rattle.capi.proofs.allowed_calls.whatif_allowed as allowed-fn
 use Rattle.capi.proofs.allowed_calls.whatif_allowed.Kinds as allowed-kinds
 use Rattle.capi.proofs.allowed_calls.whatif_allowed.Reads as allowed-reads
+use Rattle.capi.proofs.allowed_calls.whatif_clearing as clearing-fn
+use Rattle.capi.proofs.allowed_calls.whatif_clearing.Kinds as clearing-kinds
+use Rattle.capi.proofs.allowed_calls.whatif_clearing.Reads as clearing-reads
 use Rattle.capi_colours.proofs.branch_calls.whatif_colour_branch_build as words-build-fn
 use Rattle.capi_colours.proofs.branch_calls.whatif_colour_branch_build.Kinds as words-build-kinds
 use Rattle.capi_colours.proofs.branch_calls.whatif_colour_branch_build.Reads as words-build-reads
@@ -207,6 +210,11 @@ allowed : (κs : Lfts 3) (a : ArgsD allowed-fn.signature κs) (r : ResD allowed-
     (s : AtExit (endedOf 3 allowed-kinds.ps allowed-kinds.r) κs) → allowed-reads.Post κs a r s
     → AllowedDone (now (a .0)) (now (a .1 .0)) (now (a .1 .1 .0)) r (now (s .1 .1 .0))
 allowed = allowed-tied
+
+clearing : (κs : Lfts 3) (a : ArgsD clearing-fn.signature κs) (r : ResD clearing-fn.signature κs)
+    (s : AtExit (endedOf 3 clearing-kinds.ps clearing-kinds.r) κs) → clearing-reads.Post κs a r s
+    → ClearingDone (now (a .0)) (now (a .1 .0)) (now (a .1 .1 .0)) r (now (s .1 .1 .0))
+clearing = clearing-tied
 
 -- ---- questions by colours
 

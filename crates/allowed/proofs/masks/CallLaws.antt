@@ -1,19 +1,15 @@
 -- The masks: from the two passes to the whole buffer, and the call's answers.
 --     root-args, root-down, ready   the root's set, and where the pass down begins
---     down-list, parts-list         where it ends, the buffer begins with the allowed labels
+--     parts-list                    where it ends, the buffer begins with the allowed labels
 --     done-refused, done-written    the promise
 use Prim.Native.Nat.{ℕ, _+_, _-_, _*_, _≤_, _<_}
 use mathlib.Core.Path.{_≡_, refl, sym, ap, _∙_, subst}
 use mathlib.Core.List.{List, [], _++_}
-use native.Mathlib.Decide.{ℕ-discrete, decLt}
+use native.Mathlib.Decide.{ℕ-discrete}
 use native.Mathlib.Omega.{arith}
-use lib.ListN.{length, getD, drop, length-append, length-drop, List·getD-append}
-use lib.Seq.{ext-getD, getD-set-same, getD-set-other}
-use Rattle.list_laws.specs.Rows.{tabulate}
-use Rattle.list_laws.proofs.RowLaws.{length-tabulate, getD-tabulate}
-use Rattle.list_laws.proofs.AppendLaws.{getD-past}
+use lib.ListN.{length, getD, drop}
+use lib.Seq.{getD-set-same, getD-set-other}
 use Rattle.trees.specs.Tree.{Tree, kindsOf, labelsOf, size}
-use Rattle.trees.specs.Automaton.{Automaton}
 use Rattle.trees.specs.Numbering.{sub}
 use Rattle.trees.proofs.NodeLaws.{sub-size, up, size-pos}
 use Rattle.trees.proofs.PostorderLaws.{postorder-tree, size-of, some-node}
@@ -32,7 +28,7 @@ use Rattle.allowed.specs.inner.masks.Down.{fullCell, DownDone, DownWritt
 use Rattle.allowed.specs.inner.masks.Root.{rootSet, RootArgs}
 use Rattle.allowed.proofs.StepLaws.{run-below, mark-args, marked-states}
 use Rattle.allowed.proofs.InputsLaws.{kindsPart, labelsPart, leavesPart, innerPart, marksPart}
-use Rattle.allowed.proofs.InputsLaws.{kinds-is, labels-is, leaves-is, inner-is, marks-is}
+use Rattle.allowed.proofs.InputsLaws.{kinds-is, labels-is, leaves-is, inner-is, marks-is, written-list}
 
 -- ---- the root
 
@@ -85,37 +81,20 @@ module _ (ks ls lv inn mk : List ℕ) (s k : ℕ) (G : PassArgs ks ls lv inn s k
 
 -- ---- the whole buffer
 
-pub down-list : (A : Automaton) (k : ℕ) (t : Tree) (before after : List ℕ) → DownDone A k t 0 before after
-    → length after ≡ length before → size t ≤ length before
-    → after ≡ allowedSets A k t ++ drop (size t) before
-unfolding allowedSets
-down-list A k t before after T e room = ext-getD 0 after (tabulate (size t) (allowedSet A k t) ++ drop (size t) before) len each
-  where
-    z : length (tabulate (size t) (allowedSet A k t)) ≡ size t
-    z = length-tabulate (size t) (allowedSet A k t)
-
-    len : length after ≡ length (tabulate (size t) (allowedSet A k t) ++ drop (size t) before)
-    len = sym (length-append (tabulate (size t) (allowedSet A k t)) (drop (size t) before)
-        ∙ omega (arith, z, length-drop (size t) before))
-
-    each : (j : ℕ) → j < length after → getD after j 0 ≡ getD (tabulate (size t) (allowedSet A k t) ++ drop (size t) before) j 0
-    each j h = elim (decLt j (size t)) [
-      | yes l ↦ T .done j (omega arith) l ∙ sym (getD-tabulate (size t) (allowedSet A k t) j l)
-          ∙ sym (List·getD-append (tabulate (size t) (allowedSet A k t)) (drop (size t) before) 0 j (omega (arith, z)))
-      | no l ↦ T .kept j (omega arith) ∙ sym (getD-past (tabulate (size t) (allowedSet A k t)) before (size t) j z (omega arith))
-    ]
-
 module _ {p r : List ℕ} {n s k m : ℕ} (a : CallArgs p r n s k m) (c : ℕ) (ec : c ≡ s * k * s) where
   pub parts-list : (before after : List ℕ) → length before ≡ m → length after ≡ length before
       → DownWritten (kindsPart p n) (labelsPart p n) (leavesPart r k) (innerPart r k c) (marksPart r k c) s k 0 before after
       → after ≡ allowedOver p r before
+  unfolding allowedSets
   parts-list before after em el D =
       let h : PlanPasses p = rule-table-passes p r (a .passed) .0 in
       let E : DownWritten (kindsIn p) (labelsIn p) (leafStates r) (innerStates r) (ruleMarks r) (stateCount r) (labelCount r) 0 before after =
       rw (← kinds-is a c ec, ← labels-is a c ec, ← leaves-is a c ec, ← inner-is a c ec, ← marks-is a c ec, ← a .states-are, ← a .labels-are) D in
       let z : size (planTree p) ≡ nodeCount p = size-planTree p h in
-      down-list (ruleAutomaton r) (labelCount r) (planTree p) before after
-      (E (planTree p) (kinds-planTree p h) (labels-planTree p h)) el (omega (arith, z, a .room, a .nodes-are))
+      let F : DownDone (ruleAutomaton r) (labelCount r) (planTree p) 0 before after =
+      E (planTree p) (kinds-planTree p h) (labels-planTree p h) in
+      written-list (size (planTree p)) (allowedSet (ruleAutomaton r) (labelCount r) (planTree p)) before after
+      (λ j l. F .done j (omega arith) l) (F .kept) el (omega (arith, z, a .room, a .nodes-are))
       ∙ ap (λ (i : ℕ). allowedSets (ruleAutomaton r) (labelCount r) (planTree p) ++ drop i before) z
 
 -- ---- the call's answers

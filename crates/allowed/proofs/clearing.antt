@@ -1,0 +1,4 @@
+pub mod FirstLaws
+pub mod UpLoop
+pub mod DownLoop
+pub mod CallLaws
