@@ -5,6 +5,9 @@ use crate::answers::Branching;
 use crate::answers::Reading;
 use formats::buffers::branch_buffers_fit;
 use formats::bytes::read32;
+use formats::layout::BRANCH_HEAD;
+use formats::layout::LABEL_COUNT_AT;
+use formats::layout::PLAN_HEAD;
 use tables::answers::Climbed;
 use tables::node_tables::moves::depth_at;
 use tables::node_tables::moves::is_below;
@@ -76,16 +79,16 @@ fn answer_branch(
 {
     let n = read32(plan, 0);
     let s = read32(branch, 0);
-    let k = read32(branch, 4);
-    let labels = &plan[12..12 + n];
-    let steps = &branch[16..16 + s * k];
+    let k = read32(branch, LABEL_COUNT_AT);
+    let labels = &plan[PLAN_HEAD..PLAN_HEAD + n];
+    let steps = &branch[BRANCH_HEAD..BRANCH_HEAD + s * k];
     let to = depth_at(node_table, u);
     let q = first_state(reading, labels, steps, s, k, u);
     if s <= q {
         return Branching::Refused(18);
     }
     let end = replay_climb(labels, steps, node_table, state_table, n, s, k, l, to, q);
-    finish_answer(end, &branch[16 + s * k..])
+    finish_answer(end, &branch[BRANCH_HEAD + s * k..])
 }
 
 // A branch question in either reading. It takes N, S and K from the given headers and asks 17, 13, 16 and 18 in this

@@ -3,6 +3,9 @@ use crate::maps::fill_maps;
 use crate::steps::fill_steps;
 use formats::bytes::read32;
 use formats::inputs::check_branch_build;
+use formats::layout::BRANCH_HEAD;
+use formats::layout::LABEL_COUNT_AT;
+use formats::layout::PLAN_HEAD;
 use tables::answers::Building;
 use tables::node_tables::build::build_node_table;
 ghost use lib.ListN.{length};
@@ -48,9 +51,9 @@ fn write_branch(
         (now («state_table» .entry)) (now («node_table» .exit)) (now («state_table» .exit)) ⌝ }
 {
     fill_branch(
-        &plan[12..12 + n],
-        &plan[12 + n..],
-        &branch[16..16 + s * k],
+        &plan[PLAN_HEAD..PLAN_HEAD + n],
+        &plan[PLAN_HEAD + n..],
+        &branch[BRANCH_HEAD..BRANCH_HEAD + s * k],
         s,
         k,
         node_table,
@@ -77,7 +80,7 @@ pub fn build_branch_tables(
     }
     let n = read32(plan, 0);
     let s = read32(branch, 0);
-    let k = read32(branch, 4);
+    let k = read32(branch, LABEL_COUNT_AT);
     write_branch(plan, branch, n, s, k, node_table, state_table);
     Building::Built
 }

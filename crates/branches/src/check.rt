@@ -3,6 +3,9 @@ use crate::check_maps::check_maps;
 use crate::check_steps::check_steps;
 use formats::bytes::read32;
 use formats::inputs::check_branch_build;
+use formats::layout::BRANCH_HEAD;
+use formats::layout::LABEL_COUNT_AT;
+use formats::layout::PLAN_HEAD;
 use tables::answers::Checking;
 use tables::node_tables::check::check_node_table;
 ghost use mathlib.Core.Path.{_≡_};
@@ -55,9 +58,9 @@ fn branch_matches(
         (builtBranchTable (now (plan .entry)) (now (branch .entry))) (now («node_table» .entry)) (now («state_table» .entry)) ⌝ }
 {
     tables_match(
-        &plan[12..12 + n],
-        &plan[12 + n..],
-        &branch[16..16 + s * k],
+        &plan[PLAN_HEAD..PLAN_HEAD + n],
+        &plan[PLAN_HEAD + n..],
+        &branch[BRANCH_HEAD..BRANCH_HEAD + s * k],
         s,
         k,
         node_table,
@@ -84,7 +87,7 @@ pub fn check_branch_tables(
     }
     let n = read32(plan, 0);
     let s = read32(branch, 0);
-    let k = read32(branch, 4);
+    let k = read32(branch, LABEL_COUNT_AT);
     if branch_matches(plan, branch, n, s, k, node_table, state_table) {
         return Checking::Yes;
     }

@@ -1,4 +1,6 @@
 // The maps of the caller's table compared with those of a branch table's build, from the root down.
+use formats::layout::JUMP;
+use formats::layout::NODE_COLUMNS;
 use tables::compare::near_row_is;
 use tables::compare::root_row_is;
 ghost use mathlib.Core.Path.{_≡_};
@@ -56,12 +58,12 @@ fn node_map_is(
         (nodeMap (now (labels .entry)) (now («node_table» .entry)) (now (steps .entry)) s k (now («state_table» .entry)) v) ⌝ }
 {
     let a = labels[v] as usize;
-    let p = node_table[v * 4] as usize;
-    let j = node_table[v * 4 + 1] as usize;
+    let p = node_table[v * NODE_COLUMNS] as usize;
+    let j = node_table[v * NODE_COLUMNS + JUMP] as usize;
     if j == p {
         return near_row_is(state_table, s, v, steps, a, k);
     }
-    let far = node_table[p * 4 + 1] as usize;
+    let far = node_table[p * NODE_COLUMNS + JUMP] as usize;
     step_row_is(state_table, s, v, p, far, steps, k, a)
 }
 

@@ -1,5 +1,6 @@
 // The state bytes of the caller's table compared with those of a branch table's build, from the root down.
 use crate::steps::START;
+use formats::layout::NODE_COLUMNS;
 ghost use lib.ListN.{length};
 ghost use Rattle.branches.specs.inner.BranchGiven.{BranchArgs};
 ghost use Rattle.branches.specs.inner.BranchTests.{StepsTested};
@@ -30,7 +31,7 @@ pub fn check_steps(
     let mut v = root;
     while 0 < v {
         v -= 1;
-        let p = node_table[v * 4] as usize;
+        let p = node_table[v * NODE_COLUMNS] as usize;
         let q = state_table[p * w] as usize;
         let a = labels[v] as usize;
         let x = steps[q * k + a];

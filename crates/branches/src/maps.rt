@@ -1,4 +1,6 @@
 // The maps of a branch table's build: from the state after the jump's label to the state after the node's.
+use formats::layout::JUMP;
+use formats::layout::NODE_COLUMNS;
 use tables::rows::near_row;
 use tables::rows::same_row;
 ghost use lib.ListN.{length};
@@ -49,12 +51,12 @@ fn label_map(
         (now («state_table» .entry)) (now («state_table» .exit)) ⌝ }
 {
     let a = labels[v] as usize;
-    let p = node_table[v * 4] as usize;
-    let j = node_table[v * 4 + 1] as usize;
+    let p = node_table[v * NODE_COLUMNS] as usize;
+    let j = node_table[v * NODE_COLUMNS + JUMP] as usize;
     if j == p {
         near_row(state_table, s, v, steps, a, k);
     } else {
-        let far = node_table[p * 4 + 1] as usize;
+        let far = node_table[p * NODE_COLUMNS + JUMP] as usize;
         step_row(state_table, s, v, p, far, steps, k, a);
     }
 }

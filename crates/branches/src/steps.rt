@@ -1,4 +1,5 @@
 // The state bytes of a branch table's build: the state after each node's label on the word from the root.
+use formats::layout::NODE_COLUMNS;
 ghost use lib.ListN.{length};
 ghost use Rattle.branches.specs.inner.BranchGiven.{BranchArgs, Stepped};
 
@@ -26,7 +27,7 @@ pub fn fill_steps(
     let mut v = root;
     while 0 < v {
         v -= 1;
-        let p = node_table[v * 4] as usize;
+        let p = node_table[v * NODE_COLUMNS] as usize;
         let q = state_table[p * w] as usize;
         let a = labels[v] as usize;
         state_table[v * w] = steps[q * k + a];

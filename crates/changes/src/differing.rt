@@ -2,6 +2,7 @@
 // plan's.
 //     LeftNodes   these nodes
 //     differing   the test of a whole list
+use formats::limits::CHANGE_LIMIT;
 use formats::lists::is_listed;
 use formats::lists::lists_fit;
 ghost use Prim.Native.Nat.{_+_, _≤_};
@@ -10,13 +11,14 @@ ghost use mathlib.Core.Bool.{cond};
 ghost use mathlib.Core.List.{[]};
 ghost use lib.ListN.{length, drop, getD};
 ghost use Rattle.list_laws.specs.Tests.{holds};
+ghost use Rattle.formats.specs.Limits.{changeLimit};
 ghost use Rattle.changes.specs.inner.LastPlaces.{LastPlaces, PlaceArgs};
 ghost use Rattle.changes.specs.inner.LastDiffering.{isLeft, leftIn, leftNodes, pushed, KeepArgs, DifferingDone};
 
 // The first `count` nodes are those that are left, each once; the rest is zero.
 pub struct LeftNodes {
     pub count: usize,
-    pub nodes: [u16; 64],
+    pub nodes: [u16; CHANGE_LIMIT],
 }
 
 // No node.
@@ -25,7 +27,7 @@ fn none_left() -> LeftNodes
 {
     LeftNodes {
         count: 0,
-        nodes: [0u16; 64],
+        nodes: [0u16; CHANGE_LIMIT],
     }
 }
 
@@ -42,7 +44,7 @@ fn label_at(labels: &[u8], v: u16) -> u8
 
 // Stores for each remainder of a node by 256 the place of the last entry whose node has it.
 fn put_places(nodes: &[u16], last: &mut [u8; 256])
-    requires { ⌜ (length (now nodes) ≤ 64) × (length (now last) ≡ 256) ⌝ }
+    requires { ⌜ (length (now nodes) ≤ changeLimit) × (length (now last) ≡ 256) ⌝ }
     ensures { λ _. ⌜ LastPlaces (length (now (nodes .entry))) (now (nodes .entry)) (now (last .exit)) ⌝ }
 {
     let mut i = 0;
@@ -68,7 +70,7 @@ fn is_superseded(nodes: &[u16], last: &[u8; 256], i: usize) -> bool
 // The entry at place i: its node is one more where it has no later entry and the label is not its own. Returns how many
 // there are.
 fn keep(
-    left: &mut [u16; 64],
+    left: &mut [u16; CHANGE_LIMIT],
     count: usize,
     labels: &[u8],
     nodes: &[u16],
@@ -104,7 +106,7 @@ pub fn differing(labels: &[u8], nodes: &[u16], changes: &[u8]) -> LeftNodes
     }
     let mut last = [0u8; 256];
     put_places(nodes, &mut last);
-    let mut left = [0u16; 64];
+    let mut left = [0u16; CHANGE_LIMIT];
     let mut count = 0;
     let mut i = 0;
     while i < nodes.len() {

@@ -16,6 +16,7 @@ use lib.Dec.{eqb}
 use lib.ListN.{length, getD, replicate}
 use Rattle.list_laws.specs.Rows.{tabulate}
 use Rattle.trees.specs.Tree.{Tree, size, labelsOf}
+use Rattle.formats.specs.Limits.{stateLimit}
 use Rattle.formats.specs.Plan.{nodeCount, planTree}
 use Rattle.formats.specs.Rules.{stateCount, labelCount, ruleAutomaton}
 use Rattle.formats.specs.Checks.{firstNo}
@@ -33,10 +34,10 @@ use Rattle.choices.specs.question_counts.CountOn.{openIn, countView, roo
 use Rattle.choices.specs.declared.count.Counted.{Counted}
 
 abbrev pub refusedWith : ℕ → Counted
-refusedWith n = record { answer = n; counts = replicate 16 0; parts = 0; links = 0 }
+refusedWith n = record { answer = n; counts = replicate stateLimit 0; parts = 0; links = 0 }
 
 abbrev pub countedWith : (ℕ → ℕ) → ℕ → ℕ → Counted
-countedWith f parts links = record { answer = 0; counts = tabulate 16 f; parts = parts; links = links }
+countedWith f parts links = record { answer = 0; counts = tabulate stateLimit f; parts = parts; links = links }
 
 -- the named result on the roots ms
 abbrev pub countedAt : View → List ℕ → List ℕ → Counted

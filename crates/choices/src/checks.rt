@@ -3,6 +3,8 @@ use crate::part_steps::limit::assignments_fit;
 use formats::buffers::headers_fit;
 use formats::buffers::rule_buffers_fit;
 use formats::bytes::read32;
+use formats::layout::LABEL_COUNT_AT;
+use formats::layout::RULES_HEAD;
 use formats::limits::CHANGE_LIMIT;
 use formats::lists::all_distinct;
 use formats::lists::nodes_below;
@@ -18,12 +20,12 @@ pub fn rule_headers_fit(plan: &[u8], rules: &[u8], node_table: &[u16], state_tab
         ≡ headedBuffersFit ruleTables (now (plan .entry)) (now (rules .entry)) (length (now («node_table» .entry)))
         (length (now («state_table» .entry))) ⌝ }
 {
-    if !headers_fit(plan, rules, 20) {
+    if !headers_fit(plan, rules, RULES_HEAD) {
         return false;
     }
     let n = read32(plan, 0);
     let s = read32(rules, 0);
-    let k = read32(rules, 4);
+    let k = read32(rules, LABEL_COUNT_AT);
     rule_buffers_fit(
         n,
         s,
@@ -58,7 +60,7 @@ pub fn check_count(
     if !all_distinct(nodes) {
         return 15;
     }
-    if !assignments_fit(read32(rules, 4) as u64, nodes.len()) {
+    if !assignments_fit(read32(rules, LABEL_COUNT_AT) as u64, nodes.len()) {
         return 26;
     }
     0

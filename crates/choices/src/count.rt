@@ -3,6 +3,12 @@ use crate::checks::check_count;
 use crate::part_steps::side::copy_row;
 use crate::parts::all_parts;
 use formats::bytes::read32;
+use formats::layout::LABEL_COUNT_AT;
+use formats::layout::NODE_COLUMNS;
+use formats::layout::PLAN_HEAD;
+use formats::layout::RULES_HEAD;
+use formats::limits::PART_LIMIT;
+use formats::limits::STATE_LIMIT;
 use formats::rules::all_below;
 use questions::roots::roots;
 ghost use mathlib.Core.Path.{_≡_};
@@ -15,7 +21,7 @@ ghost use Rattle.choices.specs.inner.Count.{countedFor, countedOn, RootA
 // The answer's number, the counts by state, how many parts there were and the links of their climbs.
 pub struct Counted {
     pub answer: u8,
-    pub counts: [u64; 16],
+    pub counts: [u64; STATE_LIMIT],
     pub parts: u32,
     pub links: u32,
 }
@@ -26,17 +32,17 @@ fn refused(answer: u8) -> Counted
 {
     Counted {
         answer,
-        counts: [0u64; 16],
+        counts: [0u64; STATE_LIMIT],
         parts: 0,
         links: 0,
     }
 }
 
 // Room for the counts of the largest number of parts, 16 for each.
-fn room_for_parts() -> [u64; 4064]
+fn room_for_parts() -> [u64; PART_LIMIT * STATE_LIMIT]
     ensures { λ r. ⌜ length r ≡ 4064 ⌝ }
 {
-    [0u64; 4064]
+    [0u64; PART_LIMIT * STATE_LIMIT]
 }
 
 // The count for these roots: part by part, of which the last is the plan's root.
@@ -78,8 +84,8 @@ fn count_parts(
         return refused(18);
     }
     let p = roots.len();
-    let mut counts = [0u64; 16];
-    copy_row(&table[..p * 16], p - 1, &mut counts);
+    let mut counts = [0u64; STATE_LIMIT];
+    copy_row(&table[..p * STATE_LIMIT], p - 1, &mut counts);
     Counted {
         answer: 0,
         counts,
@@ -150,11 +156,11 @@ fn count_runs(
         (now («state_table» .entry))) (now (nodes .entry)) ⌝ }
 {
     count_on(
-        &plan[12..12 + n],
-        &plan[12 + n..],
-        &rules[20..20 + k],
-        &rules[20 + k..20 + k + s * k * s],
-        &node_table[..n * 4],
+        &plan[PLAN_HEAD..PLAN_HEAD + n],
+        &plan[PLAN_HEAD + n..],
+        &rules[RULES_HEAD..RULES_HEAD + k],
+        &rules[RULES_HEAD + k..RULES_HEAD + k + s * k * s],
+        &node_table[..n * NODE_COLUMNS],
         &state_table[..n * (s + 1)],
         n,
         s,
@@ -181,6 +187,6 @@ pub fn count(
     }
     let n = read32(plan, 0);
     let s = read32(rules, 0);
-    let k = read32(rules, 4);
+    let k = read32(rules, LABEL_COUNT_AT);
     count_runs(n, s, k, plan, rules, node_table, state_table, nodes)
 }

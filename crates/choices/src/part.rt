@@ -1,6 +1,7 @@
 // The counts of one part, after those of the earlier roots, for any inputs.
 use crate::part_steps::carry::Carried;
 use crate::part_steps::root::root_counts;
+use formats::limits::STATE_LIMIT;
 use questions::part::last_below;
 use tables::node_tables::moves::size_at;
 ghost use mathlib.Core.Path.{_≡_};
@@ -80,6 +81,8 @@ fn places_below(kinds: &[u8], node_table: &[u16], earlier: &[u16], v: usize) -> 
 
 // The counts of root v, open or not, where `table` has those of the earlier roots, 16 for each. `out` is 0 at first.
 // Not ok where v's own label is none, or a value read leads outside the plan or the states.
+// Its many parameters are the runs of plan, rule table and tables, and N, S and K: a struct of slices would need a
+// proof of its borrows by hand (docs/DECISIONS.md, "Many parameters").
 pub fn part_counts(
     labels: &[u8],
     kinds: &[u8],
@@ -94,7 +97,7 @@ pub fn part_counts(
     table: &[u64],
     free: bool,
     v: usize,
-    out: &mut [u64; 16],
+    out: &mut [u64; STATE_LIMIT],
 ) -> Carried
     requires { ⌜ PartNeeds n s k (now labels) (now kinds) (now leaves) (now inner) (now «node_table»)
         (now «state_table») (now earlier) (now table) v (now out) ⌝ }

@@ -1,6 +1,7 @@
 // The counts of all parts, in rising node number, for any inputs.
 use crate::part::part_counts;
 use crate::part_steps::carry::Carried;
+use formats::limits::STATE_LIMIT;
 use formats::lists::is_listed;
 ghost use mathlib.Core.Path.{_≡_};
 ghost use Prim.Native.Nat.{ℕ, _≤_};
@@ -9,18 +10,19 @@ ghost use Rattle.choices.specs.inner.Parts.{PutArgs, RowPut, NextArgs, R
 ghost use Rattle.choices.specs.inner.Parts.{NextCounted, AllArgs, AllCounted};
 
 // Writes the counts of part i into those of all parts, 16 for each.
-fn put_row(table: &mut [u64], i: usize, row: &[u64; 16])
+fn put_row(table: &mut [u64], i: usize, row: &[u64; STATE_LIMIT])
     requires { ⌜ PutArgs (now table) i (now row) ⌝ }
     ensures { λ _. ⌜ RowPut (now (table .entry)) i (now (row .entry)) (now (table .exit)) ⌝ }
 {
     let mut c: usize = 0;
-    while c < 16 {
-        table[i * 16 + c] = row[c];
+    while c < STATE_LIMIT {
+        table[i * STATE_LIMIT + c] = row[c];
         c += 1;
     }
 }
 
 // The counts of root v, from those of the earlier roots at the beginning of `table`.
+// On the many parameters see docs/DECISIONS.md, "Many parameters".
 fn part_row(
     labels: &[u8],
     kinds: &[u8],
@@ -35,7 +37,7 @@ fn part_row(
     earlier: &[u16],
     table: &[u64],
     v: usize,
-    out: &mut [u64; 16],
+    out: &mut [u64; STATE_LIMIT],
 ) -> Carried
     requires { ⌜ RowArgs n s k (now labels) (now kinds) (now leaves) (now inner) (now «node_table») (now «state_table»)
         (now nodes) (now earlier) (now table) v (now out) ⌝ }
@@ -44,7 +46,7 @@ fn part_row(
         (now (earlier .entry)) (now (table .entry)) v a (now (out .exit)) ⌝ }
 {
     let free = is_listed(v as u16, nodes);
-    let end = earlier.len() * 16;
+    let end = earlier.len() * STATE_LIMIT;
     part_counts(
         labels,
         kinds,
@@ -64,6 +66,7 @@ fn part_row(
 }
 
 // The same, written into `table` behind those of the earlier roots.
+// On the many parameters see docs/DECISIONS.md, "Many parameters".
 fn next_part(
     labels: &[u8],
     kinds: &[u8],
@@ -85,7 +88,7 @@ fn next_part(
         (now (inner .entry)) (now («node_table» .entry)) (now («state_table» .entry))) (now (nodes .entry))
         (now (earlier .entry)) (now (table .entry)) v a (now (table .exit)) ⌝ }
 {
-    let mut row = [0u64; 16];
+    let mut row = [0u64; STATE_LIMIT];
     let x = part_row(
         labels,
         kinds,

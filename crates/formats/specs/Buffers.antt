@@ -14,6 +14,7 @@ use mathlib.Core.Bool.{Bool, _&&_}
 use mathlib.Core.List.{List}
 use lib.Dec.{leb, eqb}
 use lib.ListN.{length}
+use Rattle.formats.specs.Layout.{planHead, rulesHead, branchHead}
 use Rattle.formats.specs.Limits.{nodeLimit, stateLimit, labelLimit, within}
 use Rattle.formats.specs.Plan.{nodeCount, planLength}
 use Rattle.formats.specs.Rules.{stateCount, labelCount, ruleLength, branchLength}
@@ -33,15 +34,15 @@ pub record TableKind : Type 0 where
   pub exact : ℕ → ℕ → ℕ
 
 abbrev pub ruleTables : TableKind
-ruleTables = record { header = 20; exact = λ s k. ruleLength s k }
+ruleTables = record { header = rulesHead; exact = λ s k. ruleLength s k }
 
 abbrev pub branchTables : TableKind
-branchTables = record { header = 16; exact = λ s k. branchLength s k }
+branchTables = record { header = branchHead; exact = λ s k. branchLength s k }
 
 -- "A branch question takes N, S and K from the lent headers: 17, also for a header cut short or a number outside its limits"
 unfoldable pub headersFit : ℕ → List ℕ → List ℕ → Bool
 headersFit header p r =
-    leb 12 (length p) && (leb header (length r) && limitsFit (nodeCount p) (stateCount r) (labelCount r))
+    leb planHead (length p) && (leb header (length r) && limitsFit (nodeCount p) (stateCount r) (labelCount r))
 
 unfoldable pub headedBuffersFit : TableKind → List ℕ → List ℕ → ℕ → ℕ → Bool
 headedBuffersFit kind p r nodeTable stateTable =
@@ -49,6 +50,6 @@ headedBuffersFit kind p r nodeTable stateTable =
     && buffersFit (nodeCount p) (stateCount r) (kind .exact (stateCount r) (labelCount r)) (length p) (length r) nodeTable stateTable
 
 pub record LimitArgs (n s k : ℕ) : Type 0 where
-  pub most : n ≤ 65535
-  pub few : s ≤ 16
-  pub labels : k ≤ 64
+  pub most : n ≤ nodeLimit
+  pub few : s ≤ stateLimit
+  pub labels : k ≤ labelLimit

@@ -15,6 +15,7 @@ use mathlib.Core.List.{List, [], _∷_, _++_}
 use lib.Dec.{leb, eqb}
 use lib.ListN.{length}
 use Rattle.trees.specs.Postorder.{isPostorder}
+use Rattle.formats.specs.Layout.{planHead, rulesHead, branchHead, nodeColumns}
 use Rattle.formats.specs.Bytes.{le32}
 use Rattle.list_laws.specs.Tests.{allBelow}
 use Rattle.formats.specs.Limits.{nodeLimit, stateLimit, labelLimit, changeLimit, within}
@@ -37,9 +38,9 @@ firstNo (c ∷ cs) = cond (c .passes) (firstNo cs) (c .number)
 -- one at the end? 5"
 unfoldable pub planChecks : List ℕ → List Check
 planChecks p =
-    check 2 (leb 12 (length p))
+    check 2 (leb planHead (length p))
     ∷ check 3 (within 1 nodeLimit (nodeCount p))
-    ∷ check 4 (eqb (le32 p 4) 12 && (eqb (le32 p 8) (12 + nodeCount p) && eqb (length p) (planLength (nodeCount p))))
+    ∷ check 4 (eqb (le32 p 4) planHead && (eqb (le32 p 8) (planHead + nodeCount p) && eqb (length p) (planLength (nodeCount p))))
     ∷ check 5 (isPostorder (kindsIn p))
     ∷ []
 
@@ -47,21 +48,21 @@ planChecks p =
 -- 0 or 1? 9"
 unfoldable pub ruleChecks : List ℕ → List Check
 ruleChecks r =
-    check 6 (leb 20 (length r))
+    check 6 (leb rulesHead (length r))
     ∷ check 7 (within 1 stateLimit (stateCount r) && within 1 labelLimit (labelCount r))
-    ∷ check 8 (eqb (le32 r 8) 20
-    && (eqb (le32 r 12) (20 + labelCount r)
-    && (eqb (le32 r 16) (20 + labelCount r + stateCount r * labelCount r * stateCount r)
+    ∷ check 8 (eqb (le32 r 8) rulesHead
+    && (eqb (le32 r 12) (rulesHead + labelCount r)
+    && (eqb (le32 r 16) (rulesHead + labelCount r + stateCount r * labelCount r * stateCount r)
     && eqb (length r) (ruleLength (stateCount r) (labelCount r)))))
     ∷ check 9 (allBelow (stateCount r) (leafStates r) && (allBelow (stateCount r) (innerStates r) && allBelow 2 (ruleMarks r)))
     ∷ []
 
 unfoldable pub branchChecks : List ℕ → List Check
 branchChecks r =
-    check 6 (leb 16 (length r))
+    check 6 (leb branchHead (length r))
     ∷ check 7 (within 1 stateLimit (stateCount r) && within 1 labelLimit (labelCount r))
-    ∷ check 8 (eqb (le32 r 8) 16
-    && (eqb (le32 r 12) (16 + stateCount r * labelCount r) && eqb (length r) (branchLength (stateCount r) (labelCount r))))
+    ∷ check 8 (eqb (le32 r 8) branchHead
+    && (eqb (le32 r 12) (branchHead + stateCount r * labelCount r) && eqb (length r) (branchLength (stateCount r) (labelCount r))))
     ∷ check 9 (allBelow (stateCount r) (branchSteps r) && allBelow 2 (branchMarks r))
     ∷ []
 
@@ -70,7 +71,7 @@ abbrev pub labelCheck : List ℕ → ℕ → Check
 labelCheck p k = check 10 (allBelow k (labelsIn p))
 
 abbrev pub nodeTableLength : ℕ → ℕ
-nodeTableLength n = n * 4
+nodeTableLength n = n * nodeColumns
 
 abbrev pub stateTableLength : ℕ → ℕ → ℕ
 stateTableLength n s = n * (s + 1)

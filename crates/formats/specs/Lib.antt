@@ -1,5 +1,6 @@
 pub mod Bytes
 pub mod Limits
+pub mod Layout
 pub mod Plan
 pub mod Rules
 pub mod Checks

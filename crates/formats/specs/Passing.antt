@@ -8,6 +8,8 @@ use mathlib.Core.Bool.{true}
 use mathlib.Core.List.{List}
 use lib.ListN.{length}
 use Rattle.trees.specs.Postorder.{isPostorder}
+use Rattle.formats.specs.Layout.{planHead}
+use Rattle.formats.specs.Limits.{nodeLimit}
 use Rattle.formats.specs.Bytes.{le32}
 use Rattle.formats.specs.Plan.{nodeCount, planLength, kindsIn}
 use Rattle.formats.specs.Rules.{stateCount, labelCount}
@@ -16,11 +18,11 @@ use Rattle.formats.specs.Built.{builtNodeTable}
 use Rattle.formats.specs.Inputs.{Inputs, Sizes, usedNodeTable}
 
 pub record PlanPasses (p : List ℕ) : Type 0 where
-  pub long : 12 ≤ length p
+  pub long : planHead ≤ length p
   pub least : 1 ≤ nodeCount p
-  pub most : nodeCount p ≤ 65535
-  pub labels-at : le32 p 4 ≡ 12
-  pub kinds-at : le32 p 8 ≡ 12 + nodeCount p
+  pub most : nodeCount p ≤ nodeLimit
+  pub labels-at : le32 p 4 ≡ planHead
+  pub kinds-at : le32 p 8 ≡ planHead + nodeCount p
   pub exact : length p ≡ planLength (nodeCount p)
   pub postorder : isPostorder (kindsIn p) ≡ true
 

@@ -10,6 +10,7 @@ use mathlib.Core.List.{List, _++_}
 use lib.ListN.{take, drop}
 use Rattle.trees.specs.Tree.{Tree, size, kindsOf, labelsOf}
 use Rattle.trees.specs.Postorder.{treeOf}
+use Rattle.formats.specs.Layout.{planHead}
 use Rattle.formats.specs.Bytes.{le32, le32Bytes}
 
 -- "A header of three 32-bit numbers: node count N, offset of the labels (always 12), offset of the kinds (always 12+N)."
@@ -18,18 +19,18 @@ nodeCount p = le32 p 0
 
 -- "Length 12+2N exactly."
 abbrev pub planLength : ℕ → ℕ
-planLength n = 12 + 2 * n
+planLength n = planHead + 2 * n
 
 -- "Then N label bytes and N kind bytes, 0 leaf, 1 inner."
 abbrev pub labelsIn : List ℕ → List ℕ
-labelsIn p = take (nodeCount p) (drop 12 p)
+labelsIn p = take (nodeCount p) (drop planHead p)
 
 abbrev pub kindsIn : List ℕ → List ℕ
-kindsIn p = take (nodeCount p) (drop (12 + nodeCount p) p)
+kindsIn p = take (nodeCount p) (drop (planHead + nodeCount p) p)
 
 -- "Nodes stand in post-order and are numbered from 0. An inner node takes the two trees last completed, the earlier as left child."
 abbrev pub planTree : List ℕ → Tree
 planTree p = treeOf (kindsIn p) (labelsIn p)
 
 unfoldable pub planBytes : Tree → List ℕ
-planBytes t = le32Bytes (size t) ++ (le32Bytes 12 ++ (le32Bytes (12 + size t) ++ (labelsOf t ++ kindsOf t)))
+planBytes t = le32Bytes (size t) ++ (le32Bytes planHead ++ (le32Bytes (planHead + size t) ++ (labelsOf t ++ kindsOf t)))

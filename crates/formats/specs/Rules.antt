@@ -10,6 +10,7 @@ use mathlib.Core.List.{List}
 use lib.Dec.{eqb}
 use lib.ListN.{getD, take, drop}
 use Rattle.trees.specs.Automaton.{Automaton, WordAutomaton}
+use Rattle.formats.specs.Layout.{rulesHead, branchHead}
 use Rattle.formats.specs.Bytes.{le32}
 
 -- "S states, K labels, .."
@@ -24,16 +25,16 @@ labelCount r = le32 r 4
 -- S marks, 0 or 1. Nothing follows."
 
 abbrev pub ruleLength : ℕ → ℕ → ℕ
-ruleLength s k = 20 + k + s * k * s + s
+ruleLength s k = rulesHead + k + s * k * s + s
 
 abbrev pub leafStates : List ℕ → List ℕ
-leafStates r = take (labelCount r) (drop 20 r)
+leafStates r = take (labelCount r) (drop rulesHead r)
 
 abbrev pub innerStates : List ℕ → List ℕ
-innerStates r = take (stateCount r * labelCount r * stateCount r) (drop (20 + labelCount r) r)
+innerStates r = take (stateCount r * labelCount r * stateCount r) (drop (rulesHead + labelCount r) r)
 
 abbrev pub ruleMarks : List ℕ → List ℕ
-ruleMarks r = take (stateCount r) (drop (20 + labelCount r + stateCount r * labelCount r * stateCount r) r)
+ruleMarks r = take (stateCount r) (drop (rulesHead + labelCount r + stateCount r * labelCount r * stateCount r) r)
 
 abbrev pub treeAutomaton : ℕ → ℕ → List ℕ → List ℕ → List ℕ → Automaton
 treeAutomaton s k lv inn mk =
@@ -46,13 +47,13 @@ ruleAutomaton r = treeAutomaton (stateCount r) (labelCount r) (leafStates r) (in
 -- reads label a at s×K+a; S marks."
 
 abbrev pub branchLength : ℕ → ℕ → ℕ
-branchLength s k = 16 + s * k + s
+branchLength s k = branchHead + s * k + s
 
 abbrev pub branchSteps : List ℕ → List ℕ
-branchSteps r = take (stateCount r * labelCount r) (drop 16 r)
+branchSteps r = take (stateCount r * labelCount r) (drop branchHead r)
 
 abbrev pub branchMarks : List ℕ → List ℕ
-branchMarks r = take (stateCount r) (drop (16 + stateCount r * labelCount r) r)
+branchMarks r = take (stateCount r) (drop (branchHead + stateCount r * labelCount r) r)
 
 abbrev pub wordAutomaton : ℕ → ℕ → List ℕ → List ℕ → WordAutomaton
 wordAutomaton s k st mk = record { states = s; step = λ q a. getD st (q * k + a) 0; accepting = λ q. eqb (getD mk q 0) 1 }

@@ -1,5 +1,7 @@
 // Branch tables: checks 6 to 9.
 use crate::bytes::read32;
+use crate::layout::BRANCH_HEAD;
+use crate::layout::LABEL_COUNT_AT;
 use crate::rules::all_below;
 use crate::rules::counts_fit;
 ghost use mathlib.Core.Path.{_≡_};
@@ -20,8 +22,8 @@ fn branch_shape(branch: &[u8], s: usize, k: usize) -> bool
     requires { ⌜ Headed (now branch) 16 s k ⌝ }
     ensures { λ r. ⌜ r ≡ branchShape (now (branch .entry)) s k ⌝ }
 {
-    let marks = 16 + step_count(s, k);
-    if read32(branch, 8) != 16 {
+    let marks = BRANCH_HEAD + step_count(s, k);
+    if read32(branch, 8) != BRANCH_HEAD {
         return false;
     }
     if read32(branch, 12) != marks {
@@ -35,8 +37,8 @@ fn branch_values(branch: &[u8], s: usize, k: usize) -> bool
     requires { ⌜ BranchSized (now branch) s k ⌝ }
     ensures { λ r. ⌜ r ≡ branchValues (now (branch .entry)) s k ⌝ }
 {
-    let marks = 16 + step_count(s, k);
-    if !all_below(&branch[16..marks], s as u8) {
+    let marks = BRANCH_HEAD + step_count(s, k);
+    if !all_below(&branch[BRANCH_HEAD..marks], s as u8) {
         return false;
     }
     all_below(&branch[marks..], 2)
@@ -46,11 +48,11 @@ fn branch_values(branch: &[u8], s: usize, k: usize) -> bool
 pub fn check_branch_bytes(branch: &[u8]) -> u8
     ensures { λ r. ⌜ r ≡ firstNo (branchChecks (now (branch .entry))) ⌝ }
 {
-    if branch.len() < 16 {
+    if branch.len() < BRANCH_HEAD {
         return 6;
     }
     let s = read32(branch, 0);
-    let k = read32(branch, 4);
+    let k = read32(branch, LABEL_COUNT_AT);
     if !counts_fit(s, k) {
         return 7;
     }

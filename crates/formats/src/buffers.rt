@@ -2,6 +2,10 @@
 use crate::branch::step_count;
 use crate::bytes::read32;
 use crate::inputs::room_fits;
+use crate::layout::BRANCH_HEAD;
+use crate::layout::LABEL_COUNT_AT;
+use crate::layout::PLAN_HEAD;
+use crate::layout::RULES_HEAD;
 use crate::limits::NODE_LIMIT;
 use crate::rules::counts_fit;
 use crate::rules::inner_count;
@@ -38,7 +42,7 @@ pub fn buffers_fit(
     requires { ⌜ Sizes n s ⌝ }
     ensures { λ r. ⌜ r ≡ buffersFit n s exact plan table «node_table» «state_table» ⌝ }
 {
-    if plan != 12 + 2 * n {
+    if plan != PLAN_HEAD + 2 * n {
         return false;
     }
     if table != exact {
@@ -60,7 +64,7 @@ pub fn rule_buffers_fit(
     requires { ⌜ LimitArgs n s k ⌝ }
     ensures { λ r. ⌜ r ≡ buffersFit n s (ruleLength s k) plan rules «node_table» «state_table» ⌝ }
 {
-    let exact = 20 + k + inner_count(s, k) + s;
+    let exact = RULES_HEAD + k + inner_count(s, k) + s;
     buffers_fit(n, s, exact, plan, rules, node_table, state_table)
 }
 
@@ -69,7 +73,7 @@ pub fn headers_fit(plan: &[u8], table: &[u8], header: usize) -> bool
     requires { ⌜ 8 ≤ header ⌝ }
     ensures { λ r. ⌜ r ≡ headersFit header (now (plan .entry)) (now (table .entry)) ⌝ }
 {
-    if plan.len() < 12 {
+    if plan.len() < PLAN_HEAD {
         return false;
     }
     if table.len() < header {
@@ -77,7 +81,7 @@ pub fn headers_fit(plan: &[u8], table: &[u8], header: usize) -> bool
     }
     let n = read32(plan, 0);
     let s = read32(table, 0);
-    let k = read32(table, 4);
+    let k = read32(table, LABEL_COUNT_AT);
     limits_fit(n, s, k)
 }
 
@@ -92,13 +96,13 @@ pub fn branch_buffers_fit(
         ≡ headedBuffersFit branchTables (now (plan .entry)) (now (branch .entry)) (length (now («node_table» .entry)))
         (length (now («state_table» .entry))) ⌝ }
 {
-    if !headers_fit(plan, branch, 16) {
+    if !headers_fit(plan, branch, BRANCH_HEAD) {
         return false;
     }
     let n = read32(plan, 0);
     let s = read32(branch, 0);
-    let k = read32(branch, 4);
-    let exact = 16 + step_count(s, k) + s;
+    let k = read32(branch, LABEL_COUNT_AT);
+    let exact = BRANCH_HEAD + step_count(s, k) + s;
     buffers_fit(
         n,
         s,

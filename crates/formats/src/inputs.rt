@@ -1,6 +1,9 @@
 // The checks of whole calls: of plan and table, of room for the tables, of a fresh run.
 use crate::branch::check_branch_bytes;
 use crate::bytes::read32;
+use crate::layout::LABEL_COUNT_AT;
+use crate::layout::NODE_COLUMNS;
+use crate::layout::PLAN_HEAD;
 use crate::lists::check_list;
 use crate::plan::check_plan;
 use crate::rules::all_below;
@@ -17,7 +20,7 @@ fn plan_labels_below(plan: &[u8], k: usize) -> bool
     ensures { λ r. ⌜ r ≡ allBelow k (labelsIn (now (plan .entry))) ⌝ }
 {
     let n = read32(plan, 0);
-    all_below(&plan[12..12 + n], k as u8)
+    all_below(&plan[PLAN_HEAD..PLAN_HEAD + n], k as u8)
 }
 
 // Check 11: both table buffers long enough for n nodes and s states.
@@ -25,7 +28,7 @@ pub fn room_fits(n: usize, s: usize, node_table: usize, state_table: usize) -> b
     requires { ⌜ Sizes n s ⌝ }
     ensures { λ r. ⌜ r ≡ roomFits n s «node_table» «state_table» ⌝ }
 {
-    if node_table < n * 4 {
+    if node_table < n * NODE_COLUMNS {
         return false;
     }
     n * (s + 1) <= state_table
@@ -43,7 +46,7 @@ pub fn check_rule_inputs(plan: &[u8], rules: &[u8]) -> u8
     if t != 0 {
         return t;
     }
-    let k = read32(rules, 4);
+    let k = read32(rules, LABEL_COUNT_AT);
     if !plan_labels_below(plan, k) {
         return 10;
     }
@@ -62,7 +65,7 @@ pub fn check_branch_inputs(plan: &[u8], branch: &[u8]) -> u8
     if t != 0 {
         return t;
     }
-    let k = read32(branch, 4);
+    let k = read32(branch, LABEL_COUNT_AT);
     if !plan_labels_below(plan, k) {
         return 10;
     }
@@ -110,6 +113,6 @@ pub fn check_fresh_run(plan: &[u8], rules: &[u8], nodes: &[u16], labels: &[u8]) 
         return t;
     }
     let n = read32(plan, 0);
-    let k = read32(rules, 4);
+    let k = read32(rules, LABEL_COUNT_AT);
     check_list(n, k, nodes, labels)
 }

@@ -1,5 +1,6 @@
 // Plans, rule tables, branch tables and lists of changes as bytes: checks 2 to 14, and 17.
 //     limits   the limits of document 01
+//     layout   lengths of headers, columns of the node table
 //     bytes    numbers in bytes
 //     plan     checks 2 to 5
 //     eight    eight kinds of a plan at a time
@@ -14,6 +15,7 @@ pub mod buffers;
 pub mod bytes;
 mod eight;
 pub mod inputs;
+pub mod layout;
 pub mod limits;
 pub mod lists;
 pub mod plan;

@@ -6,3 +6,6 @@ pub const STATE_LIMIT: usize = 16;
 pub const LABEL_LIMIT: usize = 64;
 
 pub const CHANGE_LIMIT: usize = 64;
+
+// The parts of a question: m changes, 1 or more, give at most 4 m - 2.
+pub const PART_LIMIT: usize = 4 * CHANGE_LIMIT - 2;

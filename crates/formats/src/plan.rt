@@ -4,6 +4,7 @@ use crate::eight::are_kinds;
 use crate::eight::eight_kinds;
 use crate::eight::sums_so_far;
 use crate::eight::trees_suffice;
+use crate::layout::PLAN_HEAD;
 use crate::limits::NODE_LIMIT;
 ghost use mathlib.Core.Path.{_≡_};
 ghost use Prim.Native.Nat.{_≤_};
@@ -57,7 +58,7 @@ pub fn is_postorder(kinds: &[u8]) -> bool
 pub fn check_plan(plan: &[u8]) -> u8
     ensures { λ r. ⌜ r ≡ firstNo (planChecks (now (plan .entry))) ⌝ }
 {
-    if plan.len() < 12 {
+    if plan.len() < PLAN_HEAD {
         return 2;
     }
     let n = read32(plan, 0);
@@ -67,16 +68,16 @@ pub fn check_plan(plan: &[u8]) -> u8
     if NODE_LIMIT < n {
         return 3;
     }
-    if read32(plan, 4) != 12 {
+    if read32(plan, 4) != PLAN_HEAD {
         return 4;
     }
-    if read32(plan, 8) != 12 + n {
+    if read32(plan, 8) != PLAN_HEAD + n {
         return 4;
     }
-    if plan.len() != 12 + 2 * n {
+    if plan.len() != PLAN_HEAD + 2 * n {
         return 4;
     }
-    if !is_postorder(&plan[12 + n..]) {
+    if !is_postorder(&plan[PLAN_HEAD + n..]) {
         return 5;
     }
     0

@@ -1,5 +1,7 @@
 // Rule tables: checks 6 to 9, and the lookup of a rule.
 use crate::bytes::read32;
+use crate::layout::LABEL_COUNT_AT;
+use crate::layout::RULES_HEAD;
 use crate::limits::LABEL_LIMIT;
 use crate::limits::STATE_LIMIT;
 ghost use mathlib.Core.Path.{_≡_};
@@ -59,11 +61,11 @@ fn rule_shape(rules: &[u8], s: usize, k: usize) -> bool
     requires { ⌜ Headed (now rules) 20 s k ⌝ }
     ensures { λ r. ⌜ r ≡ ruleShape (now (rules .entry)) s k ⌝ }
 {
-    let marks = 20 + k + inner_count(s, k);
-    if read32(rules, 8) != 20 {
+    let marks = RULES_HEAD + k + inner_count(s, k);
+    if read32(rules, 8) != RULES_HEAD {
         return false;
     }
-    if read32(rules, 12) != 20 + k {
+    if read32(rules, 12) != RULES_HEAD + k {
         return false;
     }
     if read32(rules, 16) != marks {
@@ -77,11 +79,11 @@ fn rule_values(rules: &[u8], s: usize, k: usize) -> bool
     requires { ⌜ RuleSized (now rules) s k ⌝ }
     ensures { λ r. ⌜ r ≡ ruleValues (now (rules .entry)) s k ⌝ }
 {
-    let marks = 20 + k + inner_count(s, k);
-    if !all_below(&rules[20..20 + k], s as u8) {
+    let marks = RULES_HEAD + k + inner_count(s, k);
+    if !all_below(&rules[RULES_HEAD..RULES_HEAD + k], s as u8) {
         return false;
     }
-    if !all_below(&rules[20 + k..marks], s as u8) {
+    if !all_below(&rules[RULES_HEAD + k..marks], s as u8) {
         return false;
     }
     all_below(&rules[marks..], 2)
@@ -91,11 +93,11 @@ fn rule_values(rules: &[u8], s: usize, k: usize) -> bool
 pub fn check_rule_bytes(rules: &[u8]) -> u8
     ensures { λ r. ⌜ r ≡ firstNo (ruleChecks (now (rules .entry))) ⌝ }
 {
-    if rules.len() < 20 {
+    if rules.len() < RULES_HEAD {
         return 6;
     }
     let s = read32(rules, 0);
-    let k = read32(rules, 4);
+    let k = read32(rules, LABEL_COUNT_AT);
     if !counts_fit(s, k) {
         return 7;
     }

@@ -18,6 +18,7 @@ use mathlib.Core.List.{List, [], _∷_, _++_}
 use mathlib.Core.Option.{Option, none, some}
 use lib.Dec.{eqb}
 use lib.ListN.{length, getD, take, drop}
+use Rattle.formats.specs.Layout.{rulesHead}
 use Rattle.formats.specs.Plan.{planTree, labelsIn}
 use Rattle.changes.specs.Differing.{differing}
 use Rattle.questions.specs.ready.Members.{roots}
@@ -83,7 +84,7 @@ withLast o r = record {
 
 -- the accept marks by the record's S and K
 abbrev pub marksBy : Sizes → Inputs → List ℕ
-marksBy z x = take (z .s) (drop (20 + z .k + z .s * z .k * z .s) (x .rules))
+marksBy z x = take (z .s) (drop (rulesHead + z .k + z .s * z .k * z .s) (x .rules))
 
 -- ---- Start: "running", no part state, no link
 

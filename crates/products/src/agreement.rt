@@ -4,12 +4,15 @@
 // When two rule tables agree and what the lines mean is defined in specs/agreement; the search is in reachable.
 pub mod reachable;
 
+use crate::agreement::reachable::PAIR_LIMIT;
 use crate::agreement::reachable::Search;
 use crate::agreement::reachable::empty_search;
 use crate::agreement::reachable::first_differing;
 use crate::agreement::reachable::over_leaves;
 use crate::agreement::reachable::searched;
 use formats::bytes::read32;
+use formats::layout::LABEL_COUNT_AT;
+use formats::layout::RULES_HEAD;
 use formats::rules::check_rule_bytes;
 use formats::rules::inner_count;
 ghost use mathlib.Core.Path.{_≡_};
@@ -22,10 +25,10 @@ ghost use Rattle.products.specs.agreement.Reply.{replyOf, shownReply, Fr
 pub struct Agreement {
     pub number: u8,
     pub count: usize,
-    pub kinds: [u8; 256],
-    pub labels: [u8; 256],
-    pub lefts: [u8; 256],
-    pub rights: [u8; 256],
+    pub kinds: [u8; PAIR_LIMIT],
+    pub labels: [u8; PAIR_LIMIT],
+    pub lefts: [u8; PAIR_LIMIT],
+    pub rights: [u8; PAIR_LIMIT],
 }
 
 // A refusal.
@@ -35,19 +38,19 @@ fn refused(number: u8) -> Agreement
     Agreement {
         number: number,
         count: 0,
-        kinds: [0u8; 256],
-        labels: [0u8; 256],
-        lefts: [0u8; 256],
-        rights: [0u8; 256],
+        kinds: [0u8; PAIR_LIMIT],
+        labels: [0u8; PAIR_LIMIT],
+        lefts: [0u8; PAIR_LIMIT],
+        rights: [0u8; PAIR_LIMIT],
     }
 }
 
 // The first n entries, then zeros.
-fn front(a: [u8; 256], n: usize) -> [u8; 256]
+fn front(a: [u8; PAIR_LIMIT], n: usize) -> [u8; PAIR_LIMIT]
     requires { ⌜ FrontArgs a n ⌝ }
     ensures { λ r. ⌜ Front n a r ⌝ }
 {
-    let mut r = [0u8; 256];
+    let mut r = [0u8; PAIR_LIMIT];
     let mut i = 0;
     while i < n {
         r[i] = a[i];
@@ -84,11 +87,11 @@ fn answered(first: &[u8], second: &[u8], s1: usize, s2: usize, k: usize) -> Agre
     requires { ⌜ AnswerArgs (now first) (now second) s1 s2 k ⌝ }
     ensures { λ r. ⌜ r ≡ replyOf 0 (shownReply (now (first .entry)) (now (second .entry))) ⌝ }
 {
-    let i = 20 + k;
+    let i = RULES_HEAD + k;
     let m1 = i + inner_count(s1, k);
     let m2 = i + inner_count(s2, k);
     let e = empty_search();
-    let l = over_leaves(&first[20..i], &second[20..i], s1, s2, k, e);
+    let l = over_leaves(&first[RULES_HEAD..i], &second[RULES_HEAD..i], s1, s2, k, e);
     let t = searched(
         &first[i..m1],
         &second[i..m2],
@@ -115,8 +118,8 @@ pub fn agree(first: &[u8], second: &[u8]) -> Agreement
     if n2 != 0 {
         return refused(n2);
     }
-    let k = read32(first, 4);
-    if read32(second, 4) != k {
+    let k = read32(first, LABEL_COUNT_AT);
+    if read32(second, LABEL_COUNT_AT) != k {
         return refused(23);
     }
     answered(first, second, read32(first, 0), read32(second, 0), k)

@@ -4,6 +4,9 @@
 //     merge         the call
 // Tables are handed on by their runs: leaf states, inner states or marks.
 use formats::bytes::read32;
+use formats::layout::LABEL_COUNT_AT;
+use formats::layout::RULES_HEAD;
+use formats::limits::STATE_LIMIT;
 use formats::rules::check_rule_bytes;
 use formats::rules::inner_count;
 ghost use mathlib.Core.Path.{_≡_};
@@ -38,11 +41,11 @@ fn put_head(s: usize, k: usize, out: &mut [u8])
     requires { ⌜ HeadArgs s k (now out) ⌝ }
     ensures { λ _. ⌜ now (out .exit) ≡ written 0 (ruleHead s k) (now (out .entry)) ⌝ }
 {
-    let marks = 20 + k + inner_count(s, k);
+    let marks = RULES_HEAD + k + inner_count(s, k);
     put32(out, 0, s);
-    put32(out, 4, k);
-    put32(out, 8, 20);
-    put32(out, 12, 20 + k);
+    put32(out, LABEL_COUNT_AT, k);
+    put32(out, 8, RULES_HEAD);
+    put32(out, 12, RULES_HEAD + k);
     put32(out, 16, marks);
 }
 
@@ -158,12 +161,18 @@ fn put_table(first: &[u8], second: &[u8], s1: usize, s2: usize, k: usize, out: &
     ensures { λ _. ⌜ now (out .exit) ≡ written 0 (mergedBytes (now (first .entry)) (now (second .entry))) (now (out .entry)) ⌝ }
 {
     let s = s1 * s2;
-    let i = 20 + k;
+    let i = RULES_HEAD + k;
     let m1 = i + inner_count(s1, k);
     let m2 = i + inner_count(s2, k);
     let m = i + inner_count(s, k);
     put_head(s, k, out);
-    put_leaves(&first[20..i], &second[20..i], s2, out, 20);
+    put_leaves(
+        &first[RULES_HEAD..i],
+        &second[RULES_HEAD..i],
+        s2,
+        out,
+        RULES_HEAD,
+    );
     put_inner(&first[i..m1], &second[i..m2], s1, s2, k, out, i);
     put_marks(&first[m1..], &second[m2..], s2, s, out, m);
 }
@@ -180,17 +189,17 @@ pub fn merge(first: &[u8], second: &[u8], out: &mut [u8]) -> MergeAnswer
     if n2 != 0 {
         return MergeAnswer::Refused(n2);
     }
-    let k = read32(first, 4);
-    if read32(second, 4) != k {
+    let k = read32(first, LABEL_COUNT_AT);
+    if read32(second, LABEL_COUNT_AT) != k {
         return MergeAnswer::Refused(23);
     }
     let s1 = read32(first, 0);
     let s2 = read32(second, 0);
     let s = s1 * s2;
-    if 16 < s {
+    if STATE_LIMIT < s {
         return MergeAnswer::Refused(24);
     }
-    if out.len() < 20 + k + inner_count(s, k) + s {
+    if out.len() < RULES_HEAD + k + inner_count(s, k) + s {
         return MergeAnswer::Refused(11);
     }
     put_table(first, second, s1, s2, k, out);

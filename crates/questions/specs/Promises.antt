@@ -15,6 +15,7 @@ use mathlib.Core.Option.{Option, none, some}
 use lib.ListN.{length, getD, take}
 use Rattle.trees.specs.Tree.{Tree, size, labelsOf, kindsOf, labelAt}
 use Rattle.trees.specs.Changes.{changed}
+use Rattle.formats.specs.Limits.{nodeLimit}
 use Rattle.tables.specs.node_tables.NodeCells.{NodeCells}
 use Rattle.tables.specs.node_tables.OutOfRange.{NodeTableOutOfRange}
 use Rattle.tables.specs.StateCells.{stateCell, mapCell}
@@ -99,9 +100,9 @@ pub record PartDone (n s k : ℕ) (plan rules nodeTable stateTable roots states 
   -- for any inputs: a state, no more links than a plan has nodes, and at least as many nodes passed over as links; both
   -- fit 16 bits
   pub state-below : (x : Reached) → partGiven n s k plan rules nodeTable stateTable roots states vs bs ≡ some x → x .state < s
-  pub links-most : (x : Reached) → partGiven n s k plan rules nodeTable stateTable roots states vs bs ≡ some x → x .links ≤ 65535
+  pub links-most : (x : Reached) → partGiven n s k plan rules nodeTable stateTable roots states vs bs ≡ some x → x .links ≤ nodeLimit
   pub links-passed : (x : Reached) → partGiven n s k plan rules nodeTable stateTable roots states vs bs ≡ some x → x .links ≤ x .passed
-  pub passed-most : (x : Reached) → partGiven n s k plan rules nodeTable stateTable roots states vs bs ≡ some x → x .passed ≤ 65535
+  pub passed-most : (x : Reached) → partGiven n s k plan rules nodeTable stateTable roots states vs bs ≡ some x → x .passed ≤ nodeLimit
   -- "run states and maps are any bytes below S": what the rule gives on those bytes, never 18
   pub rule : (G : Given) (ps : List Part) → Asked n s k plan rules nodeTable stateTable roots states vs bs G ps
       → r ≡ To (reached (partState G roots ps (getD roots (length states) 0)) (partLinks (G .tree) roots (getD roots (length states) 0))

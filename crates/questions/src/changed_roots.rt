@@ -2,8 +2,11 @@
 use crate::roots::Rooted;
 use crate::roots::roots;
 use changes::differing::differing;
+use formats::layout::NODE_COLUMNS;
+use formats::layout::PLAN_HEAD;
 ghost use Prim.Native.Nat.{_*_};
 ghost use lib.ListN.{take, drop};
+ghost use Rattle.formats.specs.Layout.{planHead, nodeColumns};
 ghost use Rattle.changes.specs.inner.LastDiffering.{givenDiffering};
 ghost use Rattle.questions.specs.Promises.{RootsDone};
 ghost use Rattle.questions.specs.changed_roots.Args.{RootsArgs};
@@ -12,11 +15,11 @@ ghost use Rattle.questions.specs.changed_roots.Args.{RootsArgs};
 // change.
 pub fn roots_left(n: usize, plan: &[u8], node_table: &[u16], nodes: &[u16], labels: &[u8]) -> Rooted
     requires { ⌜ RootsArgs n (now plan) (now «node_table») ⌝ }
-    ensures { λ r. ⌜ RootsDone n (take (n * 4) (now («node_table» .entry)))
-        (givenDiffering (take n (drop 12 (now (plan .entry)))) (now (nodes .entry)) (now (labels .entry))) r ⌝ }
+    ensures { λ r. ⌜ RootsDone n (take (n * nodeColumns) (now («node_table» .entry)))
+        (givenDiffering (take n (drop planHead (now (plan .entry)))) (now (nodes .entry)) (now (labels .entry))) r ⌝ }
 {
-    let left = differing(&plan[12..12 + n], nodes, labels);
+    let left = differing(&plan[PLAN_HEAD..PLAN_HEAD + n], nodes, labels);
     let m = left.count;
     let kept = left.nodes;
-    roots(n, &node_table[..n * 4], &kept[..m])
+    roots(n, &node_table[..n * NODE_COLUMNS], &kept[..m])
 }

@@ -4,6 +4,10 @@ use crate::fits::asked_fits;
 use crate::scan::last_in;
 use formats::buffers::limits_fit;
 use formats::buffers::rule_buffers_fit;
+use formats::layout::NODE_COLUMNS;
+use formats::layout::PLAN_HEAD;
+use formats::layout::RULES_HEAD;
+use formats::layout::SIZE;
 use tables::answers::Climbed;
 use tables::answers::Reached;
 use tables::climb::climb_state;
@@ -15,6 +19,7 @@ ghost use mathlib.Core.Path.{_≡_};
 ghost use Prim.Native.Nat.{ℕ, _≤_};
 ghost use lib.ListN.{getD};
 ghost use Rattle.trees.specs.Changes.{changed};
+ghost use Rattle.formats.specs.Limits.{stateLimit};
 ghost use Rattle.tables.specs.node_tables.Cells.{sizeCell};
 ghost use Rattle.tables.specs.Climbs.{below, climbedOf};
 ghost use Rattle.tables.specs.inner.PathViews.{pathView, rulesView};
@@ -29,7 +34,7 @@ pub fn last_below(node_table: &[u16], earlier: &[u16], c: usize) -> usize
     requires { ⌜ LastArgs (now «node_table») (now earlier) c ⌝ }
     ensures { λ r. ⌜ r ≡ lastIn c (sizeCell (now («node_table» .entry)) c) (now (earlier .entry)) ⌝ }
 {
-    last_in(earlier, c as u16, node_table[c * 4 + 3]) as usize
+    last_in(earlier, c as u16, node_table[c * NODE_COLUMNS + SIZE]) as usize
 }
 
 // The label of node v as changed: the last entry of v in the list, else the plan's label.
@@ -47,7 +52,7 @@ pub fn label_on(labels: &[u8], nodes: &[u16], changes: &[u8], v: usize) -> usize
 
 // A number read as a state, reached by no link.
 fn handled_state(q: usize, s: usize) -> Climbed
-    requires { ⌜ s ≤ 16 ⌝ }
+    requires { ⌜ s ≤ stateLimit ⌝ }
     ensures { λ r. ⌜ r ≡ climbedOf (unmoved (below s q)) ⌝ }
 {
     if s <= q {
@@ -99,6 +104,8 @@ fn join_on(inner: &[u8], s: usize, k: usize, a: usize, left: Climbed, right: Cli
 // The state at child c, at depth `to`, where `own` is the place of the last earlier root below c and `other` that of
 // the last below its sibling: the run's without a root below, the root's own with roots below both, else what the
 // climb from the root gives.
+// Its many parameters are the runs of plan, rule table and tables, and N, S and K: a struct of slices would need a
+// proof of its borrows by hand (docs/DECISIONS.md, "Many parameters").
 fn side_on(
     labels: &[u8],
     inner: &[u8],
@@ -199,6 +206,7 @@ fn fork_on(
 }
 
 // The part of root v, after the earlier roots and their states.
+// On the many parameters see docs/DECISIONS.md, "Many parameters".
 fn part_on(
     labels: &[u8],
     kinds: &[u8],
@@ -285,11 +293,11 @@ pub fn part(
     }
     let i = states.len();
     part_on(
-        &plan[12..12 + n],
-        &plan[12 + n..],
-        &rules[20..20 + k],
-        &rules[20 + k..20 + k + s * k * s],
-        &node_table[..n * 4],
+        &plan[PLAN_HEAD..PLAN_HEAD + n],
+        &plan[PLAN_HEAD + n..],
+        &rules[RULES_HEAD..RULES_HEAD + k],
+        &rules[RULES_HEAD + k..RULES_HEAD + k + s * k * s],
+        &node_table[..n * NODE_COLUMNS],
         &state_table[..n * (s + 1)],
         n,
         s,

@@ -9,6 +9,7 @@ ghost use mathlib.Core.Path.{_≡_};
 ghost use Prim.Native.Nat.{_+_, _-_, _≤_};
 ghost use lib.ListN.{length, take};
 ghost use Rattle.trees.specs.Numbering.{isInSubtree};
+ghost use Rattle.formats.specs.Limits.{nodeLimit};
 ghost use Rattle.questions.specs.inner.Scans.{lastIn, anyIn, Shortened};
 
 // The first number of the run of z numbers that ends at c.
@@ -79,7 +80,7 @@ fn last_of_few(list: &[u16], c: u16, z: u16) -> usize
 
 // The place, from 1, of the last entry in the run of z numbers that ends at c; 0 where there is none.
 pub fn last_in(list: &[u16], c: u16, z: u16) -> u16
-    requires { ⌜ length (now list) ≤ 65535 ⌝ }
+    requires { ⌜ length (now list) ≤ nodeLimit ⌝ }
     ensures { λ r. ⌜ r ≡ lastIn c z (now (list .entry)) ⌝ }
 {
     let count = list.len();

@@ -22,6 +22,8 @@
 --        975      4   nodes passed over so far
 --        979      4   nodes passed over of the finished answer that is kept
 --
+-- headLength, nodesAt, labelsAt, rootsAt, statesAt, lastAt, lastLength, passedAt == where the runs begin, and how long
+--   the first and the last are; recordLength == the whole length
 -- numbers16 b == the 16-bit numbers that b holds, two bytes each; an odd byte at the end is left out
 -- bytes16 l == the bytes of the numbers l, two each
 -- lastBytes h == the last 16 bytes: of the finished answer, or of none, and the nodes passed over so far
@@ -37,12 +39,13 @@
 -- "the record crosses as bytes, whose layout stands in docs/, and bytes that break it get 1": the table above is that
 -- of docs/LAYOUT.md, "The record".
 -- Order: numbers, states, the struct's bytes, the bytes' struct, tests. The laws are in proofs/.
-use Prim.Native.Nat.{ℕ, _+_, _*_, _/_, _%_, _<_}
+use Prim.Native.Nat.{ℕ, _+_, _-_, _*_, _/_, _%_, _<_}
 use mathlib.Core.Path.{_≡_}
 use mathlib.Core.Bool.{Bool, true, false, cond, _&&_}
 use mathlib.Core.List.{List, [], _∷_, _++_}
 use lib.Dec.{leb, eqb}
 use lib.ListN.{length, getD, take, drop, set}
+use Rattle.formats.specs.Limits.{changeLimit, partLimit}
 use Rattle.formats.specs.Bytes.{le16, le16Bytes, le32, le32Bytes}
 use Rattle.session.specs.declared.state.Phase.{Phase}
 use Rattle.session.specs.declared.state.Phase.the-variants.{Empty, Loaded, Running, Answered}
@@ -51,8 +54,34 @@ use Rattle.session.specs.declared.state.Last.{Last}
 use Rattle.session.specs.declared.state.Session.{Session}
 use Rattle.session.specs.Records.{valid}
 
+-- ---- the runs of bytes: where each begins, and the whole length, 983
+
+abbrev pub headLength : ℕ
+headLength = 13
+
+abbrev pub nodesAt : ℕ
+nodesAt = headLength
+
+abbrev pub labelsAt : ℕ
+labelsAt = nodesAt + 2 * changeLimit
+
+abbrev pub rootsAt : ℕ
+rootsAt = labelsAt + changeLimit
+
+abbrev pub statesAt : ℕ
+statesAt = rootsAt + 2 * partLimit
+
+abbrev pub lastAt : ℕ
+lastAt = statesAt + partLimit
+
+abbrev pub lastLength : ℕ
+lastLength = 16
+
+abbrev pub passedAt : ℕ
+passedAt = lastAt + 8
+
 abbrev pub recordLength : ℕ
-recordLength = 983
+recordLength = lastAt + lastLength
 
 -- ---- numbers of two bytes
 
@@ -106,7 +135,8 @@ abbrev pub run : ℕ → ℕ → List ℕ → List ℕ
 run at n b = take n (drop at b)
 
 abbrev pub stepBytes : Head → ℕ → ℕ → List ℕ → List ℕ
-stepBytes h i q b = headBytes h ++ (run 13 700 b ++ (set (run 713 254 b) i q ++ lastBytes h))
+stepBytes h i q b =
+    headBytes h ++ (run nodesAt (statesAt - nodesAt) b ++ (set (run statesAt partLimit b) i q ++ lastBytes h))
 
 abbrev pub decodedLast : List ℕ → Last
 decodedLast t = record {
@@ -129,23 +159,23 @@ decodedHead b = record {
   parts = getD b 7 0;
   handled = getD b 8 0;
   links = le32 b 9;
-  passed = le32 b 975;
-  last = decodedLast (run 967 16 b);
+  passed = le32 b passedAt;
+  last = decodedLast (run lastAt lastLength b);
 }
 
 unfoldable pub decoded : List ℕ → Session
 decoded b = record {
   head = decodedHead b;
-  nodes = numbers16 (run 13 128 b);
-  labels = run 141 64 b;
-  roots = numbers16 (run 205 508 b);
-  states = run 713 254 b;
+  nodes = numbers16 (run nodesAt (2 * changeLimit) b);
+  labels = run labelsAt changeLimit b;
+  roots = numbers16 (run rootsAt (2 * partLimit) b);
+  states = run statesAt partLimit b;
 }
 
 -- ---- tests
 
 abbrev pub flagsFit : List ℕ → Bool
-flagsFit b = (leb (getD b 0 0) 3 && leb (getD b 1 0) 1) && (leb (getD b 967 0) 1 && leb (getD b 969 0) 1)
+flagsFit b = (leb (getD b 0 0) 3 && leb (getD b 1 0) 1) && (leb (getD b lastAt 0) 1 && leb (getD b (lastAt + 2) 0) 1)
 
 unfoldable pub laidOut : List ℕ → Bool
 laidOut b = eqb (length b) recordLength && flagsFit b
@@ -168,10 +198,10 @@ pub record InTypes (s : Session) : Type 0 where
   pub last-parts-fit : s .head .last .outcome .parts < 256
   pub last-links-fit : s .head .last .outcome .links < 4294967296
   pub last-passed-fits : s .head .last .outcome .passed < 4294967296
-  pub nodes-length : length (s .nodes) ≡ 64
-  pub labels-length : length (s .labels) ≡ 64
-  pub roots-length : length (s .roots) ≡ 254
-  pub states-length : length (s .states) ≡ 254
+  pub nodes-length : length (s .nodes) ≡ changeLimit
+  pub labels-length : length (s .labels) ≡ changeLimit
+  pub roots-length : length (s .roots) ≡ partLimit
+  pub states-length : length (s .states) ≡ partLimit
   pub nodes-fit : (i : ℕ) → getD (s .nodes) i 0 < 65536
   pub labels-fit : (i : ℕ) → getD (s .labels) i 0 < 256
   pub roots-fit : (i : ℕ) → getD (s .roots) i 0 < 65536

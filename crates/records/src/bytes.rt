@@ -1,9 +1,20 @@
 // The record's bytes, the bytes' record, and whether bytes are a record.
+use crate::layout::HEAD_BYTES;
+use crate::layout::LABELS_AT;
+use crate::layout::LAST_AT;
+use crate::layout::LAST_YES_AT;
+use crate::layout::NODES_AT;
+use crate::layout::PASSED_AT;
+use crate::layout::RECORD_BYTES;
+use crate::layout::ROOTS_AT;
+use crate::layout::STATES_AT;
 use crate::numbers::copy_bytes;
 use crate::numbers::get_numbers;
 use crate::numbers::number16;
 use crate::numbers::number32;
 use crate::numbers::put_numbers;
+use formats::limits::CHANGE_LIMIT;
+use formats::limits::PART_LIMIT;
 use session::answers::Outcome;
 use session::state::Head;
 use session::state::Last;
@@ -15,7 +26,9 @@ ghost use mathlib.Core.Bool.{cond};
 ghost use lib.Dec.{eqb};
 ghost use Prim.Native.Nat.{_<_};
 ghost use lib.ListN.{length, set};
-ghost use Rattle.records.specs.Layout.{recordLength, phaseByte, phaseAt, yesByte, headBytes, lastBytes, stepBytes, encoded};
+ghost use Rattle.formats.specs.Limits.{partLimit};
+ghost use Rattle.records.specs.Layout.{headLength, lastLength, recordLength, phaseByte, phaseAt, yesByte};
+ghost use Rattle.records.specs.Layout.{headBytes, lastBytes, stepBytes, encoded};
 ghost use Rattle.records.specs.Layout.{decodedHead, decodedLast, decoded, laidOut, validBytes};
 
 // The number of a state.
@@ -55,7 +68,7 @@ fn yes_byte(yes: bool) -> u8
 
 // The finished answer of a record's last 16 bytes.
 fn decode_last(bytes: &[u8]) -> Last
-    requires { ⌜ length (now bytes) ≡ 16 ⌝ }
+    requires { ⌜ length (now bytes) ≡ lastLength ⌝ }
     ensures { λ r. ⌜ r ≡ decodedLast (now (bytes .entry)) ⌝ }
 {
     let outcome = Outcome {
@@ -89,8 +102,8 @@ fn decode_head(bytes: &[u8]) -> Head
         parts: bytes[7],
         handled: bytes[8],
         links: number32(bytes, 9),
-        passed: number32(bytes, 975),
-        last: decode_last(&bytes[967..983]),
+        passed: number32(bytes, PASSED_AT),
+        last: decode_last(&bytes[LAST_AT..RECORD_BYTES]),
     }
 }
 
@@ -99,14 +112,14 @@ pub fn decode(bytes: &[u8]) -> Session
     requires { ⌜ length (now bytes) ≡ recordLength ⌝ }
     ensures { λ r. ⌜ r ≡ decoded (now (bytes .entry)) ⌝ }
 {
-    let mut nodes = [0u16; 64];
-    get_numbers(&bytes[13..141], &mut nodes);
-    let mut labels = [0u8; 64];
-    copy_bytes(&bytes[141..205], &mut labels);
-    let mut roots = [0u16; 254];
-    get_numbers(&bytes[205..713], &mut roots);
-    let mut states = [0u8; 254];
-    copy_bytes(&bytes[713..967], &mut states);
+    let mut nodes = [0u16; CHANGE_LIMIT];
+    get_numbers(&bytes[NODES_AT..LABELS_AT], &mut nodes);
+    let mut labels = [0u8; CHANGE_LIMIT];
+    copy_bytes(&bytes[LABELS_AT..ROOTS_AT], &mut labels);
+    let mut roots = [0u16; PART_LIMIT];
+    get_numbers(&bytes[ROOTS_AT..STATES_AT], &mut roots);
+    let mut states = [0u8; PART_LIMIT];
+    copy_bytes(&bytes[STATES_AT..LAST_AT], &mut states);
     let head = decode_head(bytes);
     Session {
         head,
@@ -119,7 +132,7 @@ pub fn decode(bytes: &[u8]) -> Session
 
 // The first 13 bytes of a record.
 fn put_head(h: Head, out: &mut [u8])
-    requires { ⌜ length (now out) ≡ 13 ⌝ }
+    requires { ⌜ length (now out) ≡ headLength ⌝ }
     ensures { λ _. ⌜ now (out .exit) ≡ headBytes h ⌝ }
 {
     let phase = h.phase;
@@ -140,7 +153,7 @@ fn put_head(h: Head, out: &mut [u8])
 
 // The last 16 bytes of a record.
 fn put_last(h: Head, out: &mut [u8])
-    requires { ⌜ length (now out) ≡ 16 ⌝ }
+    requires { ⌜ length (now out) ≡ lastLength ⌝ }
     ensures { λ _. ⌜ now (out .exit) ≡ lastBytes h ⌝ }
 {
     let o = h.last.outcome;
@@ -167,15 +180,15 @@ pub fn encode(rec: Session, out: &mut [u8])
     ensures { λ _. ⌜
         now (out .exit) ≡ cond (eqb (length (now (out .entry))) recordLength) (encoded rec) (now (out .entry)) ⌝ }
 {
-    if out.len() != 983 {
+    if out.len() != RECORD_BYTES {
         return;
     }
-    put_head(rec.head, &mut out[..13]);
-    put_numbers(&rec.nodes, &mut out[13..141]);
-    copy_bytes(&rec.labels, &mut out[141..205]);
-    put_numbers(&rec.roots, &mut out[205..713]);
-    copy_bytes(&rec.states, &mut out[713..967]);
-    put_last(rec.head, &mut out[967..983]);
+    put_head(rec.head, &mut out[..HEAD_BYTES]);
+    put_numbers(&rec.nodes, &mut out[NODES_AT..LABELS_AT]);
+    copy_bytes(&rec.labels, &mut out[LABELS_AT..ROOTS_AT]);
+    put_numbers(&rec.roots, &mut out[ROOTS_AT..STATES_AT]);
+    copy_bytes(&rec.states, &mut out[STATES_AT..LAST_AT]);
+    put_last(rec.head, &mut out[LAST_AT..RECORD_BYTES]);
 }
 
 // The state of one part.
@@ -189,28 +202,28 @@ fn put_state(at: usize, state: u8, out: &mut [u8])
 // What an advance alters of a record's bytes: the first 13, the state of one part and the last 16. A buffer that has not 983 bytes is
 // left as it is.
 pub fn encode_step(h: Head, at: usize, state: u8, out: &mut [u8])
-    requires { ⌜ at < 254 ⌝ }
+    requires { ⌜ at < partLimit ⌝ }
     ensures { λ _. ⌜
         now (out .exit) ≡ cond (eqb (length (now (out .entry))) recordLength) (stepBytes h at state (now (out .entry)))
         (now (out .entry)) ⌝ }
 {
-    if out.len() != 983 {
+    if out.len() != RECORD_BYTES {
         return;
     }
-    put_head(h, &mut out[..13]);
-    put_state(at, state, &mut out[713..967]);
-    put_last(h, &mut out[967..983]);
+    put_head(h, &mut out[..HEAD_BYTES]);
+    put_state(at, state, &mut out[STATES_AT..LAST_AT]);
+    put_last(h, &mut out[LAST_AT..RECORD_BYTES]);
 }
 
 // Whether there are 983 bytes, the state is at most 3, and both yes or no and whether an answer is kept are at most 1.
 pub fn laid_out(bytes: &[u8]) -> bool
     ensures { λ r. ⌜ r ≡ laidOut (now (bytes .entry)) ⌝ }
 {
-    if bytes.len() != 983 {
+    if bytes.len() != RECORD_BYTES {
         return false;
     }
     let own = (bytes[0] <= 3) & (bytes[1] <= 1);
-    let kept = (bytes[967] <= 1) & (bytes[969] <= 1);
+    let kept = (bytes[LAST_AT] <= 1) & (bytes[LAST_YES_AT] <= 1);
     own & kept
 }
 

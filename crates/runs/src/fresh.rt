@@ -2,6 +2,9 @@ use crate::answer::Running;
 use crate::pass::pass;
 use formats::bytes::read32;
 use formats::inputs::check_fresh_run;
+use formats::layout::LABEL_COUNT_AT;
+use formats::layout::PLAN_HEAD;
+use formats::layout::RULES_HEAD;
 ghost use mathlib.Core.Path.{_≡_};
 ghost use Rattle.runs.specs.inner.Pass.{RunArgs};
 ghost use Rattle.runs.specs.FreshRun.{freshRun, FreshRunDone};
@@ -20,14 +23,14 @@ fn run_passed(
     requires { ⌜ RunArgs (now plan) (now rules) (now nodes) (now labels) n s k ⌝ }
     ensures { λ r. ⌜ r ≡ freshRun (now (plan .entry)) (now (rules .entry)) (now (nodes .entry)) (now (labels .entry)) ⌝ }
 {
-    let marks = 20 + k + s * k * s;
+    let marks = RULES_HEAD + k + s * k * s;
     let q = pass(
-        &plan[12 + n..],
-        &plan[12..12 + n],
+        &plan[PLAN_HEAD + n..],
+        &plan[PLAN_HEAD..PLAN_HEAD + n],
         nodes,
         labels,
-        &rules[20..20 + k],
-        &rules[20 + k..marks],
+        &rules[RULES_HEAD..RULES_HEAD + k],
+        &rules[RULES_HEAD + k..marks],
         s,
         k,
     );
@@ -45,6 +48,6 @@ pub fn fresh_run(plan: &[u8], rules: &[u8], nodes: &[u16], labels: &[u8]) -> Run
     }
     let n = read32(plan, 0);
     let s = read32(rules, 0);
-    let k = read32(rules, 4);
+    let k = read32(rules, LABEL_COUNT_AT);
     run_passed(plan, rules, nodes, labels, n, s, k)
 }

@@ -2,6 +2,8 @@
 // (document 01). Start, Cancel and Read of one screen go the same way. Load over eight takes and returns them by value.
 pub mod load;
 
+use crate::LAST_SCREEN;
+use crate::SCREENS;
 use crate::one_past;
 use session::answers::AdvanceAnswer;
 use session::answers::CallAnswer;
@@ -54,12 +56,12 @@ fn next_running(
 ) -> usize
     ensures { λ r. ⌜ r ≡ found (runsIn (p0 ∷ p1 ∷ p2 ∷ p3 ∷ p4 ∷ p5 ∷ p6 ∷ p7 ∷ [])) first ⌝ }
 {
-    if first > 7 {
+    if first > LAST_SCREEN {
         return 9;
     }
     let phases = [p0, p1, p2, p3, p4, p5, p6, p7];
     let mut at = first;
-    let mut left = 8usize;
+    let mut left = SCREENS;
     while left > 0 {
         let p = phases[at];
         if is_running(p) {
@@ -68,7 +70,7 @@ fn next_running(
         at = one_past(at);
         left = left - 1;
     }
-    8
+    SCREENS
 }
 
 // The answer of a deal, from that of the advance of screen i.
@@ -98,10 +100,10 @@ pub fn deal(
         (inputsOf (now (plan .entry)) (now (rules .entry)) (now («node_table» .entry)) (now («state_table» .entry))))
         (dealAnswer r) (now (all .exit)) ⌝ }
 {
-    if all.len() != 8 {
+    if all.len() != SCREENS {
         return DealAnswer::Refused(25);
     }
-    if first > 7 {
+    if first > LAST_SCREEN {
         return DealAnswer::Refused(25);
     }
     let at = next_running(
@@ -115,7 +117,7 @@ pub fn deal(
         all[7].head.phase,
         first,
     );
-    if at > 7 {
+    if at > LAST_SCREEN {
         return DealAnswer::Refused(1);
     }
     let old = all[at];
@@ -142,10 +144,10 @@ pub fn start(
         (now (nodes .entry)) (now (labels .entry)))
         (screens.one (startAnswer r)) (now (all .exit)) ⌝ }
 {
-    if all.len() != 8 {
+    if all.len() != SCREENS {
         return StartAnswer::Refused(25);
     }
-    if screen > 7 {
+    if screen > LAST_SCREEN {
         return StartAnswer::Refused(25);
     }
     let old = all[screen];
@@ -159,10 +161,10 @@ pub fn cancel(all: &mut [Session], screen: usize) -> CallAnswer
     ensures { λ r. ⌜
         ScreenDone (now (all .entry)) (screens.cancelOn screen) (screens.one (callAnswer r)) (now (all .exit)) ⌝ }
 {
-    if all.len() != 8 {
+    if all.len() != SCREENS {
         return CallAnswer::Refused(25);
     }
-    if screen > 7 {
+    if screen > LAST_SCREEN {
         return CallAnswer::Refused(25);
     }
     let old = all[screen];
@@ -175,10 +177,10 @@ pub fn cancel(all: &mut [Session], screen: usize) -> CallAnswer
 pub fn read(all: &[Session], screen: usize) -> ReadAnswer
     ensures { λ r. ⌜ screens.one (readAnswer r) ≡ answerAll (now (all .entry)) (screens.readOn screen) ⌝ }
 {
-    if all.len() != 8 {
+    if all.len() != SCREENS {
         return ReadAnswer::Refused(25);
     }
-    if screen > 7 {
+    if screen > LAST_SCREEN {
         return ReadAnswer::Refused(25);
     }
     let rec = all[screen];

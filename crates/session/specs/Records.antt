@@ -17,7 +17,7 @@ use mathlib.Core.Option.{Option, none, some}
 use lib.Dec.{leb, ltb, eqb}
 use lib.ListN.{length, getD, take, drop, replicate}
 use Rattle.list_laws.specs.Tests.{allBelow}
-use Rattle.formats.specs.Limits.{nodeLimit, stateLimit, labelLimit, changeLimit, within}
+use Rattle.formats.specs.Limits.{nodeLimit, stateLimit, labelLimit, changeLimit, partLimit, within}
 use Rattle.formats.specs.Inputs.{Sizes}
 use Rattle.model.specs.Calls as calls
 use Rattle.model.specs.Refusals.{Stage, stage}
@@ -97,10 +97,10 @@ sessionOf r = record {
     passed = r .passed;
     last = lastTo (r .last);
   };
-  nodes = padded 64 (r .nodes);
-  labels = padded 64 (r .labels);
-  roots = padded 254 (r .roots);
-  states = padded 254 (r .states);
+  nodes = padded changeLimit (r .nodes);
+  labels = padded changeLimit (r .labels);
+  roots = padded partLimit (r .roots);
+  states = padded partLimit (r .states);
 }
 
 abbrev pub whole : Head → List ℕ → List ℕ → List ℕ → List ℕ → Session
@@ -109,7 +109,7 @@ whole h nodes labels roots states = record { head = h; nodes = nodes; labels = l
 abbrev pub idleSession : Phase → HeadSizes → Last → Session
 idleSession p z l =
     whole (record { phase = p; yes = false; sizes = z; m = 0; parts = 0; handled = 0; links = 0; passed = 0; last = l })
-    (replicate 64 0) (replicate 64 0) (replicate 254 0) (replicate 254 0)
+    (replicate changeLimit 0) (replicate changeLimit 0) (replicate partLimit 0) (replicate partLimit 0)
 
 abbrev pub freshSession : Session
 freshSession = idleSession Empty (record { n = 0; s = 0; k = 0 }) noLast
@@ -154,10 +154,10 @@ listFits s =
 -- document 02, S-7: a climb passes over at least one node for each link, and the node table's numbers have 16 bits
 unfoldable pub partsFit : Session → Bool
 partsFit s =
-    within 1 254 (s .head .parts)
+    within 1 partLimit (s .head .parts)
     && (risesTo (s .head .sizes .n - 1) (take (s .head .parts) (s .roots)) && (zeroFrom (s .head .parts) (s .roots)
     && (allBelow (s .head .sizes .s) (take (s .head .handled) (s .states)) && (zeroFrom (s .head .handled) (s .states)
-    && (leb (s .head .links) (s .head .passed) && leb (s .head .passed) (65535 * s .head .handled))))))
+    && (leb (s .head .links) (s .head .passed) && leb (s .head .passed) (nodeLimit * s .head .handled))))))
 
 -- a question: its sizes, changes and parts, and no more parts handled than there are
 unfoldable pub questionFits : Session → Bool
@@ -175,8 +175,8 @@ isNone l =
 unfoldable pub lastFits : ℕ → Last → Bool
 lastFits s l =
     cond (l .present)
-    (ltb (l .outcome .state) s && (within 1 254 (l .outcome .parts)
-    && (leb (l .outcome .links) (l .outcome .passed) && leb (l .outcome .passed) (65535 * l .outcome .parts))))
+    (ltb (l .outcome .state) s && (within 1 partLimit (l .outcome .parts)
+    && (leb (l .outcome .links) (l .outcome .passed) && leb (l .outcome .passed) (nodeLimit * l .outcome .parts))))
     (isNone l)
 
 -- two yes or no are the same
@@ -186,7 +186,7 @@ sameFlag a b = cond a b (not b)
 -- the record's own: the state of the last part handled, its yes or no, its parts, its links and the nodes passed over
 unfoldable pub lastIsOwn : Session → Bool
 lastIsOwn s =
-    within 1 254 (s .head .handled)
+    within 1 partLimit (s .head .handled)
     && (s .head .last .present && (eqb (s .head .last .outcome .state) (getD (s .states) (s .head .handled - 1) 0)
     && (sameFlag (s .head .last .outcome .yes) (s .head .yes)
     && (eqb (s .head .last .outcome .parts) (s .head .parts) && (eqb (s .head .last .outcome .links) (s .head .links)

@@ -10,6 +10,9 @@ use crate::state::Last;
 use crate::state::Phase;
 use crate::state::Session;
 use formats::buffers::rule_buffers_fit;
+use formats::layout::RULES_HEAD;
+use formats::limits::CHANGE_LIMIT;
+use formats::limits::PART_LIMIT;
 use formats::rules::inner_count;
 use questions::part::part;
 use tables::answers::Climbed;
@@ -25,6 +28,7 @@ ghost use Rattle.session.specs.Answers.{advanceAnswer};
 ghost use Rattle.session.specs.Promises.{CallDone};
 ghost use Rattle.session.specs.Records.{whole};
 ghost use Rattle.session.specs.inner.Shapes.{Shaped};
+ghost use Rattle.formats.specs.Limits.{nodeLimit};
 ghost use Rattle.formats.specs.Inputs.{inputsOf};
 ghost use Rattle.session.specs.inner.Steps.{NextArgs, StepArgs, MarkArgs, HandleArgs, markedIn, steppedHead, stepBy};
 ghost use Rattle.session.specs.inner.Steps.{answerOf, refusedStep, StepFound};
@@ -49,7 +53,7 @@ fn next_part<'a>(
     ensures { λ _. ⌜ ((y : Reached)
         → partGiven (h .sizes .n) (h .sizes .s) (h .sizes .k) (now (plan .entry)) (now (rules .entry)) (now («node_table» .entry))
         (now («state_table» .entry)) (take (h .parts) (now (roots .entry))) (take (h .handled) (now (states .entry)))
-        (take (h .m) (now (nodes .entry))) (take (h .m) (now (labels .entry))) ≡ some y → y .passed ≤ 65535) ⌝ }
+        (take (h .m) (now (nodes .entry))) (take (h .m) (now (labels .entry))) ≡ some y → y .passed ≤ nodeLimit) ⌝ }
 {
     let p = h.parts as usize;
     let done = h.handled as usize;
@@ -74,7 +78,7 @@ fn is_marked(rules: &[u8], s: usize, k: usize, q: usize) -> bool
     requires { ⌜ MarkArgs (now rules) s k q ⌝ }
     ensures { λ r. ⌜ r ≡ markedIn s k (now (rules .entry)) q ⌝ }
 {
-    rules[20 + k + inner_count(s, k) + q] == 1
+    rules[RULES_HEAD + k + inner_count(s, k) + q] == 1
 }
 
 // A head with one more part handled, and the last finished answer as given.
@@ -163,10 +167,10 @@ fn next_step<'a>(
     rules: &[u8],
     node_table: &[u16],
     state_table: &[u8],
-    nodes: &'a [u16; 64],
-    labels: &'a [u8; 64],
-    roots: &'a [u16; 254],
-    states: &'a [u8; 254],
+    nodes: &'a [u16; CHANGE_LIMIT],
+    labels: &'a [u8; CHANGE_LIMIT],
+    roots: &'a [u16; PART_LIMIT],
+    states: &'a [u8; PART_LIMIT],
 ) -> AdvanceStep
     requires { ⌜ Shaped (whole h (now nodes) (now labels) (now roots) (now states)) ⌝ }
     ensures { λ r. ⌜

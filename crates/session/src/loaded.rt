@@ -6,6 +6,7 @@ use crate::state::Sizes;
 use crate::state::idle;
 use crate::state::no_last;
 use formats::bytes::read32;
+use formats::layout::LABEL_COUNT_AT;
 ghost use mathlib.Core.Path.{_≡_};
 ghost use Rattle.session.specs.Records.{sessionOf, idleSession};
 ghost use Rattle.session.specs.declared.state.Phase.the-variants.{Loaded};
@@ -25,7 +26,7 @@ pub fn loaded_from(plan: &[u8], rules: &[u8]) -> Session
 {
     let n = read32(plan, 0);
     let s = read32(rules, 0);
-    let k = read32(rules, 4);
+    let k = read32(rules, LABEL_COUNT_AT);
     let sizes = Sizes {
         n: n as u16,
         s: s as u8,

@@ -4,6 +4,8 @@
 use crate::state::Head;
 use crate::state::Phase;
 use crate::valid::fits;
+use formats::limits::CHANGE_LIMIT;
+use formats::limits::PART_LIMIT;
 ghost use mathlib.Core.Path.{_≡_};
 ghost use mathlib.Core.Bool.{_&&_};
 ghost use Rattle.model.specs.Calls.{mayLoad, mayStart, isRunning};
@@ -50,10 +52,10 @@ pub fn may_advance(phase: Phase) -> bool
 pub fn allowed<'a>(
     may: bool,
     h: Head,
-    nodes: &'a [u16; 64],
-    labels: &'a [u8; 64],
-    roots: &'a [u16; 254],
-    states: &'a [u8; 254],
+    nodes: &'a [u16; CHANGE_LIMIT],
+    labels: &'a [u8; CHANGE_LIMIT],
+    roots: &'a [u16; PART_LIMIT],
+    states: &'a [u8; PART_LIMIT],
 ) -> bool
     ensures { λ r. ⌜ r
         ≡ (valid (whole h (now (nodes .entry)) (now (labels .entry)) (now (roots .entry)) (now (states .entry))) && may) ⌝ }

@@ -1,6 +1,7 @@
 // Start's 18: whether its inputs are sound for the record's N, S and K. The full check takes N, S and K from the
 // headers, so the headers are compared first.
 use formats::bytes::read32;
+use formats::layout::LABEL_COUNT_AT;
 use table_checks::check::check_tables;
 use tables::answers::Checking;
 ghost use mathlib.Core.Path.{_≡_};
@@ -27,7 +28,7 @@ pub fn tables_sound(
     if read32(rules, 0) != s {
         return false;
     }
-    if read32(rules, 4) != k {
+    if read32(rules, LABEL_COUNT_AT) != k {
         return false;
     }
     match check_tables(plan, rules, node_table, state_table) {

@@ -13,6 +13,7 @@ use crate::state::Phase;
 use crate::state::Session;
 use crate::state::Sizes;
 use formats::buffers::rule_buffers_fit;
+use formats::limits::PART_LIMIT;
 use formats::lists::check_list;
 use questions::changed_roots::roots_left;
 ghost use mathlib.Core.Path.{_≡_};
@@ -29,12 +30,12 @@ fn started(
     nodes: &[u16],
     labels: &[u8],
     parts: u8,
-    roots: [u16; 254],
+    roots: [u16; PART_LIMIT],
 ) -> Session
     requires { ⌜ ListArgs (now nodes) (now labels) ⌝ }
     ensures { λ r. ⌜ r ≡ startedOf sizes last (now (nodes .entry)) (now (labels .entry)) parts roots ⌝ }
 {
-    let states = [0u8; 254];
+    let states = [0u8; PART_LIMIT];
     let listed = padded_nodes(nodes);
     let changes = padded_labels(labels);
     let m = nodes.len() as u8;

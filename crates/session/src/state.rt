@@ -6,6 +6,8 @@
 //     Session   the record
 use crate::answers::Outcome;
 use formats::limits;
+use formats::limits::CHANGE_LIMIT;
+use formats::limits::PART_LIMIT;
 ghost use mathlib.Core.Path.{_≡_};
 ghost use Rattle.session.specs.Records.{LimitsAre, freshSession, idleSession, noLast};
 
@@ -49,10 +51,10 @@ pub struct Head {
 // Unused entries are zero.
 pub struct Session {
     pub head: Head,
-    pub nodes: [u16; 64],
-    pub labels: [u8; 64],
-    pub roots: [u16; 254],
-    pub states: [u8; 254],
+    pub nodes: [u16; CHANGE_LIMIT],
+    pub labels: [u8; CHANGE_LIMIT],
+    pub roots: [u16; PART_LIMIT],
+    pub states: [u8; PART_LIMIT],
 }
 
 // The limits of document 01, and a fresh session. Their values are promised by `fresh`, and the record is tested by them.
@@ -115,9 +117,9 @@ pub fn idle(phase: Phase, sizes: Sizes, last: Last) -> Session
     };
     Session {
         head,
-        nodes: [0u16; 64],
-        labels: [0u8; 64],
-        roots: [0u16; 254],
-        states: [0u8; 254],
+        nodes: [0u16; CHANGE_LIMIT],
+        labels: [0u8; CHANGE_LIMIT],
+        roots: [0u16; PART_LIMIT],
+        states: [0u8; PART_LIMIT],
     }
 }

@@ -14,14 +14,24 @@ use crate::state::Last;
 use crate::state::Phase;
 use crate::state::Session;
 use crate::state::Sizes;
+use formats::limits::CHANGE_LIMIT;
+use formats::limits::NODE_LIMIT;
+use formats::limits::PART_LIMIT;
 use formats::rules::all_below;
 ghost use mathlib.Core.Path.{_≡_};
 ghost use mathlib.Core.List.{List};
 ghost use Prim.Native.Nat.{ℕ};
 ghost use lib.ListN.{length};
+ghost use Rattle.formats.specs.Limits.{partLimit};
 ghost use Rattle.session.specs.Records.{whole, sizesFit, noQuestion, listFits, partsFit, questionFits, valid};
 ghost use Rattle.session.specs.Records.{isNone, lastFits, sameFlag, lastIsOwn};
 ghost use Rattle.session.specs.inner.Shapes.{ListShaped, PartsShaped};
+
+// The most parts of a question, as a number of the record.
+const MOST_PARTS: u8 = PART_LIMIT as u8;
+
+// The most nodes that a part passes over, as a number of the record.
+const MOST_NODES: u32 = NODE_LIMIT as u32;
 
 // N, S and K in their limits.
 fn sizes_fit(z: Sizes) -> bool
@@ -38,10 +48,10 @@ fn sizes_fit(z: Sizes) -> bool
 // Nothing listed, no part, no state, no link, no node passed over, no yes.
 fn no_question(
     h: Head,
-    nodes: &[u16; 64],
-    labels: &[u8; 64],
-    roots: &[u16; 254],
-    states: &[u8; 254],
+    nodes: &[u16; CHANGE_LIMIT],
+    labels: &[u8; CHANGE_LIMIT],
+    roots: &[u16; PART_LIMIT],
+    states: &[u8; PART_LIMIT],
 ) -> bool
     ensures { λ r. ⌜ r
         ≡ noQuestion (whole h (now (nodes .entry)) (now (labels .entry)) (now (roots .entry)) (now (states .entry))) ⌝ }
@@ -75,21 +85,21 @@ fn parts_fit(h: Head, roots: &[u16], states: &[u8]) -> bool
     if p < 1 {
         return false;
     }
-    if 254 < p {
+    if PART_LIMIT < p {
         return false;
     }
     let rooted = rises_to(h.sizes.n - 1, &roots[..p]) & zeros(&roots[p..]);
     let reached = all_below(&states[..done], h.sizes.s) & zero_bytes(&states[done..]);
-    rooted & reached & (h.links <= h.passed) & (h.passed <= 65535 * (h.handled as u32))
+    rooted & reached & (h.links <= h.passed) & (h.passed <= MOST_NODES * (h.handled as u32))
 }
 
 // A question: sizes, changes and parts, and no more parts handled than there are.
 fn question_fits(
     h: Head,
-    nodes: &[u16; 64],
-    labels: &[u8; 64],
-    roots: &[u16; 254],
-    states: &[u8; 254],
+    nodes: &[u16; CHANGE_LIMIT],
+    labels: &[u8; CHANGE_LIMIT],
+    roots: &[u16; PART_LIMIT],
+    states: &[u8; PART_LIMIT],
 ) -> bool
     ensures { λ r. ⌜ r
         ≡ questionFits (whole h (now (nodes .entry)) (now (labels .entry)) (now (roots .entry)) (now (states .entry))) ⌝ }
@@ -120,8 +130,8 @@ fn last_fits(s: u8, l: Last) -> bool
         return is_none(l);
     }
     let o = l.outcome;
-    let few = (o.links <= o.passed) & (o.passed <= 65535 * (o.parts as u32));
-    (o.state < s) & (0 < o.parts) & (o.parts <= 254) & few
+    let few = (o.links <= o.passed) & (o.passed <= MOST_NODES * (o.parts as u32));
+    (o.state < s) & (0 < o.parts) & (o.parts <= MOST_PARTS) & few
 }
 
 // Whether two yes or no are the same.
@@ -136,13 +146,13 @@ fn same_flag(a: bool, b: bool) -> bool
 
 // The last finished answer is the record's own, of all its parts.
 fn last_is_own(h: Head, states: &[u8]) -> bool
-    requires { ⌜ length (now states) ≡ 254 ⌝ }
+    requires { ⌜ length (now states) ≡ partLimit ⌝ }
     ensures { λ r. ⌜ ((vs bs rs : List ℕ) → r ≡ lastIsOwn (whole h vs bs rs (now (states .entry)))) ⌝ }
 {
     if h.handled < 1 {
         return false;
     }
-    if 254 < h.handled {
+    if MOST_PARTS < h.handled {
         return false;
     }
     let o = h.last.outcome;
@@ -155,10 +165,10 @@ fn last_is_own(h: Head, states: &[u8]) -> bool
 // The record is valid, by its state.
 pub fn fits<'a>(
     h: Head,
-    nodes: &'a [u16; 64],
-    labels: &'a [u8; 64],
-    roots: &'a [u16; 254],
-    states: &'a [u8; 254],
+    nodes: &'a [u16; CHANGE_LIMIT],
+    labels: &'a [u8; CHANGE_LIMIT],
+    roots: &'a [u16; PART_LIMIT],
+    states: &'a [u8; PART_LIMIT],
 ) -> bool
     ensures { λ r. ⌜ r
         ≡ valid (whole h (now (nodes .entry)) (now (labels .entry)) (now (roots .entry)) (now (states .entry))) ⌝ }

@@ -4,6 +4,7 @@ use crate::listed::listed_nodes_match;
 use crate::listed::listed_states_match_any;
 use tables::node_tables::blocks::block_end;
 use tables::node_tables::blocks::empty_list;
+use tables::node_tables::jump_lengths::LENGTH_COUNT;
 ghost use mathlib.Core.Path.{_≡_};
 ghost use lib.ListN.{length, getD};
 ghost use Rattle.tables.specs.node_tables.JumpLengths.{jumpLengths};
@@ -33,7 +34,7 @@ fn list_block(kinds: &[u8], b: usize, e: usize, list: &mut [u16], leaf_list: &mu
 fn pairs_match(
     labels: &[u8],
     node_table: &[u16],
-    lengths: &[u16; 1024],
+    lengths: &[u16; LENGTH_COUNT],
     leaves: &[u8],
     inner: &[u8],
     s: usize,
@@ -69,7 +70,7 @@ fn block_match(
     kinds: &[u8],
     labels: &[u8],
     node_table: &[u16],
-    lengths: &[u16; 1024],
+    lengths: &[u16; LENGTH_COUNT],
     leaves: &[u8],
     inner: &[u8],
     s: usize,
@@ -120,7 +121,7 @@ pub fn blocks_match(
     kinds: &[u8],
     labels: &[u8],
     node_table: &[u16],
-    lengths: &[u16; 1024],
+    lengths: &[u16; LENGTH_COUNT],
     leaves: &[u8],
     inner: &[u8],
     s: usize,

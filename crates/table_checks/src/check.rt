@@ -2,6 +2,9 @@
 use crate::compare::tables_match;
 use formats::bytes::read32;
 use formats::inputs::check_build;
+use formats::layout::LABEL_COUNT_AT;
+use formats::layout::PLAN_HEAD;
+use formats::layout::RULES_HEAD;
 use formats::rules::inner_count;
 use tables::answers::Checking;
 ghost use mathlib.Core.Path.{_≡_};
@@ -27,13 +30,13 @@ fn both_match(
         (builtStateTable (now (plan .entry)) (now (rules .entry))) (now («node_table» .entry))
         (now («state_table» .entry)) ⌝ }
 {
-    let end = 20 + k + inner_count(s, k);
+    let end = RULES_HEAD + k + inner_count(s, k);
     tables_match(
-        &plan[12 + n..],
-        &plan[12..12 + n],
+        &plan[PLAN_HEAD + n..],
+        &plan[PLAN_HEAD..PLAN_HEAD + n],
         node_table,
-        &rules[20..20 + k],
-        &rules[20 + k..end],
+        &rules[RULES_HEAD..RULES_HEAD + k],
+        &rules[RULES_HEAD + k..end],
         s,
         k,
         state_table,
@@ -54,7 +57,7 @@ pub fn check_tables(plan: &[u8], rules: &[u8], node_table: &[u16], state_table: 
     }
     let n = read32(plan, 0);
     let s = read32(rules, 0);
-    let k = read32(rules, 4);
+    let k = read32(rules, LABEL_COUNT_AT);
     if both_match(plan, rules, n, s, k, node_table, state_table) {
         return Checking::Yes;
     }

@@ -4,6 +4,9 @@ use crate::rows::pair_differences;
 use crate::rows2::pair_differences2;
 use crate::rows16::pair_differences16;
 use crate::siblings::pair_node_differences;
+use formats::layout::NODE_COLUMNS;
+use formats::layout::SIZE;
+use tables::node_tables::jump_lengths::LENGTH_COUNT;
 ghost use mathlib.Core.Path.{_≡_};
 ghost use lib.Dec.{eqb};
 ghost use lib.ListN.{getD};
@@ -29,7 +32,7 @@ fn leaf_differences(
     ensures { λ r. ⌜ eqb r 0 ≡ leafIs (now (labels .entry)) (now («node_table» .entry)) (now (leaves .entry)) s
         (now («state_table» .entry)) v ⌝ }
 {
-    let size = node_table[v * 4 + 3] ^ 1;
+    let size = node_table[v * NODE_COLUMNS + SIZE] ^ 1;
     let a = labels[v] as usize;
     let state = state_table[v * (s + 1)] ^ leaves[a];
     size | (state as u16)
@@ -67,7 +70,7 @@ pub fn listed_leaves_match(
 // Whether the pairs of the first c listed nodes match in the node table.
 pub fn listed_nodes_match(
     node_table: &[u16],
-    lengths: &[u16; 1024],
+    lengths: &[u16; LENGTH_COUNT],
     n: usize,
     list: &[u16],
     c: usize,

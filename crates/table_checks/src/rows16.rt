@@ -5,6 +5,8 @@ use crate::differences::joined_differences;
 use crate::differences::near_differences;
 use crate::places::pair_at;
 use crate::siblings::inside;
+use formats::layout::JUMP;
+use formats::layout::NODE_COLUMNS;
 ghost use mathlib.Core.Path.{_≡_};
 ghost use lib.Dec.{eqb};
 ghost use Rattle.table_checks.specs.inner.PairStates.{rowsMatch, pairStates, RowsArgs, NodeRoom};
@@ -26,12 +28,12 @@ fn row_differences16(
         (now («state_table» .entry)) v left row col step ⌝ }
 {
     let right = v - 1;
-    if node_table[right * 4 + 1] == v as u16 {
+    if node_table[right * NODE_COLUMNS + JUMP] == v as u16 {
         let a = near_differences(state_table, 16, right, inner, row, 1);
         let b = near_differences(state_table, 16, left, inner, col, step);
         return a | b;
     }
-    let j = inside(node_table[v * 4 + 1] as usize, n);
+    let j = inside(node_table[v * NODE_COLUMNS + JUMP] as usize, n);
     let mut joined = [0u8; 16];
     join_maps(state_table, 16, v, j, &mut joined);
     let a = joined_differences(state_table, 16, right, &joined, inner, row, 1);

@@ -2,6 +2,8 @@
 // near or far.
 use crate::places::pair_at;
 use crate::siblings::inside;
+use formats::layout::JUMP;
+use formats::layout::NODE_COLUMNS;
 ghost use mathlib.Core.Path.{_≡_};
 ghost use mathlib.Core.Bool.{cond};
 ghost use Prim.Native.Nat.{_-_, _<_};
@@ -23,7 +25,7 @@ fn far_bit(node_table: &[u16], n: usize, v: usize) -> u8
     ensures { λ r. ⌜ r ≡ cond (eqb (jumpCell (now («node_table» .entry)) (v - 1)) v) 0 1 ⌝ }
 {
     let right = v - 1;
-    if node_table[right * 4 + 1] == v as u16 {
+    if node_table[right * NODE_COLUMNS + JUMP] == v as u16 {
         0
     } else {
         1
@@ -36,7 +38,7 @@ fn two_maps(node_table: &[u16], n: usize, state_table: &[u8], v: usize) -> Two
     ensures { λ r. ⌜ TwoMapped (now («node_table» .entry)) n (now («state_table» .entry)) v (r .zero) (r .one) ⌝ }
 {
     let far = far_bit(node_table, n, v);
-    let j = inside(node_table[v * 4 + 1] as usize, n);
+    let j = inside(node_table[v * NODE_COLUMNS + JUMP] as usize, n);
     let p = state_table[v * 3 + 1] as usize;
     let q = state_table[v * 3 + 2] as usize;
     let x = state_table[j * 3 + (1 + p)];

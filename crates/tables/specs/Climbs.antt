@@ -19,6 +19,7 @@ use lib.Dec.{leb, ltb, eqb}
 use lib.ListN.{length, getD, take, drop}
 use Rattle.trees.specs.Climb.{Move, byJump, toParent, andThen, climb, carry}
 use Rattle.trees.specs.Passed.{passedBy}
+use Rattle.formats.specs.Layout.{planHead, rulesHead}
 use Rattle.tables.specs.node_tables.Cells.{parentCell, sizeCell, cellForest}
 use Rattle.tables.specs.declared.answers.Reached.{Reached}
 use Rattle.tables.specs.declared.answers.Climbed.{Climbed}
@@ -41,10 +42,10 @@ viewOf n s k plan rules nodeTable stateTable = record {
   n = n;
   s = s;
   k = k;
-  labels = take n (drop 12 plan);
-  kinds = take n (drop (12 + n) plan);
-  leaves = take k (drop 20 rules);
-  inner = take (s * k * s) (drop (20 + k) rules);
+  labels = take n (drop planHead plan);
+  kinds = take n (drop (planHead + n) plan);
+  leaves = take k (drop rulesHead rules);
+  inner = take (s * k * s) (drop (rulesHead + k) rules);
   nodeTable = nodeTable;
   stateTable = stateTable;
 }

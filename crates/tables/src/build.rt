@@ -4,6 +4,9 @@ use crate::node_tables::build::build_node_table;
 use crate::tables::write_states;
 use formats::bytes::read32;
 use formats::inputs::check_build;
+use formats::layout::LABEL_COUNT_AT;
+use formats::layout::PLAN_HEAD;
+use formats::layout::RULES_HEAD;
 use formats::rules::inner_count;
 ghost use lib.ListN.{length};
 ghost use Rattle.formats.specs.Checks.{firstNo, buildChecks};
@@ -27,14 +30,14 @@ pub fn write_tables(
         BothWritten (now (plan .entry)) (now (rules .entry)) (now («node_table» .entry)) (now («state_table» .entry))
         (now («node_table» .exit)) (now («state_table» .exit)) ⌝ }
 {
-    let end = 20 + k + inner_count(s, k);
-    build_node_table(&plan[12 + n..], node_table);
+    let end = RULES_HEAD + k + inner_count(s, k);
+    build_node_table(&plan[PLAN_HEAD + n..], node_table);
     write_states(
-        &plan[12 + n..],
-        &plan[12..12 + n],
+        &plan[PLAN_HEAD + n..],
+        &plan[PLAN_HEAD..PLAN_HEAD + n],
         node_table,
-        &rules[20..20 + k],
-        &rules[20 + k..end],
+        &rules[RULES_HEAD..RULES_HEAD + k],
+        &rules[RULES_HEAD + k..end],
         s,
         k,
         state_table,
@@ -61,7 +64,7 @@ pub fn build_tables(
     }
     let n = read32(plan, 0);
     let s = read32(rules, 0);
-    let k = read32(rules, 4);
+    let k = read32(rules, LABEL_COUNT_AT);
     write_tables(plan, rules, n, s, k, node_table, state_table);
     Building::Built
 }

@@ -1,9 +1,13 @@
 // The maps of a rule table's nodes, from the root down. The iteration of an inner node writes both children's maps.
+use crate::node_tables::blocks::BLOCK;
 use crate::node_tables::blocks::empty_list;
 use crate::node_tables::blocks::list_inner;
 use crate::pair_rows::far_pair;
 use crate::pair_rows::near_pair;
 use crate::rows::same_row;
+use formats::layout::JUMP;
+use formats::layout::NODE_COLUMNS;
+use formats::layout::SIZE;
 ghost use Prim.Native.Nat.{_-_};
 ghost use lib.ListN.{length};
 ghost use Rattle.tables.specs.node_tables.inner.UpPass.{leftOf};
@@ -30,14 +34,14 @@ fn fill_pair(
         (v - 1) (leftOf (now («node_table» .entry)) v) (now («state_table» .entry)) (now («state_table» .exit)) ⌝ }
 {
     let right = v - 1;
-    let left = right - node_table[right * 4 + 3] as usize;
+    let left = right - node_table[right * NODE_COLUMNS + SIZE] as usize;
     let a = labels[v] as usize;
     let x = state_table[left * (s + 1)] as usize;
     let y = state_table[right * (s + 1)] as usize;
     let row = (x * k + a) * s;
     let col = a * s + y;
-    let j = node_table[v * 4 + 1] as usize;
-    if node_table[right * 4 + 1] as usize == v {
+    let j = node_table[v * NODE_COLUMNS + JUMP] as usize;
+    if node_table[right * NODE_COLUMNS + JUMP] as usize == v {
         near_pair(state_table, s, right, left, inner, row, col, k * s);
     } else {
         far_pair(state_table, s, v, j, right, left, inner, row, col, k * s);
@@ -130,7 +134,7 @@ pub fn fill_maps(
     let n = kinds.len();
     same_row(state_table, s, n - 1);
     let mut list = empty_list();
-    let mut e = n - n % 1024;
+    let mut e = n - n % BLOCK;
     fill_block(
         kinds,
         labels,
@@ -144,7 +148,7 @@ pub fn fill_maps(
         state_table,
     );
     while 0 < e {
-        let b = e - 1024;
+        let b = e - BLOCK;
         fill_block(
             kinds,
             labels,

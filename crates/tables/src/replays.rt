@@ -7,6 +7,7 @@ use crate::answers::Reached;
 use crate::node_tables::moves::NextMove;
 use crate::node_tables::moves::depth_at;
 use crate::node_tables::moves::next_move;
+use formats::limits::STATE_LIMIT;
 ghost use mathlib.Core.Path.{_≡_};
 ghost use Rattle.tables.specs.node_tables.Cells.{cellForest};
 ghost use Rattle.tables.specs.node_tables.inner.MoveAnswers.{MoveArgs};
@@ -14,6 +15,12 @@ ghost use Rattle.tables.specs.Climbs.{below, climbedOf};
 ghost use Rattle.tables.specs.Replays.{stateMove, carryDown, replayOn};
 ghost use Rattle.tables.specs.inner.Remembered.{moveOf, remembered, Noted, Noticed, entryOf, Folded};
 ghost use Rattle.tables.specs.inner.Remembered.{NoteArgs, StateArgs, RememberArgs, FoldArgs, ReplayArgs};
+
+// How many moves are remembered at a time.
+const KEPT_MOVES: usize = 48;
+
+// No state: above every state of a table.
+const NO_STATE: u8 = 255;
 
 // One move, remembered as twice its node, and 1 more where it is by the jump; and the node that it leads to. Or that
 // there is none.
@@ -63,7 +70,7 @@ fn remember_moves(moves: &mut [u32], node_table: &[u16], n: usize, from: usize, 
     let mut v = from;
     let mut count: usize = 0;
     while to < depth_at(node_table, v) {
-        if 48 <= count {
+        if KEPT_MOVES <= count {
             return Part {
                 ok: true,
                 count,
@@ -151,7 +158,7 @@ fn entry_of(map: &[u8], s: usize, x: usize) -> u8
     ensures { λ r. ⌜ entryOf s (now (map .entry)) x r ⌝ }
 {
     if s <= x {
-        return 255;
+        return NO_STATE;
     }
     map[x]
 }
@@ -167,13 +174,13 @@ fn fold_moves(
     n: usize,
     s: usize,
     k: usize,
-) -> [u8; 16]
+) -> [u8; STATE_LIMIT]
     requires { ⌜ FoldArgs s (now map) × RememberArgs n s k (now moves) count (now labels) (now steps)
         (now «state_table») 0 ⌝ }
     ensures { λ r. ⌜ Folded s (now (map .entry)) (carryDown (stateMove s k (now (labels .entry)) (now (steps .entry))
         (now («state_table» .entry))) (remembered (now (moves .entry)) count)) s r ⌝ }
 {
-    let mut out = [255u8; 16];
+    let mut out = [NO_STATE; STATE_LIMIT];
     let mut q: usize = 0;
     while q < s {
         let x = replay(moves, count, labels, steps, state_table, n, s, k, q);
@@ -201,8 +208,8 @@ fn replay_parts(
         (now («node_table» .entry))
         (now («state_table» .entry)) from to q) ⌝ }
 {
-    let mut map: [u8; 16] = [0, 1, 2, 3, 4, 5, 6, 7, 8, 9, 10, 11, 12, 13, 14, 15];
-    let mut moves = [0u32; 48];
+    let mut map: [u8; STATE_LIMIT] = [0, 1, 2, 3, 4, 5, 6, 7, 8, 9, 10, 11, 12, 13, 14, 15];
+    let mut moves = [0u32; KEPT_MOVES];
     let mut v = from;
     let mut links: u32 = 0;
     while to < depth_at(node_table, v) {
@@ -246,7 +253,7 @@ pub fn replay_climb(
         (now («node_table» .entry))
         (now («state_table» .entry)) from to q) ⌝ }
 {
-    let mut moves = [0u32; 48];
+    let mut moves = [0u32; KEPT_MOVES];
     let x = remember_moves(&mut moves, node_table, n, from, to);
     if !x.ok {
         return Climbed::OutOfRange;

@@ -2,6 +2,8 @@
 use crate::node_tables::blocks::block_end;
 use crate::node_tables::blocks::empty_list;
 use crate::node_tables::blocks::list_inner;
+use formats::layout::NODE_COLUMNS;
+use formats::layout::SIZE;
 use formats::rules::rule;
 ghost use mathlib.Core.Path.{_≡_};
 ghost use lib.ListN.{length, getD};
@@ -23,7 +25,7 @@ pub fn inner_state(
 {
     let w = s + 1;
     let right = v - 1;
-    let left = right - (node_table[right * 4 + 3] as usize);
+    let left = right - (node_table[right * NODE_COLUMNS + SIZE] as usize);
     let p = state_table[left * w] as usize;
     let q = state_table[right * w] as usize;
     rule(inner, s, k, p, a, q)

@@ -14,6 +14,7 @@ use lib.ListN.{length, getD}
 use Rattle.trees.specs.Tree.{Tree, size, labelsOf}
 use Rattle.trees.specs.Automaton.{WordAutomaton}
 use Rattle.trees.specs.Tables.{branchState}
+use Rattle.formats.specs.Limits.{stateLimit}
 use Rattle.formats.specs.Checks.{nodeTableLength, stateTableLength}
 use Rattle.tables.specs.node_tables.NodeCells.{NodeCells}
 use Rattle.tables.specs.StateCells.{stateCell}
@@ -29,7 +30,7 @@ pub record BranchArgs (ls nodeTable st : List ℕ) (s k n m : ℕ) : Type 0 wher
   pub automaton : WordAutomaton
   pub tree : Tree
   pub lent : BranchGiven automaton tree ls nodeTable st s k n
-  pub few : s ≤ 16
+  pub few : s ≤ stateLimit
   pub node-table-room : nodeTableLength n ≤ length nodeTable
   pub room : stateTableLength n s ≤ m
   pub steps-room : s * k ≤ length st

@@ -13,6 +13,7 @@ use mathlib.Core.List.{List, _++_}
 use lib.ListN.{length, getD, drop}
 use Rattle.trees.specs.Tree.{Tree, size, kindsOf, labelsOf}
 use Rattle.trees.specs.Tables.{nodeTableOf, branchTableOf}
+use Rattle.formats.specs.Limits.{nodeLimit, stateLimit}
 use Rattle.formats.specs.Plan.{nodeCount, planLength}
 use Rattle.formats.specs.Rules.{wordAutomaton, stateCount, labelCount, branchLength}
 use Rattle.formats.specs.Checks.{firstNo, branchBuildChecks, nodeTableLength, stateTableLength}
@@ -23,8 +24,8 @@ pub record FillArgs (ls ks st : List ℕ) (s k n l m : ℕ) : Type 0 where
   pub kinds : kindsOf tree ≡ ks
   pub labels : labelsOf tree ≡ ls
   pub count : size tree ≡ n
-  pub most : n ≤ 65535
-  pub few : s ≤ 16
+  pub most : n ≤ nodeLimit
+  pub few : s ≤ stateLimit
   pub node-table-room : nodeTableLength n ≤ l
   pub room : stateTableLength n s ≤ m
   pub steps-room : s * k ≤ length st

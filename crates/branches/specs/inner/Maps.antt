@@ -14,6 +14,7 @@ use lib.ListN.{length, getD}
 use Rattle.trees.specs.Tree.{Tree}
 use Rattle.trees.specs.Automaton.{WordAutomaton}
 use Rattle.trees.specs.Tables.{branchMap}
+use Rattle.formats.specs.Layout.{nodeColumns}
 use Rattle.tables.specs.node_tables.Cells.{parentCell, jumpCell}
 use Rattle.tables.specs.StateCells.{mapCell}
 use Rattle.tables.specs.inner.Rows.{RowIn}
@@ -40,8 +41,8 @@ pub record StepRowArgs (b : List ℕ) (s v p j l k a : ℕ) : Type 0 where
 
 pub record NodeArgs (ls nodeTable st : List ℕ) (s k : ℕ) (b : List ℕ) (v : ℕ) : Type 0 where
   pub label : v < length ls
-  pub links : v * 4 + 4 ≤ length nodeTable
-  pub parent-links : parentCell nodeTable v * 4 + 4 ≤ length nodeTable
+  pub links : v * nodeColumns + nodeColumns ≤ length nodeTable
+  pub parent-links : parentCell nodeTable v * nodeColumns + nodeColumns ≤ length nodeTable
   pub near : (q : ℕ) → q < s → getD ls v 0 + q * k < length st
   pub far : StepRowArgs b s v (parentCell nodeTable v) (jumpCell nodeTable (parentCell nodeTable v)) (length st) k (getD ls v 0)
 

@@ -14,6 +14,7 @@ use mathlib.Core.List.{List, [], _∷_}
 use lib.Dec.{eqb}
 use lib.ListN.{length, getD, take, set}
 use Rattle.list_laws.specs.Tests.{holds}
+use Rattle.formats.specs.Limits.{changeLimit}
 use Rattle.formats.specs.inner.InnerChecks.{listsFit}
 use Rattle.changes.specs.LayOver.{padded}
 use Rattle.changes.specs.Differing.{differing}
@@ -47,14 +48,14 @@ keptIn ls t (v ∷ vs) (b ∷ bs) = keptIn ls (cond (isLeft ls v b vs) (pushed t
 
 -- there is room for one node more, and place i is inside both lists
 pub record KeepArgs (t : LeftNodes) (vs bs last : List ℕ) (i : ℕ) : Type 0 where
-  pub wide : length (t .nodes) ≡ 64
-  pub room : t .count < 64
+  pub wide : length (t .nodes) ≡ changeLimit
+  pub room : t .count < changeLimit
   pub place : PlaceArgs vs last i
   pub one-length : length vs ≡ length bs
 
 pub record DifferingDone (ls vs bs : List ℕ) (r : LeftNodes) : Type 0 where
   -- on every input: these nodes, then zeros
   pub result : r ≡ leftNodes (givenDiffering ls vs bs)
-  pub few : r .count ≤ 64
+  pub few : r .count ≤ changeLimit
   -- where the lists pass 12: exactly the nodes that are left in W
   pub same : listsFit vs bs ≡ true → (v : ℕ) → holds v (take (r .count) (r .nodes)) ≡ holds v (differing ls vs bs)

@@ -8,6 +8,7 @@ use Prim.Native.Nat.{ℕ, _%_, _≤_, _<_}
 use mathlib.Core.Path.{_≡_}
 use mathlib.Core.List.{List}
 use lib.ListN.{length, getD}
+use Rattle.formats.specs.Limits.{changeLimit}
 
 pub record LastPlaces (n : ℕ) (vs last : List ℕ) : Type 0 where
   pub wide : length last ≡ 256
@@ -15,5 +16,5 @@ pub record LastPlaces (n : ℕ) (vs last : List ℕ) : Type 0 where
 
 pub record PlaceArgs (vs last : List ℕ) (i : ℕ) : Type 0 where
   pub places : LastPlaces (length vs) vs last
-  pub most : length vs ≤ 64
+  pub most : length vs ≤ changeLimit
   pub inside : i < length vs

@@ -9,6 +9,7 @@ use mathlib.Core.Bool.{Bool, true, cond}
 use mathlib.Core.List.{List, []}
 use lib.ListN.{length, getD}
 use Rattle.list_laws.specs.Tests.{allBelow}
+use Rattle.formats.specs.Limits.{nodeLimit, changeLimit, partLimit}
 use Rattle.formats.specs.Rules.{ruleLength}
 use Rattle.formats.specs.Buffers.{limitsFit, buffersFit}
 use Rattle.tables.specs.Climbs.{View}
@@ -27,9 +28,9 @@ countedOn X vs = cond (isCountable X vs) (countedAt X vs (listIn (rootsIn X vs))
 
 pub record RootArgs (n s k : ℕ) (ls ks lv inn nodeTable stateTable vs ms : List ℕ) : Type 0 where
   pub runs : Runs n s k ls ks lv inn nodeTable stateTable
-  pub listed : length vs ≤ 65535
+  pub listed : length vs ≤ nodeLimit
   pub some-root : 0 < length ms
-  pub few : length ms ≤ 254
+  pub few : length ms ≤ partLimit
   pub nodes : (i : ℕ) → i < length ms → getD ms i 0 < n
 
 pub record OnArgs (n s k : ℕ) (ls ks lv inn nodeTable stateTable vs : List ℕ) : Type 0 where
@@ -38,9 +39,9 @@ pub record OnArgs (n s k : ℕ) (ls ks lv inn nodeTable stateTable vs : List ℕ
   pub some-node : 0 < n
   pub kinds-room : n ≤ length ks
   pub leaves-room : k ≤ length lv
-  pub listed : length vs ≤ 64
+  pub listed : length vs ≤ changeLimit
 
 pub record RunArgs (n s k : ℕ) (p r nodeTable stateTable vs : List ℕ) : Type 0 where
   pub limits : limitsFit n s k ≡ true
   pub lengths : buffersFit n s (ruleLength s k) (length p) (length r) (length nodeTable) (length stateTable) ≡ true
-  pub listed : length vs ≤ 64
+  pub listed : length vs ≤ changeLimit

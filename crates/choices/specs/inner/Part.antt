@@ -15,6 +15,8 @@ use mathlib.Core.Bool.{Bool, true, false, cond, _&&_}
 use mathlib.Core.List.{List}
 use lib.Dec.{leb, ltb}
 use lib.ListN.{length, getD}
+use Rattle.formats.specs.Layout.{nodeColumns}
+use Rattle.formats.specs.Limits.{nodeLimit, stateLimit, partLimit}
 use Rattle.tables.specs.node_tables.Cells.{sizeCell}
 use Rattle.tables.specs.Climbs.{View}
 use Rattle.tables.specs.inner.PathViews.{PathArgs}
@@ -37,9 +39,9 @@ childrenIn nodeTable v = ltb 0 v && leb (sizeCell nodeTable (v - 1)) (v - 1)
 
 pub record PlaceArgs (ks nodeTable es : List ℕ) (v : ℕ) : Type 0 where
   pub kind : v < length ks
-  pub node : v ≤ 65535
-  pub room : v * 4 ≤ length nodeTable
-  pub many : length es ≤ 65535
+  pub node : v ≤ nodeLimit
+  pub room : v * nodeColumns ≤ length nodeTable
+  pub many : length es ≤ nodeLimit
 
 pub record PlacesAre (ks nodeTable es : List ℕ) (v : ℕ) (q : Places) : Type 0 where
   pub no-leaf : q .ok ≡ false → getD ks v 0 ≡ 0 → ⊥
@@ -60,10 +62,10 @@ pub record Runs (n s k : ℕ) (ls ks lv inn nodeTable stateTable : List ℕ) : T
 pub record PartNeeds (n s k : ℕ) (ls ks lv inn nodeTable stateTable es cs : List ℕ) (v : ℕ) (m : List ℕ) : Type 0 where
   pub runs : Runs n s k ls ks lv inn nodeTable stateTable
   pub at : v < n
-  pub few : length es ≤ 254
-  pub room : length es * 16 ≤ length cs
+  pub few : length es ≤ partLimit
+  pub room : length es * stateLimit ≤ length cs
   pub most : (j : ℕ) → getD cs j 0 ≤ countLimit
-  pub sixteen : length m ≡ 16
+  pub sixteen : length m ≡ stateLimit
   pub empty : (j : ℕ) → getD m j 0 ≡ 0
 
 pub record PartCounted (X : View) (w : ℕ → Bool) (es cs : List ℕ) (v : ℕ) (a : Carried) (m : List ℕ) : Type 0 where

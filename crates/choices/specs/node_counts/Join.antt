@@ -10,6 +10,7 @@ use Prim.Native.Nat.{ℕ, _+_, _-_, _*_, _≤_, _<_}
 use mathlib.Core.Path.{_≡_}
 use mathlib.Core.List.{List}
 use lib.ListN.{length, getD}
+use Rattle.formats.specs.Limits.{stateLimit, labelLimit}
 use Rattle.choices.specs.assignments.Sums.{sumTo, one}
 use Rattle.choices.specs.node_counts.Capped.{countLimit, capped}
 
@@ -21,16 +22,16 @@ waysTo f s k i e p q c = sumTo (e - i) (λ j. one c (ledTo f s k p q (i + j)))
 
 -- the table and the labels
 pub record TableArgs (f : List ℕ) (s k i e : ℕ) : Type 0 where
-  pub states-most : s ≤ 16
-  pub labels-most : k ≤ 64
+  pub states-most : s ≤ stateLimit
+  pub labels-most : k ≤ labelLimit
   pub order : i ≤ e
   pub labels : e ≤ k
   pub room : s * k * s ≤ length f
-  pub below : (j : ℕ) → getD f j 0 < 16
+  pub below : (j : ℕ) → getD f j 0 < stateLimit
 
 -- counts that were kept
 pub record Kept (l : List ℕ) : Type 0 where
-  pub sixteen : length l ≡ 16
+  pub sixteen : length l ≡ stateLimit
   pub most : (c : ℕ) → getD l c 0 ≤ countLimit
 
 pub record AccumulateArgs (f : List ℕ) (s k i e p q x : ℕ) (l : List ℕ) : Type 0 where
@@ -43,7 +44,7 @@ pub record AccumulateArgs (f : List ℕ) (s k i e p q x : ℕ) (l : List ℕ) : 
 -- x for each label that leads to the state
 pub record Accumulated (f : List ℕ) (s k i e p q x : ℕ) (l r : List ℕ) : Type 0 where
   pub kept : Kept r
-  pub counts : (c : ℕ) → c < 16 → getD r c 0 ≡ capped (getD l c 0 + waysTo f s k i e p q c * x)
+  pub counts : (c : ℕ) → c < stateLimit → getD r c 0 ≡ capped (getD l c 0 + waysTo f s k i e p q c * x)
 
 pub record RowArgs (f : List ℕ) (s k i e p : ℕ) (cr l : List ℕ) : Type 0 where
   pub table : TableArgs f s k i e
@@ -53,7 +54,7 @@ pub record RowArgs (f : List ℕ) (s k i e p : ℕ) (cr l : List ℕ) : Type 0 w
 
 pub record RowJoined (f : List ℕ) (s k i e p x : ℕ) (cr l r : List ℕ) : Type 0 where
   pub kept : Kept r
-  pub counts : (c : ℕ) → c < 16
+  pub counts : (c : ℕ) → c < stateLimit
       → getD r c 0 ≡ capped (getD l c 0 + x * sumTo s (λ q. getD cr q 0 * waysTo f s k i e p q c))
 
 pub record JoinArgs (f : List ℕ) (s k i e : ℕ) (cl cr l : List ℕ) : Type 0 where
@@ -65,6 +66,6 @@ pub record JoinArgs (f : List ℕ) (s k i e : ℕ) (cl cr l : List ℕ) : Type 0
 -- "members below both children": the sum over both states of the products of their counts
 pub record Joined (f : List ℕ) (s k i e : ℕ) (cl cr l r : List ℕ) : Type 0 where
   pub kept : Kept r
-  pub counts : (c : ℕ) → c < 16
+  pub counts : (c : ℕ) → c < stateLimit
       → getD r c 0
       ≡ capped (getD l c 0 + sumTo s (λ p. getD cl p 0 * sumTo s (λ q. getD cr q 0 * waysTo f s k i e p q c)))

@@ -14,6 +14,7 @@ use mathlib.Core.Bool.{Bool, true, false, _&&_}
 use mathlib.Core.List.{List}
 use mathlib.Core.Option.{Option, none, some}
 use lib.ListN.{getD}
+use Rattle.formats.specs.Limits.{stateLimit}
 use Rattle.tables.specs.declared.answers.Reached.{Reached}
 use Rattle.tables.specs.Climbs.{View, climbOn}
 use Rattle.tables.specs.inner.PathViews.{PathArgs}
@@ -52,5 +53,5 @@ pub record CarriedUp (X : View) (h t : ℕ) (row l : List ℕ) (r : Carried) (m 
   pub ok : r .ok ≡ allArrive X h t (X .s)
   pub links : r .ok ≡ true → r .links ≡ linksIn (climbOn X h t (X .s - 1))
   pub kept : Kept m
-  pub counts : r .ok ≡ true → (c : ℕ) → c < 16
+  pub counts : r .ok ≡ true → (c : ℕ) → c < stateLimit
       → getD m c 0 ≡ capped (getD l c 0 + sumTo (X .s) (λ q. getD row q 0 * one c (arrivesAt X h t q)))

@@ -9,6 +9,7 @@ use mathlib.Core.Path.{_≡_}
 use mathlib.Core.Bool.{Bool, true, _&&_}
 use mathlib.Core.List.{List}
 use lib.ListN.{length, getD}
+use Rattle.formats.specs.Limits.{stateLimit, partLimit}
 use Rattle.tables.specs.Climbs.{View}
 use Rattle.tables.specs.inner.PathViews.{PathArgs}
 use Rattle.choices.specs.assignments.Sums.{sumTo}
@@ -37,14 +38,14 @@ pub record ForkArgs (n s k : ℕ) (ls inn nodeTable stateTable es cs : List ℕ)
   pub left-at : l < n
   pub right-at : r < n
   pub most : (a : ℕ) → getD cs a 0 ≤ countLimit
-  pub few : length es ≤ 254
-  pub room : length es * 16 ≤ length cs
+  pub few : length es ≤ partLimit
+  pub room : length es * stateLimit ≤ length cs
   pub left-place : i ≤ length es
   pub right-place : j ≤ length es
   pub left-inside : (a : ℕ) → i ≡ a + 1 → getD es a 0 < n
   pub right-inside : (a : ℕ) → j ≡ a + 1 → getD es a 0 < n
   pub table : TableArgs inn s k b e
-  pub sixteen : length m ≡ 16
+  pub sixteen : length m ≡ stateLimit
   pub empty : (a : ℕ) → getD m a 0 ≡ 0
 
 pub record ForkDone (X : View) (es cs : List ℕ) (t l r i j b e : ℕ) (a : Carried) (m : List ℕ) : Type 0 where
@@ -52,4 +53,4 @@ pub record ForkDone (X : View) (es cs : List ℕ) (t l r i j b e : ℕ) (a : Car
   pub links : a .ok ≡ true → a .links ≡ forkLinks X es t i j
   pub few : a .ok ≡ true → a .links ≤ 2 * X .n
   pub kept : Kept m
-  pub counts : a .ok ≡ true → (c : ℕ) → c < 16 → getD m c 0 ≡ capped (forkCount X es cs t l r i j b e c)
+  pub counts : a .ok ≡ true → (c : ℕ) → c < stateLimit → getD m c 0 ≡ capped (forkCount X es cs t l r i j b e c)

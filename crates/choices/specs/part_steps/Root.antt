@@ -11,6 +11,7 @@ use mathlib.Core.Bool.{Bool, true, cond}
 use mathlib.Core.List.{List}
 use lib.Dec.{eqb}
 use lib.ListN.{length, getD}
+use Rattle.formats.specs.Limits.{stateLimit}
 use Rattle.tables.specs.node_tables.Cells.{depthCell}
 use Rattle.tables.specs.Climbs.{View}
 use Rattle.tables.specs.inner.PathViews.{PathArgs}
@@ -40,7 +41,7 @@ pub record RootArgs (n s k : ℕ) (ls ks lv inn nodeTable stateTable es cs : Lis
   pub leaves : TableArgs lv 1 k b e
   pub inside : (getD ks v 0 ≡ 0 → ⊥) → l < v
   pub fork : (getD ks v 0 ≡ 0 → ⊥) → ForkArgs n s k ls inn nodeTable stateTable es cs l (v - 1) i j b e m
-  pub sixteen : length m ≡ 16
+  pub sixteen : length m ≡ stateLimit
   pub empty : (a : ℕ) → getD m a 0 ≡ 0
 
 pub record RootDone (X : View) (ks lv es cs : List ℕ) (v l i j b e : ℕ) (a : Carried) (m : List ℕ) : Type 0 where
@@ -48,4 +49,4 @@ pub record RootDone (X : View) (ks lv es cs : List ℕ) (v l i j b e : ℕ) (a :
   pub links : a .ok ≡ true → a .links ≡ rootLinks X ks es v i j
   pub few : a .ok ≡ true → a .links ≤ 2 * X .n
   pub kept : Kept m
-  pub counts : a .ok ≡ true → (c : ℕ) → c < 16 → getD m c 0 ≡ capped (rootCount X ks lv es cs v l i j b e c)
+  pub counts : a .ok ≡ true → (c : ℕ) → c < stateLimit → getD m c 0 ≡ capped (rootCount X ks lv es cs v l i j b e c)

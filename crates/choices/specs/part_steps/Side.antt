@@ -14,6 +14,7 @@ use mathlib.Core.Bool.{Bool, true}
 use mathlib.Core.List.{List}
 use lib.Dec.{ltb}
 use lib.ListN.{length, getD}
+use Rattle.formats.specs.Limits.{stateLimit, partLimit}
 use Rattle.tables.specs.StateCells.{stateCell}
 use Rattle.tables.specs.Climbs.{View, climbOn}
 use Rattle.tables.specs.inner.PathViews.{PathArgs}
@@ -24,7 +25,7 @@ use Rattle.choices.specs.declared.part_steps.carry.Carried.{Carried}
 use Rattle.choices.specs.part_steps.Carry.{linksIn, arrivesAt, allArrive}
 
 abbrev pub countIn : List ℕ → ℕ → ℕ → ℕ
-countIn cs i q = getD cs (i * 16 + q) 0
+countIn cs i q = getD cs (i * stateLimit + q) 0
 
 unfoldable pub sideOk : View → List ℕ → ℕ → ℕ → ℕ → ℕ → Bool
 sideOk X es t c zero other = ltb (stateCell (X .s) (X .stateTable) c) (X .s)
@@ -43,13 +44,13 @@ sideCount X es cs t c (suc i) (suc j) p = countIn cs i p
 
 pub record RowArgs (cs : List ℕ) (i : ℕ) (l : List ℕ) : Type 0 where
   pub few : i < 65536
-  pub room : i * 16 + 16 ≤ length cs
+  pub room : i * stateLimit + stateLimit ≤ length cs
   pub most : (j : ℕ) → getD cs j 0 ≤ countLimit
-  pub sixteen : length l ≡ 16
+  pub sixteen : length l ≡ stateLimit
 
 pub record RowCopied (cs : List ℕ) (i : ℕ) (r : List ℕ) : Type 0 where
   pub kept : Kept r
-  pub counts : (c : ℕ) → c < 16 → getD r c 0 ≡ countIn cs i c
+  pub counts : (c : ℕ) → c < stateLimit → getD r c 0 ≡ countIn cs i c
 
 -- the entry at place `own`, if it is one, is a root among the nodes
 pub record SideArgs (n s k : ℕ) (ls inn nodeTable stateTable es cs : List ℕ) (c own : ℕ) (l : List ℕ) : Type 0 where
@@ -57,11 +58,11 @@ pub record SideArgs (n s k : ℕ) (ls inn nodeTable stateTable es cs : List ℕ)
   pub some-state : 0 < s
   pub at : c < n
   pub most : (j : ℕ) → getD cs j 0 ≤ countLimit
-  pub few : length es ≤ 254
-  pub room : length es * 16 ≤ length cs
+  pub few : length es ≤ partLimit
+  pub room : length es * stateLimit ≤ length cs
   pub place : own ≤ length es
   pub inside : (i : ℕ) → own ≡ i + 1 → getD es i 0 < n
-  pub sixteen : length l ≡ 16
+  pub sixteen : length l ≡ stateLimit
   pub empty : (j : ℕ) → getD l j 0 ≡ 0
 
 pub record SideDone (X : View) (es cs : List ℕ) (t c own other : ℕ) (r : Carried) (m : List ℕ) : Type 0 where
@@ -69,4 +70,4 @@ pub record SideDone (X : View) (es cs : List ℕ) (t c own other : ℕ) (r : Car
   pub links : r .ok ≡ true → r .links ≡ sideLinks X es t own other
   pub few : r .ok ≡ true → r .links ≤ X .n
   pub kept : Kept m
-  pub counts : r .ok ≡ true → (p : ℕ) → p < 16 → getD m p 0 ≡ capped (sideCount X es cs t c own other p)
+  pub counts : r .ok ≡ true → (p : ℕ) → p < stateLimit → getD m p 0 ≡ capped (sideCount X es cs t c own other p)

@@ -19,7 +19,7 @@ use mathlib.Core.Option.{Option, none, some}
 use lib.Dec.{leb}
 use lib.ListN.{length, getD}
 use Rattle.list_laws.specs.Tests.{allBelow, holds, distinct}
-use Rattle.formats.specs.Limits.{changeLimit}
+use Rattle.formats.specs.Limits.{stateLimit, changeLimit}
 use Rattle.formats.specs.Plan.{nodeCount}
 use Rattle.formats.specs.Rules.{stateCount, labelCount}
 use Rattle.formats.specs.Checks.{Check, check, firstNo}
@@ -54,7 +54,7 @@ unfoldable pub isCountable : View → List ℕ → Bool
 isCountable X vs = statesInside X && allOk X vs (rootsIn X vs)
 
 unfoldable pub countOf : View → List ℕ → List ℕ → ℕ → ℕ
-countOf X vs ms c = getD (rowsFrom X (openIn vs) [] [] ms) ((length ms - 1) * 16 + c) 0
+countOf X vs ms c = getD (rowsFrom X (openIn vs) [] [] ms) ((length ms - 1) * stateLimit + c) 0
 
 abbrev pub linksOf : View → List ℕ → ℕ
 linksOf X ms = linksFrom X [] ms

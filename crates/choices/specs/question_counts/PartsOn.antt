@@ -10,6 +10,7 @@ use Prim.Native.Nat.{ℕ, _+_}
 use mathlib.Core.Bool.{Bool, true, _&&_}
 use mathlib.Core.List.{List, [], _∷_, _++_}
 use Rattle.list_laws.specs.Rows.{tabulate}
+use Rattle.formats.specs.Limits.{stateLimit}
 use Rattle.tables.specs.Climbs.{View}
 use Rattle.choices.specs.node_counts.Capped.{capped}
 use Rattle.choices.specs.question_counts.PartOn.{partOkOn, partLinksOn, partCountOn}
@@ -23,7 +24,7 @@ linksFrom X es [] = 0
 linksFrom X es (v ∷ ms) = partLinksOn X es v + linksFrom X (es ++ (v ∷ [])) ms
 
 unfoldable pub rowOn : View → (ℕ → Bool) → List ℕ → List ℕ → ℕ → List ℕ
-rowOn X w es cs v = tabulate 16 (λ c. capped (partCountOn X w es cs v c))
+rowOn X w es cs v = tabulate stateLimit (λ c. capped (partCountOn X w es cs v c))
 
 unfoldable pub rowsFrom : View → (ℕ → Bool) → List ℕ → List ℕ → List ℕ → List ℕ
 rowsFrom X w es cs [] = cs

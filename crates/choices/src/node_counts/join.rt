@@ -1,6 +1,7 @@
 // The counts of a node: those of both children multiplied, for every label that it may have.
 use crate::node_counts::sums::capped_add;
 use crate::node_counts::sums::capped_times;
+use formats::limits::STATE_LIMIT;
 ghost use mathlib.Core.Path.{_≡_};
 ghost use Rattle.choices.specs.node_counts.Join.{AccumulateArgs, Accumulated, RowArgs, RowJoined, JoinArgs, Joined};
 
@@ -15,7 +16,7 @@ pub fn accumulate(
     p: usize,
     q: usize,
     x: u64,
-    out: &mut [u64; 16],
+    out: &mut [u64; STATE_LIMIT],
 )
     requires { ⌜ AccumulateArgs (now inner) s k from to p q x (now out) ⌝ }
     ensures { λ r. ⌜ Accumulated (now (inner .entry)) s k from to p q x (now (out .entry)) (now (out .exit)) ⌝ }
@@ -40,8 +41,8 @@ pub fn join_row(
     to: usize,
     p: usize,
     x: u64,
-    right: &[u64; 16],
-    out: &mut [u64; 16],
+    right: &[u64; STATE_LIMIT],
+    out: &mut [u64; STATE_LIMIT],
 )
     requires { ⌜ RowArgs (now inner) s k from to p (now right) (now out) ⌝ }
     ensures { λ r. ⌜ RowJoined (now (inner .entry)) s k from to p x (now (right .entry)) (now (out .entry))
@@ -63,9 +64,9 @@ pub fn join(
     k: usize,
     from: usize,
     to: usize,
-    left: &[u64; 16],
-    right: &[u64; 16],
-    out: &mut [u64; 16],
+    left: &[u64; STATE_LIMIT],
+    right: &[u64; STATE_LIMIT],
+    out: &mut [u64; STATE_LIMIT],
 )
     requires { ⌜ JoinArgs (now inner) s k from to (now left) (now right) (now out) ⌝ }
     ensures { λ r. ⌜ Joined (now (inner .entry)) s k from to (now (left .entry)) (now (right .entry)) (now (out .entry))

@@ -1,5 +1,6 @@
 // The counts of a root carried by the climb to a depth above it.
 use crate::node_counts::sums::capped_add;
+use formats::limits::STATE_LIMIT;
 use tables::answers::Climbed;
 use tables::climb::climb_state;
 ghost use mathlib.Core.Path.{_≡_};
@@ -23,8 +24,8 @@ pub fn carry_counts(
     k: usize,
     from: usize,
     to: usize,
-    row: &[u64; 16],
-    out: &mut [u64; 16],
+    row: &[u64; STATE_LIMIT],
+    out: &mut [u64; STATE_LIMIT],
 ) -> Carried
     requires { ⌜ CarryArgs n s k (now labels) (now inner) (now «node_table») (now «state_table») from
         (now row) (now out) ⌝ }

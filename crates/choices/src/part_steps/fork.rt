@@ -2,12 +2,14 @@
 use crate::node_counts::join::join;
 use crate::part_steps::carry::Carried;
 use crate::part_steps::side::side_counts;
+use formats::limits::STATE_LIMIT;
 ghost use mathlib.Core.Path.{_≡_};
 ghost use Rattle.tables.specs.inner.PathViews.{pathView};
 ghost use Rattle.choices.specs.part_steps.Fork.{ForkArgs, ForkDone};
 
 // The counts of a node with children l and r at depth `to`, where i and j are the places of the last earlier roots
 // below them, and whose labels are those from `first` to before `end`. `out` is 0 at first.
+// On the many parameters see docs/DECISIONS.md, "Many parameters".
 pub fn fork_counts(
     labels: &[u8],
     inner: &[u8],
@@ -25,7 +27,7 @@ pub fn fork_counts(
     j: usize,
     first: usize,
     end: usize,
-    out: &mut [u64; 16],
+    out: &mut [u64; STATE_LIMIT],
 ) -> Carried
     requires { ⌜ ForkArgs n s k (now labels) (now inner) (now «node_table») (now «state_table») (now earlier)
         (now table) l r i j first end (now out) ⌝ }
@@ -33,7 +35,7 @@ pub fn fork_counts(
         (now («state_table» .entry))) (now (earlier .entry)) (now (table .entry)) to l r i j first end a
         (now (out .exit)) ⌝ }
 {
-    let mut left = [0u64; 16];
+    let mut left = [0u64; STATE_LIMIT];
     let x = side_counts(
         labels,
         inner,
@@ -56,7 +58,7 @@ pub fn fork_counts(
             links: 0,
         };
     }
-    let mut right = [0u64; 16];
+    let mut right = [0u64; STATE_LIMIT];
     let y = side_counts(
         labels,
         inner,

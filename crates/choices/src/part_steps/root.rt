@@ -2,6 +2,7 @@
 use crate::node_counts::join::accumulate;
 use crate::part_steps::carry::Carried;
 use crate::part_steps::fork::fork_counts;
+use formats::limits::STATE_LIMIT;
 use tables::node_tables::moves::depth_at;
 ghost use mathlib.Core.Path.{_≡_};
 ghost use Rattle.tables.specs.inner.PathViews.{pathView};
@@ -9,6 +10,7 @@ ghost use Rattle.choices.specs.part_steps.Root.{RootArgs, RootDone};
 
 // The counts of node v with labels from `first` to before `end`: a leaf's at its leaf states, an inner node's from its
 // children l and v - 1, where i and j are the places of the last earlier roots below them. `out` is 0 at first.
+// On the many parameters see docs/DECISIONS.md, "Many parameters".
 pub fn root_counts(
     labels: &[u8],
     kinds: &[u8],
@@ -27,7 +29,7 @@ pub fn root_counts(
     j: usize,
     first: usize,
     end: usize,
-    out: &mut [u64; 16],
+    out: &mut [u64; STATE_LIMIT],
 ) -> Carried
     requires { ⌜ RootArgs n s k (now labels) (now kinds) (now leaves) (now inner) (now «node_table») (now «state_table»)
         (now earlier) (now table) v l i j first end (now out) ⌝ }

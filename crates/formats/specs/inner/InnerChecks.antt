@@ -16,39 +16,40 @@ use mathlib.Core.Bool.{Bool, _&&_}
 use mathlib.Core.List.{List}
 use lib.Dec.{leb, eqb}
 use lib.ListN.{length, take, drop}
+use Rattle.formats.specs.Layout.{planHead, rulesHead, branchHead}
 use Rattle.formats.specs.Bytes.{le32}
 use Rattle.list_laws.specs.Tests.{allBelow}
-use Rattle.formats.specs.Limits.{stateLimit, labelLimit, changeLimit, within}
+use Rattle.formats.specs.Limits.{nodeLimit, stateLimit, labelLimit, changeLimit, within}
 use Rattle.formats.specs.Plan.{nodeCount}
 use Rattle.formats.specs.Rules.{ruleLength, branchLength}
 use Rattle.formats.specs.Checks.{nodeTableLength, stateTableLength}
 
 pub record Counts (s k : ℕ) : Type 0 where
-  pub states : s ≤ 16
-  pub labels : k ≤ 64
+  pub states : s ≤ stateLimit
+  pub labels : k ≤ labelLimit
 
 pub record Headed (b : List ℕ) (head s k : ℕ) : Type 0 where
   pub long : head ≤ length b
-  pub states : s ≤ 16
-  pub labels : k ≤ 64
+  pub states : s ≤ stateLimit
+  pub labels : k ≤ labelLimit
 
 pub record RuleSized (b : List ℕ) (s k : ℕ) : Type 0 where
   pub exact : length b ≡ ruleLength s k
-  pub states : s ≤ 16
-  pub labels : k ≤ 64
+  pub states : s ≤ stateLimit
+  pub labels : k ≤ labelLimit
 
 pub record BranchSized (b : List ℕ) (s k : ℕ) : Type 0 where
   pub exact : length b ≡ branchLength s k
-  pub states : s ≤ 16
-  pub labels : k ≤ 64
+  pub states : s ≤ stateLimit
+  pub labels : k ≤ labelLimit
 
 pub record Sizes (n s : ℕ) : Type 0 where
-  pub nodes : n ≤ 65535
-  pub states : s ≤ 16
+  pub nodes : n ≤ nodeLimit
+  pub states : s ≤ stateLimit
 
 pub record Labelled (p : List ℕ) (k : ℕ) : Type 0 where
-  pub long : 12 + nodeCount p ≤ length p
-  pub labels : k ≤ 64
+  pub long : planHead + nodeCount p ≤ length p
+  pub labels : k ≤ labelLimit
 
 pub record RuleArgs (inn : List ℕ) (s k p a q : ℕ) : Type 0 where
   pub small : p * k + a < 65536
@@ -64,18 +65,18 @@ countsFit s k = within 1 stateLimit s && within 1 labelLimit k
 
 abbrev pub ruleShape : List ℕ → ℕ → ℕ → Bool
 ruleShape b s k =
-    eqb (le32 b 8) 20 && (eqb (le32 b 12) (20 + k) && (eqb (le32 b 16) (20 + k + s * k * s) && eqb (length b) (ruleLength s k)))
+    eqb (le32 b 8) rulesHead && (eqb (le32 b 12) (rulesHead + k) && (eqb (le32 b 16) (rulesHead + k + s * k * s) && eqb (length b) (ruleLength s k)))
 
 abbrev pub ruleValues : List ℕ → ℕ → ℕ → Bool
 ruleValues b s k =
-    allBelow s (take k (drop 20 b))
-    && (allBelow s (take (s * k * s) (drop (20 + k) b)) && allBelow 2 (take s (drop (20 + k + s * k * s) b)))
+    allBelow s (take k (drop rulesHead b))
+    && (allBelow s (take (s * k * s) (drop (rulesHead + k) b)) && allBelow 2 (take s (drop (rulesHead + k + s * k * s) b)))
 
 abbrev pub branchShape : List ℕ → ℕ → ℕ → Bool
-branchShape b s k = eqb (le32 b 8) 16 && (eqb (le32 b 12) (16 + s * k) && eqb (length b) (branchLength s k))
+branchShape b s k = eqb (le32 b 8) branchHead && (eqb (le32 b 12) (branchHead + s * k) && eqb (length b) (branchLength s k))
 
 abbrev pub branchValues : List ℕ → ℕ → ℕ → Bool
-branchValues b s k = allBelow s (take (s * k) (drop 16 b)) && allBelow 2 (take s (drop (16 + s * k) b))
+branchValues b s k = allBelow s (take (s * k) (drop branchHead b)) && allBelow 2 (take s (drop (branchHead + s * k) b))
 
 -- check 11 as a test
 abbrev pub roomFits : ℕ → ℕ → ℕ → ℕ → Bool

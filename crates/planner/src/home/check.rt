@@ -1,5 +1,7 @@
 // The checks 19 and 21 of a plan that goes home.
+use crate::EMPTY_LABEL;
 use formats::bytes::read32;
+use formats::layout::PLAN_HEAD;
 use formats::plan::check_plan;
 ghost use mathlib.Core.Path.{_≡_};
 ghost use Prim.Native.Nat.{_<_};
@@ -14,9 +16,9 @@ fn label_fits(label: u8, kind: u8) -> bool
     ensures { λ r. ⌜ r ≡ labelFits label kind ⌝ }
 {
     if kind == 0 {
-        return label == 63;
+        return label == EMPTY_LABEL;
     }
-    label < 63
+    label < EMPTY_LABEL
 }
 
 // The same for all nodes.
@@ -79,13 +81,13 @@ fn comes_from_file(plan: &[u8]) -> bool
         return false;
     }
     let n = read32(plan, 0);
-    if !labels_fit(&plan[12..12 + n], &plan[12 + n..]) {
+    if !labels_fit(&plan[PLAN_HEAD..PLAN_HEAD + n], &plan[PLAN_HEAD + n..]) {
         return false;
     }
-    if !one_top(&plan[12 + n..]) {
+    if !one_top(&plan[PLAN_HEAD + n..]) {
         return false;
     }
-    runs_fit(&plan[12 + n..])
+    runs_fit(&plan[PLAN_HEAD + n..])
 }
 
 // The checks 19 and 21, in this order: N nodes are a file of (N - 1) / 2 nodes.

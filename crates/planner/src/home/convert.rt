@@ -3,6 +3,7 @@ use crate::home::check::check_home;
 use crate::home::read::read_nodes;
 use crate::out::lay::write_header;
 use formats::bytes::read32;
+use formats::layout::PLAN_HEAD;
 ghost use Rattle.planner.specs.home.Home.{HomeArgs, HomeWritten, HomeDone};
 
 // Writes the file of n nodes of a plan that passes.
@@ -11,7 +12,12 @@ fn write_home(plan: &[u8], n: usize, file: &mut [u8])
     ensures { λ _. ⌜ HomeWritten (now (plan .entry)) (now (file .entry)) (now (file .exit)) ⌝ }
 {
     let size = 2 * n + 1;
-    read_nodes(&plan[12..12 + size], &plan[12 + size..], file, n);
+    read_nodes(
+        &plan[PLAN_HEAD..PLAN_HEAD + size],
+        &plan[PLAN_HEAD + size..],
+        file,
+        n,
+    );
     write_header(file, n);
 }
 

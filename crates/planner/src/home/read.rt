@@ -1,5 +1,6 @@
 // The nodes of a plan, read from the right, with a stack. The stack is at the low end of the file's label run and count
 // run, what is written at their high end; bit 6 of a label on the stack says that the node is the first of its list.
+use formats::layout::PLAN_HEAD;
 ghost use mathlib.Core.Path.{_≡_};
 ghost use Prim.Native.Nat.{ℕ, _+_, _*_, _<_, _≤_};
 ghost use lib.ListN.{length};
@@ -31,8 +32,8 @@ fn push(file: &mut [u8], n: usize, label: u8, w: Walk)
     requires { ⌜ PushArgs (now file) n label (w .depth) (w .left) ⌝ }
     ensures { λ _. ⌜ PushDone n label (w .depth) (w .left) (w .run) (now (file .entry)) (now (file .exit)) ⌝ }
 {
-    file[12 + w.depth] = mark(label, w.run);
-    file[12 + n + w.depth] = 0;
+    file[PLAN_HEAD + w.depth] = mark(label, w.run);
+    file[PLAN_HEAD + n + w.depth] = 0;
 }
 
 // The count of the list that was read goes to the entry above its nodes.
@@ -41,7 +42,7 @@ fn put_count(file: &mut [u8], n: usize, w: Walk)
     ensures { λ _. ⌜ CountDone n (w .depth) (w .left) (w .run) (now (file .entry)) (now (file .exit)) ⌝ }
 {
     if w.run < w.depth {
-        file[12 + n + (w.depth - 1 - w.run)] = w.run as u8;
+        file[PLAN_HEAD + n + (w.depth - 1 - w.run)] = w.run as u8;
     }
 }
 
@@ -54,10 +55,10 @@ fn release(file: &mut [u8], n: usize, depth: usize, left: usize) -> usize
     let mut more = true;
     while more & (0 < top) {
         top = top - 1;
-        let label = file[12 + top];
-        let count = file[12 + n + top];
-        file[12 + top + left] = label % 64;
-        file[12 + n + top + left] = count;
+        let label = file[PLAN_HEAD + top];
+        let count = file[PLAN_HEAD + n + top];
+        file[PLAN_HEAD + top + left] = label % 64;
+        file[PLAN_HEAD + n + top + left] = count;
         more = 64 <= label;
     }
     top

@@ -1,5 +1,8 @@
 // The checks 19 to 21 of a planner's file that goes out.
+use crate::EMPTY_LABEL;
+use crate::FILE_LIMIT;
 use formats::bytes::read32;
+use formats::layout::PLAN_HEAD;
 use formats::rules::all_below;
 ghost use mathlib.Core.Path.{_≡_};
 ghost use Rattle.formats.specs.Checks.{firstNo};
@@ -29,36 +32,36 @@ fn is_preorder(counts: &[u8]) -> bool
 fn well_formed(file: &[u8]) -> bool
     ensures { λ r. ⌜ r ≡ wellFormed (now (file .entry)) ⌝ }
 {
-    if file.len() < 12 {
+    if file.len() < PLAN_HEAD {
         return false;
     }
     let n = read32(file, 0);
     if n < 1 {
         return false;
     }
-    if file.len() - 12 < n {
+    if file.len() - PLAN_HEAD < n {
         return false;
     }
-    if read32(file, 4) != 12 {
+    if read32(file, 4) != PLAN_HEAD {
         return false;
     }
-    if read32(file, 8) != 12 + n {
+    if read32(file, 8) != PLAN_HEAD + n {
         return false;
     }
-    if file.len() != 12 + 2 * n {
+    if file.len() != PLAN_HEAD + 2 * n {
         return false;
     }
-    is_preorder(&file[12 + n..])
+    is_preorder(&file[PLAN_HEAD + n..])
 }
 
 // Check 21: n in its limit, and both outputs, of these lengths, long enough.
 fn room_fits(n: usize, plan: usize, places: usize) -> bool
     ensures { λ r. ⌜ r ≡ outRoom n plan places ⌝ }
 {
-    if 32767 < n {
+    if FILE_LIMIT < n {
         return false;
     }
-    if plan < 12 + 2 * (2 * n + 1) {
+    if plan < PLAN_HEAD + 2 * (2 * n + 1) {
         return false;
     }
     n <= places
@@ -72,7 +75,7 @@ pub fn check_out(file: &[u8], plan: usize, places: usize) -> u8
         return 19;
     }
     let n = read32(file, 0);
-    if !all_below(&file[12..12 + n], 63) {
+    if !all_below(&file[PLAN_HEAD..PLAN_HEAD + n], EMPTY_LABEL) {
         return 20;
     }
     if !room_fits(n, plan, places) {

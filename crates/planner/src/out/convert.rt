@@ -3,6 +3,7 @@ use crate::out::check::check_out;
 use crate::out::lay::write_plan;
 use crate::out::places::place_nodes;
 use formats::bytes::read32;
+use formats::layout::PLAN_HEAD;
 ghost use Rattle.planner.specs.out.Out.{OutArgs, OutWritten, OutDone};
 
 // Writes plan and places of a file of n nodes that passes.
@@ -12,8 +13,8 @@ fn write_out(file: &[u8], n: usize, plan: &mut [u8], places: &mut [u16])
         OutWritten (now (file .entry)) (now (plan .entry)) (now (places .entry)) (now (plan .exit))
         (now (places .exit)) ⌝ }
 {
-    place_nodes(&file[12 + n..], plan, places);
-    write_plan(&file[12..12 + n], places, plan);
+    place_nodes(&file[PLAN_HEAD + n..], plan, places);
+    write_plan(&file[PLAN_HEAD..PLAN_HEAD + n], places, plan);
 }
 
 // Our plan of a planner's file, and the place of each planner's node in it; or 19, 20 or 21, and nothing is written.

@@ -1,18 +1,22 @@
 // The plan of a planner's file, from its labels and the places of its nodes: the header, a leaf everywhere, and then
 // the nodes.
+use crate::EMPTY_LABEL;
+use formats::layout::PLAN_HEAD;
 ghost use mathlib.Core.Path.{_≡_};
 ghost use Prim.Native.Nat.{ℕ, _+_, _*_, _<_, _≤_};
 ghost use lib.ListN.{length};
 ghost use lib.Seq.{sets};
+ghost use Rattle.formats.specs.Layout.{planHead};
+ghost use Rattle.formats.specs.Limits.{nodeLimit};
 ghost use Rattle.planner.specs.Siblings.{Siblings};
 ghost use Rattle.planner.specs.out.inner.Laid.{planHeader, Filled, LayArgs, Laid, WriteArgs, PlanWritten};
 
 // The header of a plan of n nodes; a planner's file of n nodes has the same.
 pub fn write_header(plan: &mut [u8], n: usize)
-    requires { ⌜ (12 ≤ length (now plan)) × (n ≤ 65535) ⌝ }
+    requires { ⌜ (planHead ≤ length (now plan)) × (n ≤ nodeLimit) ⌝ }
     ensures { λ _. ⌜ now (plan .exit) ≡ sets (now (plan .entry)) 0 (planHeader n) ⌝ }
 {
-    let kinds = 12 + n;
+    let kinds = PLAN_HEAD + n;
     plan[0] = (n % 256) as u8;
     plan[1] = (n / 256 % 256) as u8;
     plan[2] = (n / 65536 % 256) as u8;
@@ -48,8 +52,8 @@ fn lay_nodes(labels: &[u8], places: &[u16], plan: &mut [u8], size: usize)
     let mut v: usize = 0;
     while v < labels.len() {
         let place = places[v] as usize;
-        plan[12 + place] = labels[v];
-        plan[12 + size + place] = 1;
+        plan[PLAN_HEAD + place] = labels[v];
+        plan[PLAN_HEAD + size + place] = 1;
         v += 1;
     }
 }
@@ -62,7 +66,7 @@ pub fn write_plan(labels: &[u8], places: &[u16], plan: &mut [u8])
 {
     let size = 2 * labels.len() + 1;
     write_header(plan, size);
-    fill(plan, 12, 12 + size, 63);
-    fill(plan, 12 + size, 12 + 2 * size, 0);
+    fill(plan, PLAN_HEAD, PLAN_HEAD + size, EMPTY_LABEL);
+    fill(plan, PLAN_HEAD + size, PLAN_HEAD + 2 * size, 0);
     lay_nodes(labels, places, plan, size);
 }

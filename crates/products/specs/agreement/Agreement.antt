@@ -13,7 +13,7 @@ use lib.ListN.{length}
 use Rattle.trees.specs.Tree.{Tree, height}
 use Rattle.trees.specs.Automaton.{Automaton, accepts}
 use Rattle.products.specs.Plans.{PlanOf}
-use Rattle.products.specs.agreement.Lines.{Line, GoodLines, linesTree}
+use Rattle.products.specs.agreement.Lines.{pairLimit, Line, GoodLines, linesTree}
 
 -- "Two tables agree when every plan, of any size, gets yes from both or no from both."
 abbrev pub Agree : Automaton → Automaton → ℕ → Type 0
@@ -29,7 +29,7 @@ LeastHeight A B k t = (u : Tree) → Differ A B k u → height t ≤ height u
 -- "a separating plan as at most 256 lines, .. the last line is the root"
 pub record Separates (A B : Automaton) (k : ℕ) (xs : List Line) : Type 0 where
   pub some-lines : 1 ≤ length xs
-  pub at-most : length xs ≤ 256
+  pub at-most : length xs ≤ pairLimit
   pub good : GoodLines k 0 xs
   pub differ : Differ A B k (linesTree xs)
   pub least : LeastHeight A B k (linesTree xs)

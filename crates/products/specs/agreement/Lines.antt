@@ -1,5 +1,6 @@
 -- A plan as lines, each a leaf or an inner node over two earlier lines (document 02, S-13).
 --
+-- pairLimit == the most lines: as many as two rule tables have pairs of states
 -- Line == a leaf's label, or an inner node's label with the numbers of its left and its right line; lines are numbered from 0
 -- GoodLine k n x == label below k, and line numbers below n: "earlier lines" where n lines come before
 -- GoodLines k n xs == so for each line of xs, where n lines come before
@@ -14,6 +15,9 @@ use Prim.Native.Nat.{ℕ, suc, _-_, _<_}
 use mathlib.Core.List.{List, [], _∷_, _++_}
 use lib.ListN.{length, getD}
 use Rattle.trees.specs.Tree.{Tree, leaf, node}
+
+abbrev pub pairLimit : ℕ
+pairLimit = 256
 
 pub data Line : Type 0 where
   leafLine : ℕ → Line

@@ -13,9 +13,10 @@ use mathlib.Core.List.{List, []}
 use mathlib.Core.Option.{Option, none, some}
 use lib.ListN.{length, getD}
 use Rattle.list_laws.specs.Rows.{tabulate}
+use Rattle.formats.specs.Limits.{stateLimit, labelLimit}
 use Rattle.formats.specs.Rules.{stateCount, labelCount, ruleLength, ruleAutomaton}
 use Rattle.formats.specs.Checks.{firstNo, ruleChecks}
-use Rattle.products.specs.agreement.Lines.{Line, leafLine, innerLine}
+use Rattle.products.specs.agreement.Lines.{pairLimit, Line, leafLine, innerLine}
 use Rattle.products.specs.agreement.Agreement.{Agree, Separates}
 use Rattle.products.specs.agreement.Answer.{agreeChecks, shownCount, shownLines}
 use Rattle.products.specs.declared.agreement.reachable.Search.{Search}
@@ -39,7 +40,7 @@ lineRight (leafLine a) = 0
 lineRight (innerLine a i j) = j
 
 unfoldable pub column : (Line → ℕ) → List Line → List ℕ
-column f xs = tabulate 256 (λ i. f (getD xs i (leafLine 0)))
+column f xs = tabulate pairLimit (λ i. f (getD xs i (leafLine 0)))
 
 abbrev pub replyOf : ℕ → List Line → Agreement
 replyOf n xs = record {
@@ -82,17 +83,17 @@ pub record AgreeDone (first second : List ℕ) (r : Agreement) : Type 0 where
 -- ---- the parts
 
 pub record FrontArgs (a : List ℕ) (n : ℕ) : Type 0 where
-  pub long : length a ≡ 256
-  pub few : n ≤ 256
+  pub long : length a ≡ pairLimit
+  pub few : n ≤ pairLimit
 
 pub record Front (n : ℕ) (a r : List ℕ) : Type 0 where
-  pub long : length r ≡ 256
+  pub long : length r ≡ pairLimit
   pub copied : (i : ℕ) → i < n → getD r i 0 ≡ getD a i 0
   pub zero : (i : ℕ) → n ≤ i → getD r i 0 ≡ 0
 
 pub record CutArgs (s1 s2 : ℕ) (t : Search) (n : ℕ) : Type 0 where
   pub fits : Fits s1 s2 t
-  pub few : n ≤ 256
+  pub few : n ≤ pairLimit
 
 -- both tables pass 6 to 9, K is the same, and these are their counts
 pub record AnswerArgs (first second : List ℕ) (s1 s2 k : ℕ) : Type 0 where
@@ -102,8 +103,8 @@ pub record AnswerArgs (first second : List ℕ) (s1 s2 k : ℕ) : Type 0 where
   pub second-states : s2 ≡ stateCount second
   pub first-labels : k ≡ labelCount first
   pub second-labels : k ≡ labelCount second
-  pub first-most : s1 ≤ 16
-  pub second-most : s2 ≤ 16
-  pub labels-most : k ≤ 64
+  pub first-most : s1 ≤ stateLimit
+  pub second-most : s2 ≤ stateLimit
+  pub labels-most : k ≤ labelLimit
   pub first-exact : length first ≡ ruleLength s1 k
   pub second-exact : length second ≡ ruleLength s2 k

@@ -23,7 +23,7 @@ use mathlib.Core.Option.{Option, none, some}
 use lib.Dec.{eqb, ltb}
 use lib.ListN.{length, getD, set, replicate}
 use Rattle.trees.specs.Automaton.{Automaton}
-use Rattle.products.specs.agreement.Lines.{Line, leafLine, innerLine}
+use Rattle.products.specs.agreement.Lines.{pairLimit, Line, leafLine, innerLine}
 
 pub record Found : Type 0 where
   pub lines : List Line
@@ -31,7 +31,7 @@ pub record Found : Type 0 where
   pub seen : List ℕ
 
 abbrev pub nothing : Found
-nothing = record { lines = []; states = []; seen = replicate 256 0 }
+nothing = record { lines = []; states = []; seen = replicate pairLimit 0 }
 
 abbrev pub withLine : Line → ℕ → Found → Found
 withLine x c F = record { lines = F .lines ++ (x ∷ []); states = F .states ++ (c ∷ []); seen = set (F .seen) c 1 }
@@ -65,7 +65,7 @@ searched δ k (suc f) n F =
     cond (ltb n (length (F .lines))) onward F
 
 unfoldable pub reached : Automaton → ℕ → Found
-reached A k = searched (A .δ) k 256 0 (overLeaves (A .ι) 0 k nothing)
+reached A k = searched (A .δ) k pairLimit 0 (overLeaves (A .ι) 0 k nothing)
 
 unfoldable pub firstAccepted : Automaton → List ℕ → ℕ → Option ℕ
 firstAccepted A [] i = none

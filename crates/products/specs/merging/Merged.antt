@@ -17,6 +17,7 @@ use mathlib.Core.List.{List, [], _∷_, _++_}
 use lib.Dec.{eqb, leb}
 use Rattle.trees.specs.Automaton.{Automaton}
 use Rattle.list_laws.specs.Rows.{tabulate}
+use Rattle.formats.specs.Layout.{rulesHead}
 use Rattle.formats.specs.Bytes.{le32Bytes}
 use Rattle.formats.specs.Limits.{stateLimit}
 use Rattle.formats.specs.Rules.{stateCount, labelCount, ruleLength, ruleAutomaton}
@@ -25,7 +26,9 @@ use Rattle.products.specs.Product.{product}
 
 -- "Five 32-bit numbers: S states, K labels, offsets of leaf states (20), inner states (20+K) and accept marks (20+K+S×K×S)."
 unfoldable pub ruleHead : ℕ → ℕ → List ℕ
-ruleHead s k = le32Bytes s ++ (le32Bytes k ++ (le32Bytes 20 ++ (le32Bytes (20 + k) ++ le32Bytes (20 + k + s * k * s))))
+ruleHead s k =
+    le32Bytes s
+    ++ (le32Bytes k ++ (le32Bytes rulesHead ++ (le32Bytes (rulesHead + k) ++ le32Bytes (rulesHead + k + s * k * s))))
 
 unfoldable pub ruleBytes : ℕ → ℕ → List ℕ → List ℕ → List ℕ → List ℕ
 ruleBytes s k lv inn mk = ruleHead s k ++ (lv ++ (inn ++ mk))

@@ -11,6 +11,8 @@ use Prim.Native.Nat.{ℕ, _+_, _*_, _/_, _%_, _≤_, _<_}
 use mathlib.Core.Path.{_≡_}
 use mathlib.Core.List.{List, _++_}
 use lib.ListN.{length, getD, take, drop}
+use Rattle.formats.specs.Layout.{rulesHead}
+use Rattle.formats.specs.Limits.{stateLimit, labelLimit}
 use Rattle.formats.specs.Rules.{stateCount, labelCount, ruleLength}
 use Rattle.formats.specs.Checks.{firstNo, ruleChecks}
 
@@ -46,14 +48,14 @@ pub record Room (at n : ℕ) (l : List ℕ) : Type 0 where
   pub small : at + n ≤ 65536
 
 pub record HeadArgs (s k : ℕ) (l : List ℕ) : Type 0 where
-  pub room : Room 0 20 l
-  pub states : s ≤ 16
-  pub labels : k ≤ 64
+  pub room : Room 0 rulesHead l
+  pub states : s ≤ stateLimit
+  pub labels : k ≤ labelLimit
 
 pub record LeavesArgs (f g : List ℕ) (s2 at : ℕ) (l : List ℕ) : Type 0 where
   pub room : Room at (length f) l
   pub same : length f ≡ length g
-  pub few : s2 ≤ 16
+  pub few : s2 ≤ stateLimit
   pub small : (i : ℕ) → leafCell f g s2 i < 256
 
 pub record RunArgs (g : List ℕ) (x at : ℕ) (l : List ℕ) : Type 0 where
@@ -69,12 +71,12 @@ pub record RowArgs (f g : List ℕ) (s2 at : ℕ) (l : List ℕ) : Type 0 where
 -- the two inner runs
 pub record Inner (f g : List ℕ) (s1 s2 k : ℕ) : Type 0 where
   pub first-least : 1 ≤ s1
-  pub first-most : s1 ≤ 16
+  pub first-most : s1 ≤ stateLimit
   pub second-least : 1 ≤ s2
-  pub second-most : s2 ≤ 16
+  pub second-most : s2 ≤ stateLimit
   pub labels-least : 1 ≤ k
-  pub labels-most : k ≤ 64
-  pub product : s1 * s2 ≤ 16
+  pub labels-most : k ≤ labelLimit
+  pub product : s1 * s2 ≤ stateLimit
   pub first-length : length f ≡ s1 * k * s1
   pub second-length : length g ≡ s2 * k * s2
   pub small : (i j : ℕ) → getD f i 0 * s2 + getD g j 0 < 256
@@ -104,10 +106,10 @@ pub record TableArgs (first second : List ℕ) (s1 s2 k : ℕ) (l : List ℕ) : 
   pub second-states : s2 ≡ stateCount second
   pub first-labels : k ≡ labelCount first
   pub second-labels : k ≡ labelCount second
-  pub first-most : s1 ≤ 16
-  pub second-most : s2 ≤ 16
-  pub labels-most : k ≤ 64
-  pub product : s1 * s2 ≤ 16
+  pub first-most : s1 ≤ stateLimit
+  pub second-most : s2 ≤ stateLimit
+  pub labels-most : k ≤ labelLimit
+  pub product : s1 * s2 ≤ stateLimit
   pub first-exact : length first ≡ ruleLength s1 k
   pub second-exact : length second ≡ ruleLength s2 k
   pub room : ruleLength (s1 * s2) k ≤ length l

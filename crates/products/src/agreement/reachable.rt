@@ -8,20 +8,25 @@
 //     searched        so for every line
 // over_lines and searched end where the marks of a line that was found differ: what they would find behind it is not asked.
 // Tables are handed on by their runs: leaf states, inner states or marks. What is found has its name in products, specs/agreement/Search.
+use formats::limits::STATE_LIMIT;
 ghost use mathlib.Core.Path.{_≡_};
 ghost use Prim.Native.Nat.{_<_, _-_};
+ghost use Rattle.products.specs.agreement.Lines.{pairLimit};
 ghost use Rattle.products.specs.agreement.reachable.SearchRecord.{lineAdded, emptySearch, pairStep, LinesDone, SearchDone};
 ghost use Rattle.products.specs.agreement.reachable.SearchRecord.{StepArgs, LabelsArgs, LabelsDone, LinesArgs, SearchArgs};
 ghost use Rattle.products.specs.agreement.reachable.SearchRecord.{LeavesArgs, LeavesDone, MarksArgs, differingFrom};
 
+// The pairs of states of two rule tables: the product has at most so many states, and a search finds each once.
+pub const PAIR_LIMIT: usize = STATE_LIMIT * STATE_LIMIT;
+
 // Line i is a leaf (kind 0) or an inner node (kind 1) over lines lefts[i] and rights[i]; its tree has state codes[i].
 pub struct Search {
-    pub kinds: [u8; 256],
-    pub labels: [u8; 256],
-    pub lefts: [u8; 256],
-    pub rights: [u8; 256],
-    pub codes: [u8; 256],
-    pub seen: [u8; 256],
+    pub kinds: [u8; PAIR_LIMIT],
+    pub labels: [u8; PAIR_LIMIT],
+    pub lefts: [u8; PAIR_LIMIT],
+    pub rights: [u8; PAIR_LIMIT],
+    pub codes: [u8; PAIR_LIMIT],
+    pub seen: [u8; PAIR_LIMIT],
     pub count: usize,
 }
 
@@ -30,19 +35,19 @@ pub fn empty_search() -> Search
     ensures { λ r. ⌜ r ≡ emptySearch ⌝ }
 {
     Search {
-        kinds: [0u8; 256],
-        labels: [0u8; 256],
-        lefts: [0u8; 256],
-        rights: [0u8; 256],
-        codes: [0u8; 256],
-        seen: [0u8; 256],
+        kinds: [0u8; PAIR_LIMIT],
+        labels: [0u8; PAIR_LIMIT],
+        lefts: [0u8; PAIR_LIMIT],
+        rights: [0u8; PAIR_LIMIT],
+        codes: [0u8; PAIR_LIMIT],
+        seen: [0u8; PAIR_LIMIT],
         count: 0,
     }
 }
 
 // One line more.
 fn with_line(s: Search, kind: u8, label: u8, left: u8, right: u8, code: u8) -> Search
-    requires { ⌜ s .count < 256 ⌝ }
+    requires { ⌜ s .count < pairLimit ⌝ }
     ensures { λ r. ⌜ r ≡ lineAdded s kind label left right code ⌝ }
 {
     let mut t = s;

@@ -4,8 +4,10 @@
 use Prim.Native.Nat.{ℕ, _+_, _*_, _≤_}
 use mathlib.Core.List.{List}
 use lib.ListN.{length}
+use Rattle.formats.specs.Layout.{planHead, nodeColumns}
+use Rattle.formats.specs.Limits.{nodeLimit}
 
 pub record RootsArgs (n : ℕ) (plan nodeTable : List ℕ) : Type 0 where
-  pub most : n ≤ 65535
-  pub labels : 12 + n ≤ length plan
-  pub numbers : n * 4 ≤ length nodeTable
+  pub most : n ≤ nodeLimit
+  pub labels : planHead + n ≤ length plan
+  pub numbers : n * nodeColumns ≤ length nodeTable

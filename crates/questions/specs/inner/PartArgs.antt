@@ -10,6 +10,8 @@ use mathlib.Core.List.{List, []}
 use mathlib.Core.Option.{Option, none, some}
 use lib.ListN.{length, getD}
 use Rattle.trees.specs.Climb.{andThen}
+use Rattle.formats.specs.Layout.{nodeColumns}
+use Rattle.formats.specs.Limits.{nodeLimit, stateLimit, labelLimit}
 use Rattle.tables.specs.declared.answers.Climbed.{Climbed}
 use Rattle.tables.specs.declared.answers.Climbed.the-variants.{Reached as To, OutOfRange}
 use Rattle.tables.specs.declared.answers.Reached.{Reached}
@@ -43,29 +45,29 @@ reachedIn (To x) = some x
 reachedIn OutOfRange = none
 
 pub record LastArgs (nodeTable es : List ℕ) (c : ℕ) : Type 0 where
-  pub node : c ≤ 65535
-  pub room : c * 4 + 4 ≤ length nodeTable
-  pub many : length es ≤ 65535
+  pub node : c ≤ nodeLimit
+  pub room : c * nodeColumns + nodeColumns ≤ length nodeTable
+  pub many : length es ≤ nodeLimit
 
 pub record LabelArgs (ls vs bs : List ℕ) (v : ℕ) : Type 0 where
-  pub node : v ≤ 65535
+  pub node : v ≤ nodeLimit
   pub at : v < length ls
   pub same : length vs ≡ length bs
-  pub many : length vs ≤ 65535
+  pub many : length vs ≤ nodeLimit
 
 pub record LeafArgs (s k : ℕ) (lv : List ℕ) : Type 0 where
-  pub few : s ≤ 16
+  pub few : s ≤ stateLimit
   pub room : k ≤ length lv
 
 -- a state that was returned, by few links that passed over few nodes
 pub record Few (s : ℕ) (x : Reached) : Type 0 where
   pub state : x .state < s
-  pub links : x .links ≤ 65535
-  pub passed : x .passed ≤ 65535
+  pub links : x .links ≤ nodeLimit
+  pub passed : x .passed ≤ nodeLimit
 
 pub record JoinArgs (s k : ℕ) (inn : List ℕ) (left right : Climbed) : Type 0 where
-  pub few : s ≤ 16
-  pub labels : k ≤ 64
+  pub few : s ≤ stateLimit
+  pub labels : k ≤ labelLimit
   pub room : s * k * s ≤ length inn
   pub left-few : (x : Reached) → reachedIn left ≡ some x → Few s x
   pub right-few : (x : Reached) → reachedIn right ≡ some x → Few s x
@@ -83,7 +85,7 @@ pub record ForkArgs (n s k : ℕ) (ls inn nodeTable stateTable es qs : List ℕ)
   pub at : v < n
   pub left : l < v
   pub same : length es ≡ length qs
-  pub many : length es ≤ 65535
+  pub many : length es ≤ nodeLimit
 
 pub record PartArgs (n s k : ℕ) (ls ks lv inn nodeTable stateTable es qs vs bs : List ℕ) (v : ℕ) : Type 0 where
   pub path : PathArgs n s k ls inn nodeTable stateTable
@@ -91,6 +93,6 @@ pub record PartArgs (n s k : ℕ) (ls ks lv inn nodeTable stateTable es qs vs bs
   pub kinds-room : n ≤ length ks
   pub leaves-room : k ≤ length lv
   pub same : length es ≡ length qs
-  pub many : length es ≤ 65535
+  pub many : length es ≤ nodeLimit
   pub same-list : length vs ≡ length bs
-  pub many-list : length vs ≤ 65535
+  pub many-list : length vs ≤ nodeLimit

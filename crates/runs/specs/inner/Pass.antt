@@ -26,6 +26,8 @@ use lib.ListN.{length, getD, drop}
 use Rattle.trees.specs.Automaton.{state}
 use Rattle.trees.specs.Postorder.{isPostorder, treeOf, waiting, read}
 use Rattle.trees.specs.Changes.{changed}
+use Rattle.formats.specs.Layout.{planHead, rulesHead}
+use Rattle.formats.specs.Limits.{nodeLimit, stateLimit, labelLimit}
 use Rattle.formats.specs.Plan.{nodeCount}
 use Rattle.formats.specs.Rules.{stateCount, labelCount, treeAutomaton}
 use Rattle.formats.specs.Checks.{firstNo, freshRunChecks}
@@ -34,7 +36,7 @@ use Rattle.runs.specs.declared.pass.Waiting.{Waiting}
 
 pub record PassArgs (ks ls vs bs lv inn : List ℕ) (s k : ℕ) : Type 0 where
   pub postorder : isPostorder ks ≡ true
-  pub most : length ks ≤ 65535
+  pub most : length ks ≤ nodeLimit
   pub labelled : length ls ≡ length ks
   pub labels-below : (j : ℕ) → getD ls j 0 < k
   pub paired : length vs ≡ length bs
@@ -43,8 +45,8 @@ pub record PassArgs (ks ls vs bs lv inn : List ℕ) (s k : ℕ) : Type 0 where
   pub leaf-below : (j : ℕ) → getD lv j 0 < s
   pub inner-count : length inn ≡ s * k * s
   pub inner-below : (j : ℕ) → getD inn j 0 < s
-  pub states : s ≤ 16
-  pub letters : k ≤ 64
+  pub states : s ≤ stateLimit
+  pub letters : k ≤ labelLimit
 
 abbrev pub PassDone : List ℕ → List ℕ → List ℕ → List ℕ → List ℕ → List ℕ → ℕ → ℕ → ℕ → Type 0
 PassDone ks ls vs bs lv inn s k q =
@@ -75,13 +77,13 @@ abbrev pub readOn : ℕ → ℕ → List ℕ → List ℕ → List ℕ → List 
 readOn s k lv inn ks bs st w = reads s k lv inn (drop (w .node) ks) (drop (w .node) bs) (stackWith st w)
 
 pub record RuleStates (ks lv inn : List ℕ) (s k : ℕ) : Type 0 where
-  pub most : length ks ≤ 65535
+  pub most : length ks ≤ nodeLimit
   pub leaf-count : length lv ≡ k
   pub leaf-below : (j : ℕ) → getD lv j 0 < s
   pub inner-count : length inn ≡ s * k * s
   pub inner-below : (j : ℕ) → getD inn j 0 < s
-  pub states : s ≤ 16
-  pub letters : k ≤ 64
+  pub states : s ≤ stateLimit
+  pub letters : k ≤ labelLimit
 
 pub record Stacked (ks : List ℕ) (s : ℕ) (st : List ℕ) (w : Waiting) : Type 0 where
   pub here : w .node ≤ length ks
@@ -157,10 +159,10 @@ pub record RunArgs (p r vs bs : List ℕ) (n s k : ℕ) : Type 0 where
   pub nodes-are : n ≡ nodeCount p
   pub states-are : s ≡ stateCount r
   pub labels-are : k ≡ labelCount r
-  pub plan-length : length p ≡ 12 + 2 * n
-  pub rules-length : length r ≡ 20 + k + s * k * s + s
-  pub nodes-most : n ≤ 65535
-  pub states-most : s ≤ 16
-  pub labels-most : k ≤ 64
+  pub plan-length : length p ≡ planHead + 2 * n
+  pub rules-length : length r ≡ rulesHead + k + s * k * s + s
+  pub nodes-most : n ≤ nodeLimit
+  pub states-most : s ≤ stateLimit
+  pub labels-most : k ≤ labelLimit
   pub row-most : s * k ≤ 1024
   pub inner-most : s * k * s ≤ 16384

@@ -1,5 +1,6 @@
 // Load over eight screens, by value: refused with 1 where any runs or is no record; else the build with its checks, and
 // all eight are as after a first Load of that plan.
+use crate::SCREENS;
 use crate::in_place::is_running;
 use session::answers::CallAnswer;
 use session::state::Session;
@@ -12,7 +13,7 @@ ghost use Rattle.screens.specs.in_place.LoadAll.{LoadAllDone, loadAnswer
 // A Load's answer, with the eight records that it leaves.
 pub struct LoadedAll {
     pub answer: CallAnswer,
-    pub all: [Session; 8],
+    pub all: [Session; SCREENS],
 }
 
 // Whether a screen may not be loaded: it runs, or its struct is no record.
@@ -28,10 +29,10 @@ fn is_busy(s: Session) -> bool
 }
 
 // Whether any of the eight is busy.
-fn any_busy(all: [Session; 8]) -> bool
+fn any_busy(all: [Session; SCREENS]) -> bool
     ensures { λ r. ⌜ r ≡ anyRuns 8 (busy all) ⌝ }
 {
-    let mut left = 8usize;
+    let mut left = SCREENS;
     while left > 0 {
         let s = all[left - 1];
         if is_busy(s) {
@@ -44,7 +45,7 @@ fn any_busy(all: [Session; 8]) -> bool
 
 // Builds the tables of a plan and rules into the caller's buffers, and clears the eight.
 pub fn load(
-    all: [Session; 8],
+    all: [Session; SCREENS],
     plan: &[u8],
     rules: &[u8],
     node_table: &mut [u16],
@@ -69,7 +70,7 @@ pub fn load(
             let s = out.session;
             return LoadedAll {
                 answer: CallAnswer::Accepted,
-                all: [s; 8],
+                all: [s; SCREENS],
             };
         }
         CallAnswer::Refused(n) => {

@@ -10,6 +10,8 @@ use Prim.Native.Nat.{ℕ, _≤_}
 use mathlib.Core.Path.{_≡_}
 use mathlib.Core.List.{List}
 use lib.ListN.{length}
+use Rattle.formats.specs.Layout.{planHead, rulesHead}
+use Rattle.formats.specs.Limits.{nodeLimit, stateLimit, labelLimit, changeLimit, partLimit}
 use Rattle.formats.specs.Plan.{nodeCount}
 use Rattle.formats.specs.Rules.{stateCount, labelCount}
 use Rattle.formats.specs.Inputs.{Sizes}
@@ -18,18 +20,18 @@ use Rattle.session.specs.declared.state.Head.{Head}
 use Rattle.session.specs.declared.state.Session.{Session}
 
 pub record Shaped (s : Session) : Type 0 where
-  pub nodes : length (s .nodes) ≡ 64
-  pub labels : length (s .labels) ≡ 64
-  pub roots : length (s .roots) ≡ 254
-  pub states : length (s .states) ≡ 254
+  pub nodes : length (s .nodes) ≡ changeLimit
+  pub labels : length (s .labels) ≡ changeLimit
+  pub roots : length (s .roots) ≡ partLimit
+  pub states : length (s .states) ≡ partLimit
 
 pub record ListShaped (vs bs : List ℕ) : Type 0 where
-  pub nodes : length vs ≡ 64
-  pub labels : length bs ≡ 64
+  pub nodes : length vs ≡ changeLimit
+  pub labels : length bs ≡ changeLimit
 
 pub record PartsShaped (h : Head) (rs qs : List ℕ) : Type 0 where
-  pub roots : length rs ≡ 254
-  pub states : length qs ≡ 254
+  pub roots : length rs ≡ partLimit
+  pub states : length qs ≡ partLimit
   pub some-node : 1 ≤ h .sizes .n
   pub counted : h .handled ≤ h .parts
 
@@ -44,13 +46,13 @@ abbrev pub loadedFrom : List ℕ → List ℕ → Record
 loadedFrom plan rules = loadedBy (nodeCount plan) (stateCount rules) (labelCount rules)
 
 pub record HeaderArgs (plan rules : List ℕ) : Type 0 where
-  pub plan-head : 12 ≤ length plan
-  pub rules-head : 20 ≤ length rules
+  pub plan-head : planHead ≤ length plan
+  pub rules-head : rulesHead ≤ length rules
 
 -- both headers are whole, and N, S and K fit the record
 pub record Headers (plan rules : List ℕ) : Type 0 where
-  pub plan-head : 12 ≤ length plan
-  pub rules-head : 20 ≤ length rules
-  pub nodes-most : nodeCount plan ≤ 65535
-  pub states-most : stateCount rules ≤ 16
-  pub labels-most : labelCount rules ≤ 64
+  pub plan-head : planHead ≤ length plan
+  pub rules-head : rulesHead ≤ length rules
+  pub nodes-most : nodeCount plan ≤ nodeLimit
+  pub states-most : stateCount rules ≤ stateLimit
+  pub labels-most : labelCount rules ≤ labelLimit

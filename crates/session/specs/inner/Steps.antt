@@ -22,6 +22,8 @@ use mathlib.Core.Bool.{Bool, true, false, cond}
 use mathlib.Core.List.{List}
 use lib.Dec.{eqb}
 use lib.ListN.{length, getD, take, drop, replicate, set}
+use Rattle.formats.specs.Layout.{rulesHead}
+use Rattle.formats.specs.Limits.{nodeLimit, stateLimit, labelLimit, changeLimit, partLimit}
 use Rattle.formats.specs.Rules.{ruleLength}
 use Rattle.session.specs.declared.state.Phase.{Phase}
 use Rattle.session.specs.declared.state.Phase.the-variants.{Running, Answered}
@@ -40,13 +42,13 @@ use Rattle.session.specs.Answers.{advanceAnswer}
 use Rattle.session.specs.Promises.{CallDone}
 
 pub record ListArgs (vs bs : List ℕ) : Type 0 where
-  pub few : length vs ≤ 64
-  pub few-labels : length bs ≤ 64
+  pub few : length vs ≤ changeLimit
+  pub few-labels : length bs ≤ changeLimit
 
 abbrev pub startedOf : Sizes → Last → List ℕ → List ℕ → ℕ → List ℕ → Session
 startedOf z o vs bs parts roots =
     whole (record { phase = Running; yes = false; sizes = z; m = length vs; parts = parts; handled = 0; links = 0; passed = 0; last = o })
-    (padded 64 vs) (padded 64 bs) roots (replicate 254 0)
+    (padded changeLimit vs) (padded changeLimit bs) roots (replicate partLimit 0)
 
 abbrev pub notStarted : Session → ℕ → Started
 notStarted s n = record { answer = NotStarted n; session = s }
@@ -58,18 +60,18 @@ pub record NextArgs (s : Session) : Type 0 where
   pub few-handled : s .head .handled ≤ length (s .states)
 
 pub record StepArgs (h : Head) (l d : ℕ) : Type 0 where
-  pub room : h .handled < 254
-  pub links-fit : h .links + l ≤ 16645890
-  pub passed-fit : h .passed + d ≤ 16645890
+  pub room : h .handled < partLimit
+  pub links-fit : h .links + l ≤ partLimit * nodeLimit
+  pub passed-fit : h .passed + d ≤ partLimit * nodeLimit
 
 pub record MarkArgs (rules : List ℕ) (s k q : ℕ) : Type 0 where
   pub exact : length rules ≡ ruleLength s k
-  pub states-most : s ≤ 16
-  pub labels-most : k ≤ 64
+  pub states-most : s ≤ stateLimit
+  pub labels-most : k ≤ labelLimit
   pub state : q < s
 
 abbrev pub marksIn : ℕ → ℕ → List ℕ → List ℕ
-marksIn s k rules = take s (drop (20 + k + s * k * s) rules)
+marksIn s k rules = take s (drop (rulesHead + k + s * k * s) rules)
 
 abbrev pub markedIn : ℕ → ℕ → List ℕ → ℕ → Bool
 markedIn s k rules q = eqb (getD (marksIn s k rules) q 0) 1
@@ -124,4 +126,4 @@ storesBy (NotAdvanced n) = false
 pub record StepFound (s : Session) (c : Call) (t : AdvanceStep) : Type 0 where
   pub done : CallDone s c (advanceAnswer (t .answer)) (stepOn s t)
   pub stores : t .stored ≡ storesBy (t .answer)
-  pub room : t .stored ≡ true → s .head .handled < 254
+  pub room : t .stored ≡ true → s .head .handled < partLimit

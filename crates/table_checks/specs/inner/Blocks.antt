@@ -12,7 +12,9 @@ use mathlib.Core.Path.{_≡_}
 use mathlib.Core.Bool.{Bool, true}
 use mathlib.Core.List.{List}
 use lib.ListN.{length, getD}
+use Rattle.formats.specs.Limits.{nodeLimit}
 use Rattle.formats.specs.Checks.{nodeTableLength}
+use Rattle.tables.specs.node_tables.inner.InnerNodes.{blockLength}
 use Rattle.table_checks.specs.inner.PairStates.{leafIs, pairIs, TableRoom}
 
 -- the kind of node v, and the other kind: not 0 at an inner node, and at a leaf
@@ -42,7 +44,7 @@ Leaves ks ls nodeTable lv s stateTable b e =
     (v : ℕ) → b ≤ v → v < e → getD ks v 0 ≡ 0 → leafIs ls nodeTable lv s stateTable v ≡ true
 
 pub record ListedArgs (nodeTable : List ℕ) (n : ℕ) (l : List ℕ) (c : ℕ) : Type 0 where
-  pub most : n ≤ 65535
+  pub most : n ≤ nodeLimit
   pub link-room : nodeTableLength n ≤ length nodeTable
   pub few : c ≤ length l
   pub pos : (i : ℕ) → i < c → 0 < getD l i 0
@@ -72,7 +74,7 @@ pub record ListingArgs (ks : List ℕ) (b e m l : ℕ) : Type 0 where
   pub kinds : Kinds ks
   pub order : b ≤ e
   pub inside : e ≤ length ks
-  pub most : length ks ≤ 65535
+  pub most : length ks ≤ nodeLimit
   pub fits : e ≤ b + m
   pub leaf-fits : e ≤ b + l
 
@@ -82,9 +84,9 @@ pub record BlockArgs (ks ls nodeTable lv inn : List ℕ) (s k : ℕ) (stateTable
   pub order : b ≤ e
   pub inside : e ≤ length ks
   pub fits : e ≤ b + m
-  pub short : e ≤ b + 1024
+  pub short : e ≤ b + blockLength
 
 pub record BlocksArgs (ks ls nodeTable lv inn : List ℕ) (s k : ℕ) (stateTable : List ℕ) (m : ℕ) : Type 0 where
   pub table : TableRoom ls nodeTable lv inn s k (length ks) stateTable
   pub kinds : Kinds ks
-  pub fits : 1024 ≤ m
+  pub fits : blockLength ≤ m

@@ -7,6 +7,7 @@
 -- pairJump n b v == the one where the child's depth is below 1,024, else the other: childJump (tables/node_tables), inside
 -- pairNodes n b v == whether inner node v's size, and its children's parents, depths and jumps, follow from their
 --   neighbours'
+-- jumpUnit, depthUnit, sizeUnit == what jump, depth and size count in one number; the parent counts 1
 -- packed p j d == three 16-bit numbers as one; linksCell b v == parent, jump and depth of node v so
 -- numbersCell b v == these and the size of node v, the size above
 -- rootNode b v == whether node v has the root's parent, jump and depth
@@ -19,9 +20,11 @@ use mathlib.Core.Bool.{Bool, cond, _&&_}
 use mathlib.Core.List.{List}
 use lib.Dec.{eqb, ltb}
 use lib.ListN.{length, getD}
+use Rattle.formats.specs.Layout.{nodeColumns}
+use Rattle.formats.specs.Limits.{nodeLimit}
 use Rattle.formats.specs.Checks.{nodeTableLength}
 use Rattle.tables.specs.node_tables.Cells.{parentCell, jumpCell, depthCell, sizeCell}
-use Rattle.tables.specs.node_tables.JumpLengths.{jumpLengths}
+use Rattle.tables.specs.node_tables.JumpLengths.{lengthCount, jumpLengths}
 use Rattle.tables.specs.node_tables.inner.UpPass.{leftOf, innerSize}
 
 abbrev pub within : ℕ → ℕ → ℕ
@@ -38,7 +41,7 @@ abbrev pub pairByLength : ℕ → List ℕ → ℕ → ℕ
 pairByLength n b v = cond (eqb (getD jumpLengths (depthCell b v + 1) 0) 1) v (jumpCell b (within n (jumpCell b v)))
 
 abbrev pub pairJump : ℕ → List ℕ → ℕ → ℕ
-pairJump n b v = cond (ltb (depthCell b v + 1) 1024) (pairByLength n b v) (pairByDistances n b v)
+pairJump n b v = cond (ltb (depthCell b v + 1) lengthCount) (pairByLength n b v) (pairByDistances n b v)
 
 -- both children's cell c is x
 abbrev pub bothAre : (ℕ → ℕ) → ℕ → ℕ → ℕ → Bool
@@ -51,14 +54,23 @@ pairNodes n b v =
     && (bothAre (depthCell b) (v - 1) (leftOf b v) (depthCell b v + 1)
     && bothAre (jumpCell b) (v - 1) (leftOf b v) (pairJump n b v)))
 
+abbrev pub jumpUnit : ℕ
+jumpUnit = 65536
+
+abbrev pub depthUnit : ℕ
+depthUnit = 4294967296
+
+abbrev pub sizeUnit : ℕ
+sizeUnit = 281474976710656
+
 abbrev pub packed : ℕ → ℕ → ℕ → ℕ
-packed p j d = d * 4294967296 + (j * 65536 + p)
+packed p j d = d * depthUnit + (j * jumpUnit + p)
 
 abbrev pub linksCell : List ℕ → ℕ → ℕ
 linksCell b v = packed (parentCell b v) (jumpCell b v) (depthCell b v)
 
 abbrev pub numbersCell : List ℕ → ℕ → ℕ
-numbersCell b v = sizeCell b v * 281474976710656 + linksCell b v
+numbersCell b v = sizeCell b v * sizeUnit + linksCell b v
 
 unfoldable pub rootNode : List ℕ → ℕ → Bool
 rootNode b v = eqb (parentCell b v) v && (eqb (jumpCell b v) v && eqb (depthCell b v) 0)
@@ -66,9 +78,9 @@ rootNode b v = eqb (parentCell b v) v && (eqb (jumpCell b v) v && eqb (depthCell
 pub record PairArgs (n : ℕ) (b : List ℕ) (v : ℕ) : Type 0 where
   pub pos : 0 < v
   pub inside : v < n
-  pub most : n ≤ 65535
+  pub most : n ≤ nodeLimit
   pub room : nodeTableLength n ≤ length b
 
 pub record RootArgs (b : List ℕ) (v : ℕ) : Type 0 where
-  pub most : v ≤ 65535
-  pub room : v * 4 + 4 ≤ length b
+  pub most : v ≤ nodeLimit
+  pub room : v * nodeColumns + nodeColumns ≤ length b

@@ -15,6 +15,7 @@ use mathlib.Core.Bool.{Bool, cond, _&&_}
 use mathlib.Core.List.{List}
 use lib.Dec.{eqb}
 use lib.ListN.{length, getD}
+use Rattle.formats.specs.Limits.{nodeLimit, stateLimit}
 use Rattle.formats.specs.Checks.{nodeTableLength, stateTableLength}
 use Rattle.tables.specs.node_tables.Cells.{jumpCell, sizeCell}
 use Rattle.tables.specs.node_tables.inner.UpPass.{leftOf}
@@ -65,12 +66,12 @@ pub record RowsArgs (nodeTable inn : List ℕ) (s n : ℕ) (b : List ℕ) (v l r
   pub left-below : (q : ℕ) → q < s → nearEntry inn col step q < s
 
 pub record StateIn (s : ℕ) (b : List ℕ) (u : ℕ) : Type 0 where
-  pub few : s ≤ 16
+  pub few : s ≤ stateLimit
   pub at : u * (s + 1) < length b
 
 -- plan, rules and tables within the limits, and every byte of the n rows is a state
 pub record TableRoom (ls nodeTable lv inn : List ℕ) (s k n : ℕ) (b : List ℕ) : Type 0 where
-  pub most : n ≤ 65535
+  pub most : n ≤ nodeLimit
   pub count : length ls ≡ n
   pub below : (j : ℕ) → getD ls j 0 < k
   pub link-room : nodeTableLength n ≤ length nodeTable

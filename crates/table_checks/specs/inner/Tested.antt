@@ -13,13 +13,14 @@ use Rattle.trees.specs.Tree.{Tree, kindsOf, labelsOf}
 use Rattle.trees.specs.Tables.{nodeTableOf, stateTableOf}
 use Rattle.trees.specs.Postorder.{isPostorder}
 use Rattle.list_laws.specs.Tests.{sameList}
+use Rattle.formats.specs.Limits.{nodeLimit}
 use Rattle.formats.specs.Rules.{treeAutomaton}
 use Rattle.formats.specs.Checks.{nodeTableLength, stateTableLength}
 use Rattle.tables.specs.inner.States.{RuleRuns}
 
 pub record MatchArgs (ks ls nodeTable lv inn : List ℕ) (s k m : ℕ) : Type 0 where
   pub postorder : isPostorder ks ≡ true
-  pub most : length ks ≤ 65535
+  pub most : length ks ≤ nodeLimit
   pub count : length ls ≡ length ks
   pub below : (j : ℕ) → getD ls j 0 < k
   pub link-room : nodeTableLength (length ks) ≤ length nodeTable

@@ -23,6 +23,7 @@ use lib.ListN.{length, getD}
 use Rattle.trees.specs.Tree.{Tree, size}
 use Rattle.trees.specs.Numbering.{parent}
 use Rattle.trees.specs.Tables.{stateMap}
+use Rattle.formats.specs.Limits.{stateLimit, labelLimit}
 use Rattle.formats.specs.Rules.{treeAutomaton}
 use Rattle.formats.specs.Checks.{nodeTableLength, stateTableLength}
 use Rattle.tables.specs.node_tables.Cells.{jumpCell, sizeCell}
@@ -72,8 +73,8 @@ pub record FarPairArgs (st : List ℕ) (s v j r l : ℕ) (table : List ℕ) (row
   pub apart : r ≡ l → ⊥
 
 pub record PairArgs (ls b inn : List ℕ) (s k : ℕ) (st : List ℕ) (v : ℕ) : Type 0 where
-  pub few : s ≤ 16
-  pub labels : k ≤ 64
+  pub few : s ≤ stateLimit
+  pub labels : k ≤ labelLimit
   pub below : (j : ℕ) → getD ls j 0 < k
   pub inner-count : length inn ≡ s * k * s
   pub inner-below : (j : ℕ) → getD inn j 0 < s

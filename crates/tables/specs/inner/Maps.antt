@@ -21,6 +21,7 @@ use Rattle.trees.specs.Automaton.{Automaton, state}
 use Rattle.trees.specs.Numbering.{sub, parent}
 use Rattle.trees.specs.Jumps.{jump}
 use Rattle.trees.specs.Tables.{stateMap}
+use Rattle.formats.specs.Limits.{nodeLimit}
 use Rattle.formats.specs.Rules.{treeAutomaton}
 use Rattle.formats.specs.Checks.{nodeTableLength, stateTableLength}
 use Rattle.tables.specs.node_tables.Cells.{parentCell, jumpCell, sizeCell}
@@ -61,7 +62,7 @@ pub record MapArgs (ks ls b inn : List ℕ) (s k : ℕ) (st : List ℕ) : Type 0
   pub prepared : Prepared s k leaves inn [] tree ks ls b st
   pub rules : RuleRuns s k leaves inn
   pub some : 0 < s
-  pub most : length ks ≤ 65535
+  pub most : length ks ≤ nodeLimit
   pub below : (j : ℕ) → getD ls j 0 < k
   pub link-room : nodeTableLength (length ls) ≤ length b
   pub room : stateTableLength (length ls) s ≤ length st

@@ -10,6 +10,7 @@
 use Prim.Native.Nat.{ℕ, _+_, _*_, _≤_, _<_}
 use mathlib.Core.List.{List, []}
 use lib.ListN.{length}
+use Rattle.formats.specs.Limits.{nodeLimit, stateLimit, labelLimit}
 use Rattle.formats.specs.Checks.{nodeTableLength, stateTableLength}
 use Rattle.tables.specs.Climbs.{View}
 
@@ -36,26 +37,26 @@ abbrev pub nodesView : ℕ → List ℕ → View
 nodesView n nodeTable = pathView n 0 0 [] [] nodeTable []
 
 pub record RuleOnArgs (s k : ℕ) (inn : List ℕ) (p q : ℕ) : Type 0 where
-  pub few : s ≤ 16
-  pub labels : k ≤ 64
+  pub few : s ≤ stateLimit
+  pub labels : k ≤ labelLimit
   pub left : p < s
   pub right : q < s
   pub room : s * k * s ≤ length inn
 
 pub record RunOnArgs (s : ℕ) (stateTable : List ℕ) (v : ℕ) : Type 0 where
-  pub few : s ≤ 16
+  pub few : s ≤ stateLimit
   pub at : v * (s + 1) < length stateTable
 
 pub record PairArgs (n : ℕ) (nodeTable : List ℕ) (v p : ℕ) : Type 0 where
   pub at : v < n
   pub up : p < n
-  pub most : n ≤ 65535
+  pub most : n ≤ nodeLimit
   pub room : nodeTableLength n ≤ length nodeTable
 
 pub record PathArgs (n s k : ℕ) (ls inn nodeTable stateTable : List ℕ) : Type 0 where
-  pub most : n ≤ 65535
-  pub few : s ≤ 16
-  pub labels : k ≤ 64
+  pub most : n ≤ nodeLimit
+  pub few : s ≤ stateLimit
+  pub labels : k ≤ labelLimit
   pub labels-room : n ≤ length ls
   pub inner-room : s * k * s ≤ length inn
   pub node-table-room : nodeTableLength n ≤ length nodeTable

@@ -21,6 +21,8 @@ use Rattle.trees.specs.Tree.{Tree, kindsOf, labelsOf, size}
 use Rattle.trees.specs.Automaton.{Automaton, state}
 use Rattle.trees.specs.Numbering.{sub}
 use Rattle.trees.specs.Postorder.{isPostorder}
+use Rattle.formats.specs.Layout.{nodeColumns}
+use Rattle.formats.specs.Limits.{nodeLimit, stateLimit, labelLimit}
 use Rattle.formats.specs.inner.InnerChecks.{RuleArgs}
 use Rattle.formats.specs.Rules.{treeAutomaton}
 use Rattle.formats.specs.Checks.{nodeTableLength, stateTableLength}
@@ -29,8 +31,8 @@ use Rattle.tables.specs.node_tables.Cells.{sizeCell}
 use Rattle.tables.specs.StateCells.{stateCell}
 
 pub record RuleRuns (s k : ℕ) (lv inn : List ℕ) : Type 0 where
-  pub few : s ≤ 16
-  pub labels : k ≤ 64
+  pub few : s ≤ stateLimit
+  pub labels : k ≤ labelLimit
   pub leaf-count : length lv ≡ k
   pub inner-count : length inn ≡ s * k * s
   pub leaf-below : (j : ℕ) → getD lv j 0 < s
@@ -50,7 +52,7 @@ Runs s k lv inn ks ls i before after =
 pub record StateArgs (ks ls b lv inn : List ℕ) (s k m : ℕ) : Type 0 where
   pub postorder : isPostorder ks ≡ true
   pub count : length ls ≡ length ks
-  pub most : length ks ≤ 65535
+  pub most : length ks ≤ nodeLimit
   pub below : (j : ℕ) → getD ls j 0 < k
   pub link-room : nodeTableLength (length ks) ≤ length b
   pub sizes : Sizes ks b
@@ -74,7 +76,7 @@ pub record Leaves (s : ℕ) (lv ls : List ℕ) (b e : ℕ) (before after : List 
   pub kept : (j : ℕ) → ((v : ℕ) → b ≤ v → v < e → j ≡ v * (s + 1) → ⊥) → getD after j 0 ≡ getD before j 0
 
 pub record LeafArgs (ls lv : List ℕ) (s b e m : ℕ) : Type 0 where
-  pub few : s ≤ 16
+  pub few : s ≤ stateLimit
   pub order : b ≤ e
   pub inside : e ≤ length ls
   pub label : (j : ℕ) → getD ls j 0 < length lv
@@ -99,8 +101,8 @@ innerState b st inn s k v a = getD inn ((stateCell s st (leftOf b v) * k + a) * 
 
 pub record InnerArgs (b st inn : List ℕ) (s k v a : ℕ) : Type 0 where
   pub pos : 0 < v
-  pub few : s ≤ 16
-  pub room : v * 4 ≤ length b
+  pub few : s ≤ stateLimit
+  pub room : v * nodeColumns ≤ length b
   pub right : sizeCell b (v - 1) < v
   pub left-in : leftOf b v * (s + 1) < length st
   pub right-in : (v - 1) * (s + 1) < length st

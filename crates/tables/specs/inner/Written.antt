@@ -15,6 +15,7 @@ use mathlib.Core.List.{List, _++_}
 use lib.ListN.{length, drop}
 use Rattle.trees.specs.Tree.{Tree, kindsOf, labelsOf}
 use Rattle.trees.specs.Tables.{stateTableOf}
+use Rattle.formats.specs.Limits.{nodeLimit, stateLimit, labelLimit}
 use Rattle.formats.specs.Plan.{nodeCount, planLength}
 use Rattle.formats.specs.Rules.{treeAutomaton, stateCount, labelCount, ruleLength}
 use Rattle.formats.specs.Checks.{firstNo, buildChecks, stateTableLength}
@@ -40,9 +41,9 @@ pub record BuildArgs (p r : List ℕ) (n s k : ℕ) (nodeTable stateTable : List
   pub nodes : n ≡ nodeCount p
   pub states : s ≡ stateCount r
   pub labels : k ≡ labelCount r
-  pub node-most : n ≤ 65535
-  pub state-most : s ≤ 16
-  pub label-most : k ≤ 64
+  pub node-most : n ≤ nodeLimit
+  pub state-most : s ≤ stateLimit
+  pub label-most : k ≤ labelLimit
   pub plan-exact : length p ≡ planLength n
   pub rules-exact : length r ≡ ruleLength s k
 

@@ -12,19 +12,21 @@ use lib.ListN.{length, getD}
 use Rattle.trees.specs.Numbering.{isInSubtree}
 use Rattle.trees.specs.Postorder.{isPostorder}
 use Rattle.trees.specs.Climb.{Forest}
+use Rattle.formats.specs.Layout.{nodeColumns, jumpColumn, depthColumn, sizeColumn}
+use Rattle.formats.specs.Limits.{nodeLimit}
 use Rattle.formats.specs.Checks.{nodeTableLength}
 
 abbrev pub parentCell : List ℕ → ℕ → ℕ
-parentCell b v = getD b (v * 4) 0
+parentCell b v = getD b (v * nodeColumns) 0
 
 abbrev pub jumpCell : List ℕ → ℕ → ℕ
-jumpCell b v = getD b (v * 4 + 1) 0
+jumpCell b v = getD b (v * nodeColumns + jumpColumn) 0
 
 abbrev pub depthCell : List ℕ → ℕ → ℕ
-depthCell b v = getD b (v * 4 + 2) 0
+depthCell b v = getD b (v * nodeColumns + depthColumn) 0
 
 abbrev pub sizeCell : List ℕ → ℕ → ℕ
-sizeCell b v = getD b (v * 4 + 3) 0
+sizeCell b v = getD b (v * nodeColumns + sizeColumn) 0
 
 abbrev pub cellForest : ℕ → List ℕ → Forest
 cellForest n b = record { nodes = n; parent = parentCell b; jump = jumpCell b; depth = depthCell b }
@@ -34,5 +36,5 @@ isInSubtreeOn b c v = isInSubtree c (sizeCell b c) v
 
 pub record NodeTableArgs (ks : List ℕ) (m : ℕ) : Type 0 where
   pub postorder : isPostorder ks ≡ true
-  pub most : length ks ≤ 65535
+  pub most : length ks ≤ nodeLimit
   pub room : nodeTableLength (length ks) ≤ m

@@ -1,6 +1,7 @@
 -- The lengths of the jumps by depth, as the table that the passes read.
 --
 -- jumpLengths == entry d is the length of the jump of a node at depth d, for the depths below 1,024; entry 0 is 0
+-- lengthCount == how many lengths there are
 -- lengthRule l m == the length of a node's jump, from the lengths l of its parent's and m of the one at the parent's jump
 -- lengthAt d == entry d by that rule from earlier entries
 --
@@ -11,6 +12,9 @@ use mathlib.Core.Bool.{cond}
 use mathlib.Core.List.{List, [], _∷_}
 use lib.Dec.{eqb}
 use lib.ListN.{getD}
+
+abbrev pub lengthCount : ℕ
+lengthCount = 1024
 
 unfoldable pub jumpLengths : List ℕ
 jumpLengths =

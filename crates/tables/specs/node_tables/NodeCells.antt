@@ -16,6 +16,7 @@ use lib.ListN.{getD}
 use Rattle.trees.specs.Tree.{Tree, size}
 use Rattle.trees.specs.Numbering.{sub, parent, depth}
 use Rattle.trees.specs.Jumps.{jump}
+use Rattle.formats.specs.Layout.{nodeColumns, jumpColumn, depthColumn, sizeColumn}
 use Rattle.tables.specs.node_tables.Cells.{parentCell, jumpCell, depthCell, sizeCell}
 
 pub record NodeCells (t : Tree) (b : List ℕ) : Type 0 where
@@ -42,16 +43,16 @@ pub record Parents (t : Tree) (n : ℕ) (b : List ℕ) : Type 0 where
   pub are : (v : ℕ) → v < n → parentCell b v ≡ parent t v
 
 abbrev pub Beside : ℕ → ℕ → ℕ → ℕ → Type 0
-Beside k l n j = (v : ℕ) → v < n → (j ≡ v * 4 + k → ⊥) × (j ≡ v * 4 + l → ⊥)
+Beside k l n j = (v : ℕ) → v < n → (j ≡ v * nodeColumns + k → ⊥) × (j ≡ v * nodeColumns + l → ⊥)
 
 pub record UpWritten (t : Tree) (i : ℕ) (before after : List ℕ) : Type 0 where
   pub cells : UpTo t i after
-  pub kept : (j : ℕ) → Beside 0 3 (size t) j → getD after j 0 ≡ getD before j 0
+  pub kept : (j : ℕ) → Beside 0 sizeColumn (size t) j → getD after j 0 ≡ getD before j 0
 
 pub record AllUpWritten (t : Tree) (before after : List ℕ) : Type 0 where
   pub cells : UpCells t after
-  pub kept : (j : ℕ) → Beside 0 3 (size t) j → getD after j 0 ≡ getD before j 0
+  pub kept : (j : ℕ) → Beside 0 sizeColumn (size t) j → getD after j 0 ≡ getD before j 0
 
 pub record DownWritten (t : Tree) (i : ℕ) (before after : List ℕ) : Type 0 where
   pub cells : DownFrom t i after
-  pub kept : (j : ℕ) → Beside 1 2 (size t) j → getD after j 0 ≡ getD before j 0
+  pub kept : (j : ℕ) → Beside jumpColumn depthColumn (size t) j → getD after j 0 ≡ getD before j 0

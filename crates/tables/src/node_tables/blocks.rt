@@ -3,14 +3,18 @@
 ghost use mathlib.Core.Path.{_≡_};
 ghost use Prim.Native.Nat.{_+_, _≤_, _<_};
 ghost use lib.ListN.{length};
-ghost use Rattle.tables.specs.node_tables.inner.InnerNodes.{Listed, ListArgs};
+ghost use Rattle.formats.specs.Limits.{nodeLimit};
+ghost use Rattle.tables.specs.node_tables.inner.InnerNodes.{blockLength, Listed, ListArgs};
+
+// The nodes of a block.
+pub const BLOCK: usize = 1024;
 
 // Where the block from b on ends, of n nodes.
 pub fn block_end(b: usize, n: usize) -> usize
-    requires { ⌜ (b < n) × (n ≤ 65535) ⌝ }
-    ensures { λ r. ⌜ (b < r) × (r ≤ n) × (r ≤ b + 1024) ⌝ }
+    requires { ⌜ (b < n) × (n ≤ nodeLimit) ⌝ }
+    ensures { λ r. ⌜ (b < r) × (r ≤ n) × (r ≤ b + blockLength) ⌝ }
 {
-    if b + 1024 < n { b + 1024 } else { n }
+    if b + BLOCK < n { b + BLOCK } else { n }
 }
 
 // Lists the inner nodes of b, .. e - 1 in rising order, and returns their number. A leaf is written too, and the next
@@ -30,8 +34,8 @@ pub fn list_inner(kinds: &[u8], b: usize, e: usize, list: &mut [u16]) -> usize
 }
 
 // Room for the inner nodes of a block.
-pub fn empty_list() -> [u16; 1024]
-    ensures { λ r. ⌜ length r ≡ 1024 ⌝ }
+pub fn empty_list() -> [u16; BLOCK]
+    ensures { λ r. ⌜ length r ≡ blockLength ⌝ }
 {
-    [0u16; 1024]
+    [0u16; BLOCK]
 }

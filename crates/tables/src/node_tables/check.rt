@@ -1,9 +1,14 @@
 // The full check of a table of links: both passes, comparing where the build writes.
 // The first difference ends it, since what comes after would be read by wrong values.
 use crate::node_tables::down::child_jump;
+use crate::node_tables::jump_lengths::LENGTH_COUNT;
 use crate::node_tables::jump_lengths::jump_lengths;
 use crate::node_tables::up::inner_size;
 use crate::node_tables::up::left_child;
+use formats::layout::DEPTH;
+use formats::layout::JUMP;
+use formats::layout::NODE_COLUMNS;
+use formats::layout::SIZE;
 ghost use mathlib.Core.Path.{_≡_};
 ghost use lib.ListN.{length, take};
 ghost use Rattle.trees.specs.Tree.{Tree, kindsOf};
@@ -22,15 +27,15 @@ fn inner_matches(node_table: &[u16], v: usize) -> bool
     requires { ⌜ InnerArgs (now «node_table») v ⌝ }
     ensures { λ r. ⌜ r ≡ innerMatches (now («node_table» .entry)) v ⌝ }
 {
-    if node_table[v * 4 + 3] != inner_size(node_table, v) {
+    if node_table[v * NODE_COLUMNS + SIZE] != inner_size(node_table, v) {
         return false;
     }
     let right = v - 1;
-    if node_table[right * 4] as usize != v {
+    if node_table[right * NODE_COLUMNS] as usize != v {
         return false;
     }
     let left = left_child(node_table, v);
-    node_table[left * 4] as usize == v
+    node_table[left * NODE_COLUMNS] as usize == v
 }
 
 // The same of any node: a leaf has size 1 and is nobody's parent.
@@ -39,7 +44,7 @@ fn up_matches(kinds: &[u8], node_table: &[u16], v: usize) -> bool
     ensures { λ r. ⌜ r ≡ upMatches (now (kinds .entry)) (now («node_table» .entry)) v ⌝ }
 {
     if kinds[v] == 0 {
-        return node_table[v * 4 + 3] == 1;
+        return node_table[v * NODE_COLUMNS + SIZE] == 1;
     }
     inner_matches(node_table, v)
 }
@@ -59,32 +64,32 @@ fn check_up(kinds: &[u8], node_table: &[u16]) -> bool
         v += 1;
     }
     let root = n - 1;
-    node_table[root * 4] as usize == root
+    node_table[root * NODE_COLUMNS] as usize == root
 }
 
 // Whether node v has the depth and the jump that its parent's give.
-fn down_matches(node_table: &[u16], lengths: &[u16; 1024], v: usize) -> bool
+fn down_matches(node_table: &[u16], lengths: &[u16; LENGTH_COUNT], v: usize) -> bool
     requires { ⌜ NodeArgs (now «node_table») v × (now lengths ≡ jumpLengths) ⌝ }
     ensures { λ r. ⌜ r ≡ downMatches (now («node_table» .entry)) v ⌝ }
 {
-    let p = node_table[v * 4] as usize;
-    if node_table[v * 4 + 2] != node_table[p * 4 + 2] + 1 {
+    let p = node_table[v * NODE_COLUMNS] as usize;
+    if node_table[v * NODE_COLUMNS + DEPTH] != node_table[p * NODE_COLUMNS + DEPTH] + 1 {
         return false;
     }
-    node_table[v * 4 + 1] == child_jump(node_table, lengths, p)
+    node_table[v * NODE_COLUMNS + JUMP] == child_jump(node_table, lengths, p)
 }
 
 // Compares the depth and the jump of each of the n nodes.
-fn check_down(node_table: &[u16], lengths: &[u16; 1024], n: usize) -> bool
+fn check_down(node_table: &[u16], lengths: &[u16; LENGTH_COUNT], n: usize) -> bool
     requires { ⌜ DownArgs n (now «node_table») × (now lengths ≡ jumpLengths) ⌝ }
     ensures { λ r. ⌜ ((t : Tree) → Parents t n (now («node_table» .entry))
         → Tells r (DownFrom t 0 (now («node_table» .entry))) (NodeCells t (now («node_table» .entry)))) ⌝ }
 {
     let root = n - 1;
-    if node_table[root * 4 + 1] as usize != root {
+    if node_table[root * NODE_COLUMNS + JUMP] as usize != root {
         return false;
     }
-    if node_table[root * 4 + 2] != 0 {
+    if node_table[root * NODE_COLUMNS + DEPTH] != 0 {
         return false;
     }
     let mut v = root;

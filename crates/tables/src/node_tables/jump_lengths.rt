@@ -5,10 +5,16 @@ ghost use mathlib.Core.Bool.{cond};
 ghost use Prim.Native.Nat.{_<_};
 ghost use lib.Dec.{eqb};
 ghost use lib.ListN.{getD};
-ghost use Rattle.tables.specs.node_tables.JumpLengths.{jumpLengths};
+ghost use Rattle.tables.specs.node_tables.JumpLengths.{lengthCount, jumpLengths};
+
+// How many lengths the table has: those of the depths below it.
+pub const LENGTH_COUNT: usize = 1024;
+
+// The last depth with a length. A parent above it has children with a length.
+pub const LAST_LENGTH: u16 = (LENGTH_COUNT - 1) as u16;
 
 // Entry d is the length of the jump of a node at depth d.
-const JUMP_LENGTHS: [u16; 1024] = [
+const JUMP_LENGTHS: [u16; LENGTH_COUNT] = [
     0,
     1,
     1,
@@ -1036,15 +1042,15 @@ const JUMP_LENGTHS: [u16; 1024] = [
 ];
 
 // The whole table. A constant is copied wherever it is named, so a pass calls this once and passes the copy on.
-pub fn jump_lengths() -> [u16; 1024]
+pub fn jump_lengths() -> [u16; LENGTH_COUNT]
     ensures { λ r. ⌜ r ≡ jumpLengths ⌝ }
 {
     JUMP_LENGTHS
 }
 
 // The length of the jump of a node at depth d.
-pub fn jump_length(lengths: &[u16; 1024], d: usize) -> u16
-    requires { ⌜ (now lengths ≡ jumpLengths) × (d < 1024) ⌝ }
+pub fn jump_length(lengths: &[u16; LENGTH_COUNT], d: usize) -> u16
+    requires { ⌜ (now lengths ≡ jumpLengths) × (d < lengthCount) ⌝ }
     ensures { λ r. ⌜ r ≡ getD jumpLengths d 0 ⌝ }
 {
     lengths[d]

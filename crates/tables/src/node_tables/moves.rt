@@ -1,8 +1,13 @@
 // One move of a climb on a table of links with any values, and single cells of such a table.
+use formats::layout::DEPTH;
+use formats::layout::JUMP;
+use formats::layout::NODE_COLUMNS;
+use formats::layout::SIZE;
 ghost use mathlib.Core.Path.{_≡_};
 ghost use Prim.Native.Nat.{_+_, _*_, _≤_, _<_};
 ghost use lib.ListN.{length};
 ghost use Rattle.trees.specs.Climb.{nextMove};
+ghost use Rattle.formats.specs.Layout.{nodeColumns};
 ghost use Rattle.tables.specs.node_tables.Cells.{parentCell, jumpCell, depthCell, sizeCell, isInSubtreeOn, cellForest};
 ghost use Rattle.tables.specs.node_tables.inner.MoveAnswers.{nextMoveOf, risesTo, MoveArgs};
 
@@ -23,39 +28,39 @@ fn wide(x: u16) -> usize
 
 // The parent of node v.
 pub fn parent_at(node_table: &[u16], v: usize) -> usize
-    requires { ⌜ v * 4 + 4 ≤ length (now «node_table») ⌝ }
+    requires { ⌜ v * nodeColumns + nodeColumns ≤ length (now «node_table») ⌝ }
     ensures { λ r. ⌜ r ≡ parentCell (now («node_table» .entry)) v ⌝ }
 {
-    wide(node_table[v * 4])
+    wide(node_table[v * NODE_COLUMNS])
 }
 
 // The jump of node v.
 pub fn jump_at(node_table: &[u16], v: usize) -> usize
-    requires { ⌜ v * 4 + 4 ≤ length (now «node_table») ⌝ }
+    requires { ⌜ v * nodeColumns + nodeColumns ≤ length (now «node_table») ⌝ }
     ensures { λ r. ⌜ r ≡ jumpCell (now («node_table» .entry)) v ⌝ }
 {
-    wide(node_table[v * 4 + 1])
+    wide(node_table[v * NODE_COLUMNS + JUMP])
 }
 
 // The depth of node v.
 pub fn depth_at(node_table: &[u16], v: usize) -> usize
-    requires { ⌜ v * 4 + 4 ≤ length (now «node_table») ⌝ }
+    requires { ⌜ v * nodeColumns + nodeColumns ≤ length (now «node_table») ⌝ }
     ensures { λ r. ⌜ r ≡ depthCell (now («node_table» .entry)) v ⌝ }
 {
-    wide(node_table[v * 4 + 2])
+    wide(node_table[v * NODE_COLUMNS + DEPTH])
 }
 
 // The size of node v's subtree.
 pub fn size_at(node_table: &[u16], v: usize) -> usize
-    requires { ⌜ v * 4 + 4 ≤ length (now «node_table») ⌝ }
+    requires { ⌜ v * nodeColumns + nodeColumns ≤ length (now «node_table») ⌝ }
     ensures { λ r. ⌜ r ≡ sizeCell (now («node_table» .entry)) v ⌝ }
 {
-    wide(node_table[v * 4 + 3])
+    wide(node_table[v * NODE_COLUMNS + SIZE])
 }
 
 // Whether node v is node c or below it: in the run of numbers that ends at c and is as long as c's size.
 pub fn is_below(node_table: &[u16], c: usize, v: usize) -> bool
-    requires { ⌜ c * 4 + 4 ≤ length (now «node_table») ⌝ }
+    requires { ⌜ c * nodeColumns + nodeColumns ≤ length (now «node_table») ⌝ }
     ensures { λ r. ⌜ r ≡ isInSubtreeOn (now («node_table» .entry)) c v ⌝ }
 {
     if c < v {

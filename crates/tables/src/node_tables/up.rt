@@ -1,4 +1,6 @@
 // The pass up: the size of each node's subtree, and each inner node as its children's parent.
+use formats::layout::NODE_COLUMNS;
+use formats::layout::SIZE;
 ghost use mathlib.Core.Path.{_≡_};
 ghost use lib.ListN.{length};
 ghost use Rattle.trees.specs.Tree.{Tree, kindsOf};
@@ -12,7 +14,7 @@ pub fn left_child(node_table: &[u16], v: usize) -> usize
     ensures { λ r. ⌜ r ≡ leftOf (now («node_table» .entry)) v ⌝ }
 {
     let right = v - 1;
-    right - node_table[right * 4 + 3] as usize
+    right - node_table[right * NODE_COLUMNS + SIZE] as usize
 }
 
 // The size of inner node v, from its children's.
@@ -22,7 +24,7 @@ pub fn inner_size(node_table: &[u16], v: usize) -> u16
 {
     let right = v - 1;
     let left = left_child(node_table, v);
-    node_table[left * 4 + 3] + node_table[right * 4 + 3] + 1
+    node_table[left * NODE_COLUMNS + SIZE] + node_table[right * NODE_COLUMNS + SIZE] + 1
 }
 
 // The iteration for node v of kind c: its size, and itself as its children's parent. A leaf counts as both of its own
@@ -32,14 +34,14 @@ fn write_up_node(node_table: &mut [u16], v: usize, c: usize)
     requires { ⌜ TurnArgs (now «node_table») v c ⌝ }
     ensures { λ _. ⌜ now («node_table» .exit) ≡ upIteration (now («node_table» .entry)) v c ⌝ }
 {
-    node_table[v * 4 + 3] = 0;
+    node_table[v * NODE_COLUMNS + SIZE] = 0;
     let right = v - c;
-    let size = node_table[right * 4 + 3];
-    node_table[right * 4] = v as u16;
+    let size = node_table[right * NODE_COLUMNS + SIZE];
+    node_table[right * NODE_COLUMNS] = v as u16;
     let left = right - size as usize;
-    let sum = node_table[left * 4 + 3] + size + 1;
-    node_table[v * 4 + 3] = sum;
-    node_table[left * 4] = v as u16;
+    let sum = node_table[left * NODE_COLUMNS + SIZE] + size + 1;
+    node_table[v * NODE_COLUMNS + SIZE] = sum;
+    node_table[left * NODE_COLUMNS] = v as u16;
 }
 
 // Writes each node's parent and the size of its subtree.
@@ -55,5 +57,5 @@ pub fn write_up(kinds: &[u8], node_table: &mut [u16])
         v += 1;
     }
     let root = n - 1;
-    node_table[root * 4] = root as u16;
+    node_table[root * NODE_COLUMNS] = root as u16;
 }

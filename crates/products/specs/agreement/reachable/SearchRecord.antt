@@ -19,7 +19,8 @@ use mathlib.Core.List.{List, [], _∷_, _++_}
 use mathlib.Core.Bool.{Bool, cond}
 use lib.Dec.{eqb}
 use lib.ListN.{length, getD, take, set, replicate}
-use Rattle.products.specs.agreement.Lines.{Line, leafLine, innerLine}
+use Rattle.formats.specs.Limits.{stateLimit, labelLimit}
+use Rattle.products.specs.agreement.Lines.{pairLimit, Line, leafLine, innerLine}
 use Rattle.products.specs.agreement.Search.{Found, overLeaves, overLabels, overFound, searched, marks}
 use Rattle.products.specs.declared.agreement.reachable.Search.{Search}
 
@@ -36,12 +37,12 @@ lineAdded s kind a i j c = record {
 
 abbrev pub emptySearch : Search
 emptySearch = record {
-  kinds = replicate 256 0;
-  labels = replicate 256 0;
-  lefts = replicate 256 0;
-  rights = replicate 256 0;
-  codes = replicate 256 0;
-  seen = replicate 256 0;
+  kinds = replicate pairLimit 0;
+  labels = replicate pairLimit 0;
+  lefts = replicate pairLimit 0;
+  rights = replicate pairLimit 0;
+  codes = replicate pairLimit 0;
+  seen = replicate pairLimit 0;
   count = 0;
 }
 
@@ -73,22 +74,22 @@ stepOf f g s1 s2 k p a q = pairStep f g s1 s2 k (p / s2) (p % s2) a (q / s2) (q 
 
 pub record Pair (f g : List ℕ) (s1 s2 k : ℕ) : Type 0 where
   pub first-least : 1 ≤ s1
-  pub first-most : s1 ≤ 16
+  pub first-most : s1 ≤ stateLimit
   pub second-least : 1 ≤ s2
-  pub second-most : s2 ≤ 16
-  pub labels-most : k ≤ 64
+  pub second-most : s2 ≤ stateLimit
+  pub labels-most : k ≤ labelLimit
   pub first-length : length f ≡ s1 * k * s1
   pub second-length : length g ≡ s2 * k * s2
   pub first-below : (j : ℕ) → getD f j 0 < s1
   pub second-below : (j : ℕ) → getD g j 0 < s2
 
 pub record Fits (s1 s2 : ℕ) (s : Search) : Type 0 where
-  pub kinds : length (s .kinds) ≡ 256
-  pub labels : length (s .labels) ≡ 256
-  pub lefts : length (s .lefts) ≡ 256
-  pub rights : length (s .rights) ≡ 256
-  pub codes : length (s .codes) ≡ 256
-  pub seen : length (s .seen) ≡ 256
+  pub kinds : length (s .kinds) ≡ pairLimit
+  pub labels : length (s .labels) ≡ pairLimit
+  pub lefts : length (s .lefts) ≡ pairLimit
+  pub rights : length (s .rights) ≡ pairLimit
+  pub codes : length (s .codes) ≡ pairLimit
+  pub seen : length (s .seen) ≡ pairLimit
   pub counted : marks (s .seen) ≡ s .count
   pub below : (i : ℕ) → getD (s .codes) i 0 < s1 * s2
   pub kind-bit : (i : ℕ) → getD (s .kinds) i 0 < 2
@@ -108,8 +109,8 @@ pub record StepArgs (f g : List ℕ) (s1 s2 k p1 p2 a q1 q2 : ℕ) : Type 0 wher
 pub record LabelsArgs (f g : List ℕ) (s1 s2 k : ℕ) (s : Search) (i j p q : ℕ) : Type 0 where
   pub pair : Pair f g s1 s2 k
   pub fits : Fits s1 s2 s
-  pub left-in : i < 256
-  pub right-in : j < 256
+  pub left-in : i < pairLimit
+  pub right-in : j < pairLimit
   pub left-below : p < s1 * s2
   pub right-below : q < s1 * s2
 
@@ -129,7 +130,7 @@ differingFrom f g s2 s i (suc n) =
 
 pub record MarksArgs (f g : List ℕ) (s2 : ℕ) (s : Search) : Type 0 where
   pub second-least : 1 ≤ s2
-  pub few : s .count ≤ 256
+  pub few : s .count ≤ pairLimit
   pub second-length : length g ≡ s2
   pub below : (i : ℕ) → getD (s .codes) i 0 < length f * s2
   pub small : (i : ℕ) → getD (s .codes) i 0 < 256
@@ -165,10 +166,10 @@ pub record SearchArgs (f g x y : List ℕ) (s1 s2 k : ℕ) (s : Search) : Type 0
 
 pub record SearchDone (f g x y : List ℕ) (s1 s2 k : ℕ) (s r : Search) : Type 0 where
   pub fits : Fits s1 s2 r
-  pub front : Front (foundIn r) (searched (stepOf f g s1 s2 k) k 256 0 (foundIn s))
+  pub front : Front (foundIn r) (searched (stepOf f g s1 s2 k) k pairLimit 0 (foundIn s))
   -- all of it, unless the marks of a line differ
   pub found : differingFrom x y s2 r 0 (r .count - 0) ≡ 0
-      → foundIn r ≡ searched (stepOf f g s1 s2 k) k 256 0 (foundIn s)
+      → foundIn r ≡ searched (stepOf f g s1 s2 k) k pairLimit 0 (foundIn s)
 
 -- ---- leaves
 
@@ -176,9 +177,9 @@ abbrev pub pairLeaf : List ℕ → List ℕ → ℕ → ℕ → ℕ
 pairLeaf f g s2 a = getD f a 0 * s2 + getD g a 0
 
 pub record LeavesArgs (f g : List ℕ) (s1 s2 k : ℕ) (s : Search) : Type 0 where
-  pub first-most : s1 ≤ 16
-  pub second-most : s2 ≤ 16
-  pub labels-most : k ≤ 64
+  pub first-most : s1 ≤ stateLimit
+  pub second-most : s2 ≤ stateLimit
+  pub labels-most : k ≤ labelLimit
   pub first-length : length f ≡ k
   pub second-length : length g ≡ k
   pub first-below : (j : ℕ) → getD f j 0 < s1

@@ -13,6 +13,7 @@ use mathlib.Core.Bool.{Bool, true, false, cond, _&&_}
 use mathlib.Core.List.{List}
 use lib.Dec.{eqb}
 use lib.ListN.{length, getD}
+use Rattle.formats.specs.Layout.{nodeColumns}
 use Rattle.tables.specs.node_tables.Cells.{parentCell, jumpCell, depthCell, sizeCell}
 use Rattle.tables.specs.node_tables.inner.UpPass.{leftOf, innerSize, InnerArgs}
 use Rattle.tables.specs.node_tables.inner.DownPass.{childJump}
@@ -30,7 +31,7 @@ downMatches b v =
 
 pub record UpArgs (ks b : List ℕ) (v : ℕ) : Type 0 where
   pub at : v < length ks
-  pub room : v * 4 + 4 ≤ length b
+  pub room : v * nodeColumns + nodeColumns ≤ length b
   pub inner : (getD ks v 0 ≡ 0 → ⊥) → InnerArgs b v
 
 pub record Tells (r : Bool) (P Q : Type 0) : Type 0 where

@@ -14,10 +14,12 @@ use lib.Dec.{eqb, ltb}
 use lib.ListN.{length, getD, set}
 use Rattle.trees.specs.Tree.{Tree}
 use Rattle.trees.specs.Jumps.{twoDistances}
+use Rattle.formats.specs.Layout.{nodeColumns, jumpColumn, depthColumn}
+use Rattle.formats.specs.Limits.{nodeLimit}
 use Rattle.formats.specs.Checks.{nodeTableLength}
 use Rattle.tables.specs.node_tables.Cells.{parentCell, jumpCell, depthCell}
 use Rattle.tables.specs.node_tables.NodeCells.{Parents}
-use Rattle.tables.specs.node_tables.JumpLengths.{jumpLengths}
+use Rattle.tables.specs.node_tables.JumpLengths.{lengthCount, jumpLengths}
 
 -- "if depth(p) - depth(jump p) equals depth(jump p) - depth(jump of jump p), its jump is the jump of jump p; else p"
 abbrev pub byDistances : List ℕ → ℕ → ℕ
@@ -31,29 +33,29 @@ byLength b p = cond (eqb (getD jumpLengths (depthCell b p + 1) 0) 1) p (jumpCell
 
 -- "For depths below 1,024 the jump's length shall come from a constant table of 1,024 numbers, and from the rule above that."
 abbrev pub childJump : List ℕ → ℕ → ℕ
-childJump b p = cond (ltb (depthCell b p + 1) 1024) (byLength b p) (byDistances b p)
+childJump b p = cond (ltb (depthCell b p + 1) lengthCount) (byLength b p) (byDistances b p)
 
 abbrev pub put : List ℕ → ℕ → ℕ → ℕ → List ℕ
-put b v j d = set (set b (v * 4 + 1) j) (v * 4 + 2) d
+put b v j d = set (set b (v * nodeColumns + jumpColumn) j) (v * nodeColumns + depthColumn) d
 
 abbrev pub nodeIteration : List ℕ → ℕ → List ℕ
 nodeIteration b v = put b v (childJump b (parentCell b v)) (depthCell b (parentCell b v) + 1)
 
 pub record JumpArgs (b : List ℕ) (p : ℕ) : Type 0 where
   pub small : p ≤ 65535
-  pub at : p * 4 + 4 ≤ length b
-  pub once : jumpCell b p * 4 + 4 ≤ length b
-  pub twice : jumpCell b (jumpCell b p) * 4 + 4 ≤ length b
+  pub at : p * nodeColumns + nodeColumns ≤ length b
+  pub once : jumpCell b p * nodeColumns + nodeColumns ≤ length b
+  pub twice : jumpCell b (jumpCell b p) * nodeColumns + nodeColumns ≤ length b
   pub falls : depthCell b (jumpCell b p) ≤ depthCell b p
   pub falls-again : depthCell b (jumpCell b (jumpCell b p)) ≤ depthCell b (jumpCell b p)
 
 pub record NodeArgs (b : List ℕ) (v : ℕ) : Type 0 where
-  pub at : v * 4 + 4 ≤ length b
+  pub at : v * nodeColumns + nodeColumns ≤ length b
   pub fits : depthCell b (parentCell b v) + 1 ≤ 65535
   pub up : JumpArgs b (parentCell b v)
 
 pub record DownArgs (n : ℕ) (b : List ℕ) : Type 0 where
   pub tree : Tree
   pub parents : Parents tree n b
-  pub most : n ≤ 65535
+  pub most : n ≤ nodeLimit
   pub room : nodeTableLength n ≤ length b

@@ -1,5 +1,6 @@
 -- The inner nodes of a block, as a list.
 --
+-- blockLength == the nodes of a block; the last block may have fewer
 -- from b l i == where the nodes after the first i listed ones begin: after the last of these, or at b
 -- Listed ks b e c l == the first c elements of l are the inner nodes of b, .. e - 1 by the kinds ks, in rising order:
 --   between two of them, before the first and after the last there are leaves only
@@ -8,6 +9,10 @@ use Prim.Native.Nat.{ℕ, zero, suc, _+_, _-_, _≤_, _<_}
 use mathlib.Core.Path.{_≡_}
 use mathlib.Core.List.{List}
 use lib.ListN.{length, getD}
+use Rattle.formats.specs.Limits.{nodeLimit}
+
+abbrev pub blockLength : ℕ
+blockLength = 1024
 
 unfoldable pub from : ℕ → List ℕ → ℕ → ℕ
 from b l zero = b
@@ -24,6 +29,6 @@ pub record Listed (ks : List ℕ) (b e c : ℕ) (l : List ℕ) : Type 0 where
 pub record ListArgs (ks : List ℕ) (b e m : ℕ) : Type 0 where
   pub order : b ≤ e
   pub inside : e ≤ length ks
-  pub most : length ks ≤ 65535
+  pub most : length ks ≤ nodeLimit
   pub fits : e ≤ b + m
   pub kinds : (j : ℕ) → j < length ks → getD ks j 0 ≤ 1

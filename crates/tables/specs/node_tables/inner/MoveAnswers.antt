@@ -13,6 +13,7 @@ use mathlib.Core.Option.{Option, none, some}
 use lib.Dec.{ltb}
 use lib.ListN.{length}
 use Rattle.trees.specs.Climb.{Forest, Move, byJump, toParent}
+use Rattle.formats.specs.Limits.{nodeLimit}
 use Rattle.formats.specs.Checks.{nodeTableLength}
 use Rattle.tables.specs.declared.node_tables.moves.NextMove.{NextMove}
 use Rattle.tables.specs.declared.node_tables.moves.NextMove.the-variants.{Jump, Parent, Stuck}
@@ -27,5 +28,5 @@ risesTo F v u = ltb u (F .nodes) && ltb (F .depth u) (F .depth v)
 
 pub record MoveArgs (n : ℕ) (b : List ℕ) (v : ℕ) : Type 0 where
   pub at : v < n
-  pub most : n ≤ 65535
+  pub most : n ≤ nodeLimit
   pub room : nodeTableLength n ≤ length b

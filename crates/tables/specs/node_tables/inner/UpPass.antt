@@ -10,6 +10,7 @@
 use Prim.Native.Nat.{ℕ, _+_, _-_, _*_, _≤_, _<_}
 use mathlib.Core.List.{List}
 use lib.ListN.{length, set}
+use Rattle.formats.specs.Layout.{nodeColumns, sizeColumn}
 use Rattle.tables.specs.node_tables.Cells.{sizeCell}
 
 abbrev pub leftOf : List ℕ → ℕ → ℕ
@@ -20,13 +21,13 @@ innerSize b v = sizeCell b (leftOf b v) + sizeCell b (v - 1) + 1
 
 -- the iteration of node v of size s with right child r and left child l
 abbrev pub iteration : List ℕ → ℕ → ℕ → ℕ → ℕ → List ℕ
-iteration b v s r l = set (set (set b (v * 4 + 3) s) (r * 4) v) (l * 4) v
+iteration b v s r l = set (set (set b (v * nodeColumns + sizeColumn) s) (r * nodeColumns) v) (l * nodeColumns) v
 
 abbrev pub innerIteration : List ℕ → ℕ → List ℕ
 innerIteration b v = iteration b v (innerSize b v) (v - 1) (leftOf b v)
 
 abbrev pub cleared : List ℕ → ℕ → List ℕ
-cleared b v = set b (v * 4 + 3) 0
+cleared b v = set b (v * nodeColumns + sizeColumn) 0
 
 -- the left of the two where node r is the right one
 abbrev pub before : List ℕ → ℕ → ℕ
@@ -41,13 +42,13 @@ upIteration b v c =
 pub record InnerArgs (b : List ℕ) (v : ℕ) : Type 0 where
   pub pos : 0 < v
   pub small : v ≤ 65535
-  pub room : v * 4 + 4 ≤ length b
+  pub room : v * nodeColumns + nodeColumns ≤ length b
   pub right : sizeCell b (v - 1) < v
   pub fits : innerSize b v ≤ 65535
 
 pub record TurnArgs (b : List ℕ) (v c : ℕ) : Type 0 where
   pub kind : c ≤ v
   pub small : v ≤ 65535
-  pub room : v * 4 + 4 ≤ length b
+  pub room : v * nodeColumns + nodeColumns ≤ length b
   pub right : sizeCell (cleared b v) (v - c) ≤ v - c
   pub fits : sizeCell (cleared b v) (before (cleared b v) (v - c)) + sizeCell (cleared b v) (v - c) + 1 ≤ 65535
