@@ -49,11 +49,10 @@ use Rattle.questions.specs.RootsAnswers.{rootsGiven}
 use Rattle.questions.proofs.FitLaws.{fit-all, given-yes}
 use Rattle.questions.proofs.Promised.{all-small}
 use Rattle.questions.proofs.RootsBuilt.{roots-built}
-use Rattle.model.specs.PartInputs.{givenOf}
-use Rattle.model.proofs.Facts.{SettledInputs}
-use Rattle.model.proofs.LayersHold.{cells, reads}
-use Rattle.reference.specs.Reference.{Question, asked}
-use Rattle.reference.proofs.FreshLaws.{rules-inside, sound-below, whole-state, whole-links, whole-over}
+use Rattle.questions.specs.PartInputs.{givenOf}
+use Rattle.questions.specs.PartInputs.{SettledInputs}
+use Rattle.questions.proofs.PartInputsLaws.{cells, reads}
+use Rattle.questions.proofs.FreshLaws.{rules-inside, sound-below, whole-state, whole-links, whole-over}
 use Rattle.whole_questions.specs.declared.answers.Asking.{Asking}
 use Rattle.whole_questions.specs.Question.{viewLent, leftLent, handledFrom, wholeWith, wholeOn, wholeLent, listedChecks}
 use Rattle.whole_questions.specs.Question.{answeredWith, answerFor, askAnswer}
@@ -83,9 +82,6 @@ module _ (p r nodeTable stateTable vs bs : List ℕ) where
 
   abbrev z : Sizes
   z = sizesIn (inputsOf p r nodeTable stateTable)
-
-  abbrev q : Question
-  q = asked (inputsOf p r nodeTable stateTable) vs bs
 
   module _ (U : AskUsable p r nodeTable stateTable) where
     plan-passes : PlanPasses p
@@ -240,7 +236,7 @@ module _ (p r nodeTable stateTable vs bs : List ℕ) where
       links = B .links;
       room = begins (stateTableLength n s) stateTable _ (B .states)
           (length-builtStates p (rule-table-passes p r (B .accepted) .0) r);
-      below = sound-below z q made table-built;
+      below = sound-below z x vs bs made table-built;
     }
 
     pub ask-built : firstNo (listChecks (nodeCount p) (labelCount r) vs bs) ≡ 0
@@ -250,6 +246,6 @@ module _ (p r nodeTable stateTable vs bs : List ℕ) where
         let ps = partsLent p r nodeTable stateTable vs bs in
         ask-usable built-usable ok
         ∙ ap (λ (y : ℕ). answeredWith r (reached y (allLinks ps) (allPassed ps)) parts)
-        (whole-state z q made table-built)
-        ∙ ap₂ (λ (l d : ℕ). answeredWith r (reached (rootState p r vs bs) l d) parts) (whole-links z q made x)
-        (whole-over z q made x)
+        (whole-state z x vs bs made table-built)
+        ∙ ap₂ (λ (l d : ℕ). answeredWith r (reached (rootState p r vs bs) l d) parts) (whole-links z x vs bs made x)
+        (whole-over z x vs bs made x)

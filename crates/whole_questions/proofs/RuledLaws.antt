@@ -20,9 +20,9 @@ use Rattle.questions.proofs.ready.PartsRun.{Members, nodes-more}
 use Rattle.questions.proofs.ready.PassedLaws.{passed-more}
 use Rattle.questions.proofs.PartBuilt.{part-built}
 use Rattle.model.proofs.Facts.{reachedBy}
-use Rattle.model.proofs.LayersHold.{states-small}
-use Rattle.model.proofs.ResultLaws.{states-more, last-more, links-more, below-more}
-use Rattle.reference.proofs.FreshLaws.{part-below}
+use Rattle.questions.proofs.PartInputsLaws.{states-small}
+use Rattle.questions.proofs.PartListLaws.{states-more, last-more, links-more, below-more}
+use Rattle.questions.proofs.FreshLaws.{part-below}
 use Rattle.whole_questions.specs.Question.{totalled, handledFrom}
 use Rattle.whole_questions.specs.Promise.{totalOf}
 

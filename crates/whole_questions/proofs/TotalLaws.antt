@@ -23,7 +23,7 @@ use Rattle.questions.specs.OutOfRange.{PartOutOfRange, links, children, run, ma
 use Rattle.questions.proofs.PartBounds.{part-bounded}
 use Rattle.questions.proofs.PartRange.{part-out-of-range}
 use Rattle.whole_questions.specs.Question.{totalled, handledFrom}
-use Rattle.model.proofs.ResultLaws.{below-more}
+use Rattle.questions.proofs.PartListLaws.{below-more}
 
 module _ (X : View) where
   -- x is the total of c parts

@@ -26,7 +26,7 @@ use Rattle.tables.specs.Climbs.{View, reached}
 use Rattle.questions.specs.ready.Members.{roots}
 use Rattle.questions.specs.ready.Parts.{Given, Part, partsOf, lastState, allLinks, allPassed, questionLinks, questionPassed}
 use Rattle.questions.specs.OutOfRange.{PartOutOfRange}
-use Rattle.model.specs.PartInputs.{givenOf}
+use Rattle.questions.specs.PartInputs.{givenOf}
 use Rattle.reference.specs.Outcomes.{Few}
 use Rattle.whole_questions.specs.declared.answers.Asking.{Asking}
 use Rattle.whole_questions.specs.declared.answers.Asking.the-variants.{Answered, Refused}
