@@ -19,30 +19,35 @@ use lib.ListN.{length}
 use Rattle.formats.specs.Plan.{nodeCount}
 use Rattle.formats.specs.Rules.{labelCount, ruleAutomaton}
 use Rattle.formats.specs.Checks.{firstNo, listChecks}
-use Rattle.formats.specs.Buffers.{headedBuffersFit, ruleTables}
+use Rattle.formats.specs.Buffers.{limitsFit, buffersFit, headersFit, headedBuffersFit, ruleTables}
 use Rattle.formats.specs.Built.{AsBuilt}
 use Rattle.formats.specs.Inputs.{inputsOf, Sizes}
 use Rattle.formats.proofs.CheckLaws.{firstNo-no}
 use Rattle.runs.specs.FreshRun.{rootState, rootAccepted}
 use Rattle.tables.specs.Climbs.{reached}
+use Rattle.changes.specs.inner.LastDiffering.{lastDiffering}
 use Rattle.questions.specs.OutOfRange.{PartOutOfRange}
+use Rattle.questions.specs.Search.{nextUnless, searchIn, search, meetOn}
+use Rattle.questions.specs.Roots.{insertRising, risingOf, wanted, withFork, withMeet, forksOn, rootsOn}
+use Rattle.questions.specs.RootsAnswers.{rootsFit, rootsGiven}
 use Rattle.model.specs.Calls.{Call, Answer, outcomeAnswer}
 use Rattle.reference.specs.Reference.{asked, freshAnswer}
 use Rattle.reference.specs.Undisturbed.{Undisturbed, OnlyOutcomeAfter}
 use Rattle.reference.specs.Outcomes.{QuestionAnswered}
+use Rattle.reference.specs.Sample.{computing, planA, tableA, inputsA}
 use Rattle.whole_questions.specs.declared.answers.Asking.{Asking}
 use Rattle.whole_questions.specs.declared.answers.Asking.the-variants.{Answered, Refused}
-use Rattle.whole_questions.specs.Question.{viewLent, leftLent, Whole, wholeLent, listedChecks, askChecks, askNumber}
+use Rattle.whole_questions.specs.Question.{viewLent, leftLent, handledFrom, Whole, wholeOn, wholeLent}
+use Rattle.whole_questions.specs.Question.{listedChecks, askChecks, askNumber}
 use Rattle.whole_questions.specs.Question.{answerFor, askAnswer, askingNumber}
 use Rattle.whole_questions.specs.Promise.{AskUsable, rootsLeft, TotalKept, AskKept}
 use Rattle.whole_questions.proofs.AskBuilt.{built-usable}
-use Rattle.whole_questions.proofs.Sample.{askA, ask-rows}
 use Rattle.capi.specs.numbers.Numbers.{bitOf}
 use Rattle.capi.proofs.table_calls.Theorems.{build-as-built}
 use Rattle.capi_ask.specs.WholeExported.{WholeExported, endOf, acceptedOf, partsOf, linksOf, passedOf}
 use Rattle.capi_ask.proofs.Theorems.{WholeAnswered, whole-of, whole-answers, whole-never-18}
 use Rattle.claims.specs.CallAnswers.{BuildCall}
-use Rattle.claims.specs.AskAnswers.{AskAnswered, AskRuled}
+use Rattle.claims.specs.AskAnswers.{AskAnswered, AskRuled, askA}
 
 -- where the number is 0 there is an answer: the named result is never a refusal with number 0
 answer-there : (p r nodeTable stateTable vs bs : List ℕ) (k : ℕ) (o : Option Whole)
@@ -177,4 +182,7 @@ ask-sample :
     ∷ askA (0 ∷ 0 ∷ []) (0 ∷ 1 ∷ []) ∷ []
     ≡ Answered 1 true 1 0 0 ∷ Answered 0 false 2 1 1 ∷ Answered 1 true 3 0 0 ∷ Answered 0 false 5 0 0
     ∷ Answered 0 false 2 1 1 ∷ Answered 1 true 1 0 0 ∷ Refused 13 ∷ Refused 14 ∷ Answered 1 true 1 0 0 ∷ []
-ask-sample = ask-rows
+unfolding computing planA tableA inputsA limitsFit buffersFit headersFit headedBuffersFit lastDiffering
+    nextUnless searchIn search meetOn insertRising risingOf wanted withFork withMeet forksOn rootsOn rootsFit rootsGiven
+    handledFrom wholeOn listedChecks askChecks askNumber answerFor askAnswer
+ask-sample = refl
