@@ -45,9 +45,10 @@ use Rattle.whole_questions.proofs.AskBuilt.{built-usable}
 use Rattle.capi.specs.numbers.Numbers.{bitOf}
 use Rattle.capi.proofs.table_calls.Theorems.{build-as-built}
 use Rattle.capi_ask.specs.WholeExported.{WholeExported, endOf, acceptedOf, partsOf, linksOf, passedOf}
-use Rattle.capi_ask.proofs.Theorems.{WholeAnswered, whole-of, whole-answers, whole-never-18}
+use Rattle.capi_ask.specs.AskAnswers.{AskAnswered, AskRuled}
+use Rattle.capi_ask.proofs.Theorems.{whole-of, whole-answers, whole-ruled, whole-never-18}
 use Rattle.claims.specs.CallAnswers.{BuildCall}
-use Rattle.claims.specs.AskAnswers.{AskAnswered, AskRuled, askA}
+use Rattle.claims.specs.AskSample.{askA}
 
 -- where the number is 0 there is an answer: the named result is never a refusal with number 0
 answer-there : (p r nodeTable stateTable vs bs : List ℕ) (k : ℕ) (o : Option Whole)
@@ -70,17 +71,7 @@ module _ (p r nodeTable stateTable vs bs : List ℕ) (n s₀ y₀ m₀ k₀ d₀
     -- as links the moves of its parts' climbs", and "the total over their climbs" (document 02, S-7)
     pub ask-answers : firstNo (listChecks (nodeCount p) (labelCount r) vs bs) ≡ 0
         → AskAnswered p r vs bs n s₁ y₁ m₁ k₁ d₁
-    ask-answers ok =
-        let W : WholeAnswered p r nodeTable stateTable vs bs n s₀ y₀ m₀ k₀ d₀ s₁ y₁ m₁ k₁ d₁ E =
-        whole-answers p r nodeTable stateTable vs bs n s₀ y₀ m₀ k₀ d₀ s₁ y₁ m₁ k₁ d₁ E B ok in
-        record {
-          accepted = W .accepted;
-          state-is = W .state;
-          yes-is = W .yes;
-          parts-are = W .parts;
-          links-are = W .links;
-          passed-are = W .passed;
-        }
+    ask-answers = whole-answers p r nodeTable stateTable vs bs n s₀ y₀ m₀ k₀ d₀ s₁ y₁ m₁ k₁ d₁ E B
 
     as-read : firstNo (listChecks (nodeCount p) (labelCount r) vs bs) ≡ 0
         → outcomeAnswer s₁ (ruleAutomaton r .accepting s₁) m₁ k₁ d₁
@@ -116,17 +107,7 @@ module _ (p r nodeTable stateTable vs bs : List ℕ) (n s₀ y₀ m₀ k₀ d₀
   -- "an advance goes on as always and stores and counts what this rule gives on those bytes": so does the whole question
   ask-on-states : AskUsable p r nodeTable stateTable → firstNo (listChecks (nodeCount p) (labelCount r) vs bs) ≡ 0
       → AskRuled p r nodeTable stateTable vs bs n s₁ y₁ m₁ k₁ d₁
-  unfolding askingNumber
-  ask-on-states U ok =
-      let w = whole-of p r nodeTable stateTable vs bs n s₀ y₀ m₀ k₀ d₀ s₁ y₁ m₁ k₁ d₁ E _ (E .done .usable U ok) in
-      record {
-        accepted = w .0;
-        state-is = w .1;
-        yes-is = w .2 ∙ ap (λ (q : ℕ). bitOf (ruleAutomaton r .accepting q)) (sym (w .1));
-        parts-are = w .3;
-        links-are = w .4;
-        passed-are = w .5;
-      }
+  ask-on-states = whole-ruled p r nodeTable stateTable vs bs n s₀ y₀ m₀ k₀ d₀ s₁ y₁ m₁ k₁ d₁ E
 
   -- ---- on any tables
 

@@ -3,7 +3,6 @@
 -- AskAnswered p r vs bs n state yes parts links passed == on tables as built: the fresh run's state and mark of the
 --   changed plan, and the session's parts, links and nodes passed over
 -- AskRuled .. == on run states and maps that are any bytes below S: what the parts by the rule of document 01 give
--- askA vs bs == a whole question on plan A with table A (document 01) and the tables that the build writes
 use Prim.Native.Nat.{ℕ}
 use mathlib.Core.Path.{_≡_}
 use mathlib.Core.List.{List}
@@ -12,9 +11,6 @@ use Rattle.formats.specs.Plan.{planTree}
 use Rattle.formats.specs.Rules.{ruleAutomaton}
 use Rattle.runs.specs.FreshRun.{rootState}
 use Rattle.questions.specs.ready.Parts.{lastState, allLinks, allPassed, questionLinks, questionPassed}
-use Rattle.reference.specs.Sample.{planA, tableA, inputsA}
-use Rattle.whole_questions.specs.declared.answers.Asking.{Asking}
-use Rattle.whole_questions.specs.Question.{askAnswer}
 use Rattle.whole_questions.specs.Promise.{rootsLeft, partsLent}
 use Rattle.capi.specs.numbers.Numbers.{bitOf}
 
@@ -33,6 +29,3 @@ pub record AskRuled (p r nodeTable stateTable vs bs : List ℕ) (n state yes par
   pub parts-are : parts ≡ length (rootsLeft p vs bs)
   pub links-are : links ≡ allLinks (partsLent p r nodeTable stateTable vs bs)
   pub passed-are : passed ≡ allPassed (partsLent p r nodeTable stateTable vs bs)
-
-abbrev pub askA : List ℕ → List ℕ → Asking
-askA vs bs = askAnswer planA tableA (inputsA .nodeTable) (inputsA .stateTable) vs bs
