@@ -1,26 +1,26 @@
 -- Whole questions as C and Rust call them, from the promise of the exported function.
---     WholeAnswered, whole-answers   on tables as built and a list that passes 12 to 14: the fresh run's state and mark
---                                    of the changed plan, and the session's parts, links and nodes passed over
---     whole-never-18                 18 never comes on usable tables, for any list
---     whole-kept                     refused: the outputs are unchanged
+--     whole-of         the number and the outputs of an answer that is known
+--     whole-answers    on tables as built and a list that passes 12 to 14: the fresh run's state and mark of the changed
+--                      plan, and the session's parts, links and nodes passed over
+--     whole-ruled      on usable tables: what the parts by the rule of document 01 give on the bytes that were passed in
+--     whole-never-18   18 never comes on usable tables, for any list
+--     whole-kept       refused: the outputs are unchanged
 use Prim.Native.Nat.{ℕ}
 use mathlib.Core.Path.{_≡_, refl, sym, ap, _∙_}
 use mathlib.Core.Bool.{Bool, true, false}
 use mathlib.Core.List.{List, [], _∷_}
 use native.Mathlib.Omega.{arith}
-use lib.ListN.{length}
-use Rattle.formats.specs.Plan.{nodeCount, planTree}
+use Rattle.formats.specs.Plan.{nodeCount}
 use Rattle.formats.specs.Rules.{labelCount, ruleAutomaton}
 use Rattle.formats.specs.Checks.{check, firstNo, listChecks}
 use Rattle.formats.specs.Built.{AsBuilt}
-use Rattle.runs.specs.FreshRun.{rootState}
-use Rattle.questions.specs.ready.Parts.{questionLinks, questionPassed}
 use Rattle.whole_questions.specs.declared.answers.Asking.{Asking}
 use Rattle.whole_questions.specs.declared.answers.Asking.the-variants.{Answered, Refused}
 use Rattle.whole_questions.specs.Question.{askingNumber}
-use Rattle.whole_questions.specs.Promise.{AskUsable, rootsLeft}
+use Rattle.whole_questions.specs.Promise.{AskUsable}
 use Rattle.whole_questions.proofs.Theorems.{ask-number}
 use Rattle.capi.specs.numbers.Numbers.{bitOf}
+use Rattle.capi_ask.specs.AskAnswers.{AskAnswered, AskRuled}
 use Rattle.capi_ask.specs.WholeExported.{endOf, acceptedOf, partsOf, linksOf, passedOf, WholeExported}
 
 -- 12 to 14 are not 18
@@ -48,26 +48,32 @@ module _ (p r nodeTable stateTable vs bs : List ℕ)
     E .number .passed-answer ∙ ap (λ (x : Asking). passedOf x passed₀) i,
   )
 
-  pub record WholeAnswered : Type 0 where
-    pub accepted : n ≡ 0
-    pub state : state₁ ≡ rootState p r vs bs
-    pub yes : yes₁ ≡ bitOf (ruleAutomaton r .accepting state₁)
-    pub parts : parts₁ ≡ length (rootsLeft p vs bs)
-    pub links : links₁ ≡ questionLinks (planTree p) (rootsLeft p vs bs)
-    pub passed : passed₁ ≡ questionPassed (planTree p) (rootsLeft p vs bs)
-
   pub whole-answers : AsBuilt p r nodeTable stateTable → firstNo (listChecks (nodeCount p) (labelCount r) vs bs) ≡ 0
-      → WholeAnswered
+      → AskAnswered p r vs bs n state₁ yes₁ parts₁ links₁ passed₁
   unfolding askingNumber
   whole-answers B ok =
       let w = whole-of _ (E .done .built B ok) in
       record {
         accepted = w .0;
-        state = w .1;
-        yes = w .2 ∙ ap (λ (q : ℕ). bitOf (ruleAutomaton r .accepting q)) (sym (w .1));
-        parts = w .3;
-        links = w .4;
-        passed = w .5;
+        state-is = w .1;
+        yes-is = w .2 ∙ ap (λ (q : ℕ). bitOf (ruleAutomaton r .accepting q)) (sym (w .1));
+        parts-are = w .3;
+        links-are = w .4;
+        passed-are = w .5;
+      }
+
+  pub whole-ruled : AskUsable p r nodeTable stateTable → firstNo (listChecks (nodeCount p) (labelCount r) vs bs) ≡ 0
+      → AskRuled p r nodeTable stateTable vs bs n state₁ yes₁ parts₁ links₁ passed₁
+  unfolding askingNumber
+  whole-ruled U ok =
+      let w = whole-of _ (E .done .usable U ok) in
+      record {
+        accepted = w .0;
+        state-is = w .1;
+        yes-is = w .2 ∙ ap (λ (q : ℕ). bitOf (ruleAutomaton r .accepting q)) (sym (w .1));
+        parts-are = w .3;
+        links-are = w .4;
+        passed-are = w .5;
       }
 
   pub whole-never-18 : AskUsable p r nodeTable stateTable → n ≡ 18 → ⊥

@@ -1,1 +1,2 @@
 pub mod WholeExported
+pub mod AskAnswers

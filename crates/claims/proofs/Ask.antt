@@ -19,30 +19,36 @@ use lib.ListN.{length}
 use Rattle.formats.specs.Plan.{nodeCount}
 use Rattle.formats.specs.Rules.{labelCount, ruleAutomaton}
 use Rattle.formats.specs.Checks.{firstNo, listChecks}
-use Rattle.formats.specs.Buffers.{headedBuffersFit, ruleTables}
+use Rattle.formats.specs.Buffers.{limitsFit, buffersFit, headersFit, headedBuffersFit, ruleTables}
 use Rattle.formats.specs.Built.{AsBuilt}
 use Rattle.formats.specs.Inputs.{inputsOf, Sizes}
 use Rattle.formats.proofs.CheckLaws.{firstNo-no}
 use Rattle.runs.specs.FreshRun.{rootState, rootAccepted}
 use Rattle.tables.specs.Climbs.{reached}
+use Rattle.changes.specs.inner.LastDiffering.{lastDiffering}
 use Rattle.questions.specs.OutOfRange.{PartOutOfRange}
+use Rattle.questions.specs.Search.{nextUnless, searchIn, search, meetOn}
+use Rattle.questions.specs.Roots.{insertRising, risingOf, wanted, withFork, withMeet, forksOn, rootsOn}
+use Rattle.questions.specs.RootsAnswers.{rootsFit, rootsGiven}
 use Rattle.model.specs.Calls.{Call, Answer, outcomeAnswer}
 use Rattle.reference.specs.Reference.{asked, freshAnswer}
 use Rattle.reference.specs.Undisturbed.{Undisturbed, OnlyOutcomeAfter}
 use Rattle.reference.specs.Outcomes.{QuestionAnswered}
+use Rattle.reference.specs.Sample.{computing, planA, tableA, inputsA}
 use Rattle.whole_questions.specs.declared.answers.Asking.{Asking}
 use Rattle.whole_questions.specs.declared.answers.Asking.the-variants.{Answered, Refused}
-use Rattle.whole_questions.specs.Question.{viewLent, leftLent, Whole, wholeLent, listedChecks, askChecks, askNumber}
+use Rattle.whole_questions.specs.Question.{viewLent, leftLent, handledFrom, Whole, wholeOn, wholeLent}
+use Rattle.whole_questions.specs.Question.{listedChecks, askChecks, askNumber}
 use Rattle.whole_questions.specs.Question.{answerFor, askAnswer, askingNumber}
 use Rattle.whole_questions.specs.Promise.{AskUsable, rootsLeft, TotalKept, AskKept}
 use Rattle.whole_questions.proofs.AskBuilt.{built-usable}
-use Rattle.whole_questions.proofs.Sample.{askA, ask-rows}
 use Rattle.capi.specs.numbers.Numbers.{bitOf}
 use Rattle.capi.proofs.table_calls.Theorems.{build-as-built}
 use Rattle.capi_ask.specs.WholeExported.{WholeExported, endOf, acceptedOf, partsOf, linksOf, passedOf}
-use Rattle.capi_ask.proofs.Theorems.{WholeAnswered, whole-of, whole-answers, whole-never-18}
+use Rattle.capi_ask.specs.AskAnswers.{AskAnswered, AskRuled}
+use Rattle.capi_ask.proofs.Theorems.{whole-of, whole-answers, whole-ruled, whole-never-18}
 use Rattle.claims.specs.CallAnswers.{BuildCall}
-use Rattle.claims.specs.AskAnswers.{AskAnswered, AskRuled}
+use Rattle.claims.specs.AskSample.{askA}
 
 -- where the number is 0 there is an answer: the named result is never a refusal with number 0
 answer-there : (p r nodeTable stateTable vs bs : List ℕ) (k : ℕ) (o : Option Whole)
@@ -65,17 +71,7 @@ module _ (p r nodeTable stateTable vs bs : List ℕ) (n s₀ y₀ m₀ k₀ d₀
     -- as links the moves of its parts' climbs", and "the total over their climbs" (document 02, S-7)
     pub ask-answers : firstNo (listChecks (nodeCount p) (labelCount r) vs bs) ≡ 0
         → AskAnswered p r vs bs n s₁ y₁ m₁ k₁ d₁
-    ask-answers ok =
-        let W : WholeAnswered p r nodeTable stateTable vs bs n s₀ y₀ m₀ k₀ d₀ s₁ y₁ m₁ k₁ d₁ E =
-        whole-answers p r nodeTable stateTable vs bs n s₀ y₀ m₀ k₀ d₀ s₁ y₁ m₁ k₁ d₁ E B ok in
-        record {
-          accepted = W .accepted;
-          state-is = W .state;
-          yes-is = W .yes;
-          parts-are = W .parts;
-          links-are = W .links;
-          passed-are = W .passed;
-        }
+    ask-answers = whole-answers p r nodeTable stateTable vs bs n s₀ y₀ m₀ k₀ d₀ s₁ y₁ m₁ k₁ d₁ E B
 
     as-read : firstNo (listChecks (nodeCount p) (labelCount r) vs bs) ≡ 0
         → outcomeAnswer s₁ (ruleAutomaton r .accepting s₁) m₁ k₁ d₁
@@ -111,17 +107,7 @@ module _ (p r nodeTable stateTable vs bs : List ℕ) (n s₀ y₀ m₀ k₀ d₀
   -- "an advance goes on as always and stores and counts what this rule gives on those bytes": so does the whole question
   ask-on-states : AskUsable p r nodeTable stateTable → firstNo (listChecks (nodeCount p) (labelCount r) vs bs) ≡ 0
       → AskRuled p r nodeTable stateTable vs bs n s₁ y₁ m₁ k₁ d₁
-  unfolding askingNumber
-  ask-on-states U ok =
-      let w = whole-of p r nodeTable stateTable vs bs n s₀ y₀ m₀ k₀ d₀ s₁ y₁ m₁ k₁ d₁ E _ (E .done .usable U ok) in
-      record {
-        accepted = w .0;
-        state-is = w .1;
-        yes-is = w .2 ∙ ap (λ (q : ℕ). bitOf (ruleAutomaton r .accepting q)) (sym (w .1));
-        parts-are = w .3;
-        links-are = w .4;
-        passed-are = w .5;
-      }
+  ask-on-states = whole-ruled p r nodeTable stateTable vs bs n s₀ y₀ m₀ k₀ d₀ s₁ y₁ m₁ k₁ d₁ E
 
   -- ---- on any tables
 
@@ -177,4 +163,7 @@ ask-sample :
     ∷ askA (0 ∷ 0 ∷ []) (0 ∷ 1 ∷ []) ∷ []
     ≡ Answered 1 true 1 0 0 ∷ Answered 0 false 2 1 1 ∷ Answered 1 true 3 0 0 ∷ Answered 0 false 5 0 0
     ∷ Answered 0 false 2 1 1 ∷ Answered 1 true 1 0 0 ∷ Refused 13 ∷ Refused 14 ∷ Answered 1 true 1 0 0 ∷ []
-ask-sample = ask-rows
+unfolding computing planA tableA inputsA limitsFit buffersFit headersFit headedBuffersFit lastDiffering
+    nextUnless searchIn search meetOn insertRising risingOf wanted withFork withMeet forksOn rootsOn rootsFit rootsGiven
+    handledFrom wholeOn listedChecks askChecks askNumber answerFor askAnswer
+ask-sample = refl

@@ -7,4 +7,4 @@ pub mod BranchAnswers
 pub mod PlannerFiles
 pub mod ProductBuffers
 pub mod ColourAnswers
-pub mod AskAnswers
+pub mod AskSample

@@ -14,10 +14,9 @@ use Rattle.formats.specs.Rules.{labelCount}
 use Rattle.formats.specs.Checks.{Check, check, firstNo}
 use Rattle.formats.proofs.CheckLaws.{firstNo-append-zero, firstNo-append-no, Numbered}
 use Rattle.formats.proofs.InputLaws.{list-numbered}
-use Rattle.model.specs.Calls.{isSome}
 use Rattle.whole_questions.specs.declared.answers.Asking.{Asking}
 use Rattle.whole_questions.specs.declared.answers.Asking.the-variants.{Refused}
-use Rattle.whole_questions.specs.Question.{Whole, wholeLent, listedChecks, askChecks, askNumber, answerFor, askAnswer}
+use Rattle.whole_questions.specs.Question.{Whole, isWhole, wholeLent, listedChecks, askChecks, askNumber, answerFor, askAnswer}
 use Rattle.whole_questions.specs.Question.{askingNumber}
 use Rattle.whole_questions.specs.inner.Args.{answeredOn}
 
@@ -29,7 +28,7 @@ module _ (p r nodeTable stateTable vs bs : List ℕ) where
   on = wholeLent p r nodeTable stateTable vs bs
 
   abbrev last : List Check
-  last = check 18 (isSome on) ∷ []
+  last = check 18 (isWhole on) ∷ []
 
   numbered : Numbered listed
   unfolding listedChecks
@@ -39,11 +38,11 @@ module _ (p r nodeTable stateTable vs bs : List ℕ) where
   unfolding askNumber askChecks
   number-listed h = firstNo-append-no listed last h
 
-  pub number-last : firstNo listed ≡ 0 → askNumber p r nodeTable stateTable vs bs ≡ cond (isSome on) 0 18
+  pub number-last : firstNo listed ≡ 0 → askNumber p r nodeTable stateTable vs bs ≡ cond (isWhole on) 0 18
   unfolding askNumber askChecks
   number-last h = firstNo-append-zero listed last numbered h ∙ one
     where
-      one : firstNo last ≡ cond (isSome on) 0 18
+      one : firstNo last ≡ cond (isWhole on) 0 18
       one = unfold firstNo in refl
 
   pub refused-is : (m : ℕ) → m ≡ firstNo listed → (m ≡ 0 → ⊥) → Refused m ≡ askAnswer p r nodeTable stateTable vs bs
@@ -60,7 +59,7 @@ module _ (p r nodeTable stateTable vs bs : List ℕ) where
   unfolding askAnswer answerFor
   lent-is a z e = e ∙ sym (ap (λ (n : ℕ). answerFor r n on) (number-last z) ∙ go on)
     where
-      go : (o : Option Whole) → answerFor r (cond (isSome o) 0 18) o ≡ answerFor r 0 o
+      go : (o : Option Whole) → answerFor r (cond (isWhole o) 0 18) o ≡ answerFor r 0 o
       go none = refl
       go (some w) = refl
 
@@ -75,7 +74,7 @@ module _ (p r nodeTable stateTable vs bs : List ℕ) where
       named (suc n) none f = refl
       named (suc n) (some w) f = refl
 
-      found : (o : Option Whole) → _≡_ {A = ℕ} (cond (isSome o) 0 18) 0 → (x : Whole) × (o ≡ some x)
+      found : (o : Option Whole) → _≡_ {A = ℕ} (cond (isWhole o) 0 18) 0 → (x : Whole) × (o ≡ some x)
       found none e = absurd (omega arith)
       found (some w) e = (w, refl)
 

@@ -28,8 +28,7 @@ use Rattle.questions.specs.OutOfRange.{PartOutOfRange, links}
 use Rattle.questions.proofs.FitLaws.{fit-all, given-yes, given-are}
 use Rattle.questions.proofs.PlaceLaws.{to-below, below-entry}
 use Rattle.questions.proofs.RootsRange.{roots-out-of-range}
-use Rattle.model.specs.Calls.{isSome}
-use Rattle.whole_questions.specs.Question.{viewLent, leftLent, handledFrom, Whole, wholeWith, wholeOn, wholeLent}
+use Rattle.whole_questions.specs.Question.{viewLent, leftLent, handledFrom, Whole, isWhole, wholeWith, wholeOn, wholeLent}
 use Rattle.whole_questions.specs.Question.{listedChecks, askNumber}
 use Rattle.whole_questions.proofs.AskChecks.{Passed, passed-are}
 use Rattle.whole_questions.proofs.AskNumbers.{number-listed, number-last}
@@ -103,7 +102,7 @@ module _ (p r nodeTable stateTable vs bs : List ℕ) where
             ))
             (last (handledFrom X vs bs [] [] (reached 0 0 0) ms) (length ms) i)
 
-  is-none : (o : Option Whole) → _≡_ {A = ℕ} (cond (isSome o) 0 18) 18 → o ≡ none
+  is-none : (o : Option Whole) → _≡_ {A = ℕ} (cond (isWhole o) 0 18) 18 → o ≡ none
   is-none none e = refl
   is-none (some h) e = absurd (omega arith)
 

@@ -40,7 +40,8 @@ on-kept X left vs bs w e = go (rootsGiven (X .n) (X .nodeTable) left) refl e
         (Option·some-injective (wholeWith x (length ms)) w i)
         (record {
           state-below = B .state (omega (arith, to-some _ ms (R .to)));
-          few = record { one = R .one; few = λ h. omega (arith, R .few (omega arith)) };
+          one = R .one;
+          few = R .few;
           links-most = omega (arith, c, B .links-most);
           links-passed = B .links-passed;
           passed-most = λ d b. omega (arith, c, B .passed-most d b);

@@ -8,4 +8,3 @@ pub mod RuledLaws
 pub mod AskBuilt
 pub mod AskTheorem
 pub mod Theorems
-pub mod Sample

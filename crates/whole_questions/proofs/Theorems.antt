@@ -1,29 +1,17 @@
 -- What a whole question means: each theorem cites the question's promise.
 --     ask-number   on usable tables the number is that of 12 to 14: 17 and 18 never
---     ask-session  on tables as built the answer is what Read returns of the session's question
 use Prim.Native.Nat.{ℕ}
-use mathlib.Core.Path.{_≡_, refl, sym, ap, _∙_}
+use mathlib.Core.Path.{_≡_, sym, ap, _∙_}
 use mathlib.Core.List.{List}
 use native.Mathlib.Decide.{ℕ-discrete}
 use Rattle.formats.specs.Plan.{nodeCount}
 use Rattle.formats.specs.Rules.{labelCount}
 use Rattle.formats.specs.Checks.{firstNo, listChecks}
-use Rattle.formats.specs.Built.{AsBuilt}
-use Rattle.formats.specs.Inputs.{inputsOf}
-use Rattle.model.specs.Calls.{Answer, refused, outcomeAnswer}
-use Rattle.reference.specs.Reference as reference
-use Rattle.reference.specs.Reference.{asked}
 use Rattle.whole_questions.specs.declared.answers.Asking.{Asking}
-use Rattle.whole_questions.specs.declared.answers.Asking.the-variants.{Answered, Refused}
 use Rattle.whole_questions.specs.Question.{askingNumber}
 use Rattle.whole_questions.specs.Promise.{AskUsable, AskDone}
 use Rattle.whole_questions.proofs.AskNumbers.{number-listed}
 use Rattle.whole_questions.proofs.AskBuilt.{listed-passes}
-
--- an answer as Read would have it
-abbrev pub readAnswer : Asking → Answer
-readAnswer (Answered state marked parts links passed) = outcomeAnswer state marked parts links passed
-readAnswer (Refused n) = refused n
 
 module _ (p r nodeTable stateTable vs bs : List ℕ) (a : Asking) (D : AskDone p r nodeTable stateTable vs bs a) where
   pub ask-number : AskUsable p r nodeTable stateTable
@@ -34,8 +22,3 @@ module _ (p r nodeTable stateTable vs bs : List ℕ) (a : Asking) (D : AskDone p
     | no h ↦ (let e = listed-passes p r nodeTable stateTable vs bs U in
         D .number ∙ number-listed p r nodeTable stateTable vs bs (λ z. h (e ∙ z)) ∙ sym e)
   ]
-
-  pub ask-session : AsBuilt p r nodeTable stateTable → firstNo (listChecks (nodeCount p) (labelCount r) vs bs) ≡ 0
-      → readAnswer a ≡ reference.freshAnswer (asked (inputsOf p r nodeTable stateTable) vs bs)
-  unfolding reference.freshAnswer
-  ask-session B ok = ap readAnswer (D .built B ok)

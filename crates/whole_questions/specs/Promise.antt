@@ -8,7 +8,7 @@
 -- freshAnswer p r vs bs == the answer of the fresh run of the changed plan, with the session's parts, links and nodes
 --   passed over
 -- AskDone .. == the promise
-use Prim.Native.Nat.{ℕ, _*_, _≤_, _<_}
+use Prim.Native.Nat.{ℕ, _+_, _*_, _≤_, _<_}
 use mathlib.Core.Path.{_≡_}
 use mathlib.Core.Bool.{true}
 use mathlib.Core.List.{List, []}
@@ -27,7 +27,6 @@ use Rattle.questions.specs.ready.Members.{roots}
 use Rattle.questions.specs.ready.Parts.{Given, Part, partsOf, lastState, allLinks, allPassed, questionLinks, questionPassed}
 use Rattle.questions.specs.OutOfRange.{PartOutOfRange}
 use Rattle.questions.specs.PartInputs.{givenOf}
-use Rattle.reference.specs.Outcomes.{Few}
 use Rattle.whole_questions.specs.declared.answers.Asking.{Asking}
 use Rattle.whole_questions.specs.declared.answers.Asking.the-variants.{Answered, Refused}
 use Rattle.whole_questions.specs.Question.{viewLent, leftLent, answeredWith, askingNumber, askNumber, askAnswer}
@@ -37,7 +36,8 @@ use Rattle.whole_questions.specs.Question.{viewLent, leftLent, answeredW
 pub record TotalKept (X : View) (m parts : ℕ) (x : Reached) : Type 0 where
   pub state-below : x .state < X .s
   -- at most 4m - 2 parts, 1 where no node is left
-  pub few : Few m parts
+  pub one : m ≡ 0 → parts ≡ 1
+  pub few : 0 < m → parts + 2 ≤ 4 * m
   pub links-most : x .links ≤ parts * X .n
   pub links-passed : x .links ≤ x .passed
   -- any bound d on the depths in the table: 65,535 in 16-bit numbers

@@ -4,7 +4,7 @@
 -- leftLent p vs bs == the nodes that the list vs, bs leaves in W, in the order of their last entries
 -- totalled x y == part y after what x has in all: y's state, the links and the nodes passed over of both
 -- handledFrom X vs bs es qs x ms == the parts of the roots ms, after the roots es of states qs, which came to x
--- Whole == what all parts came to, and their number
+-- Whole == what all parts came to, and their number; isWhole o == whether there is one
 -- wholeOn X left vs bs == that of a list vs, bs that leaves the nodes `left` in W; none: 18
 -- askChecks .. == 17, 12, 13, 14 and 18, in this order; listedChecks == those before 18
 -- askNumber .. == the first that fails, 0 where none does
@@ -13,6 +13,7 @@
 -- Each part is the session's own (partOn, crate questions): what an advance stores and counts. Superseding and equal
 -- labels are as in S-4 and S-5.
 use Prim.Native.Nat.{ℕ, zero, suc, _+_}
+use mathlib.Core.Bool.{Bool, true, false}
 use mathlib.Core.List.{List, [], _∷_, _++_}
 use mathlib.Core.Option.{Option, none, some}
 use lib.ListN.{length}
@@ -27,7 +28,6 @@ use Rattle.tables.specs.Climbs.{View, reached}
 use Rattle.questions.specs.Part.{partOn}
 use Rattle.questions.specs.PartAnswers.{viewIn}
 use Rattle.questions.specs.RootsAnswers.{rootsGiven}
-use Rattle.model.specs.Calls.{isSome}
 use Rattle.whole_questions.specs.declared.answers.Asking.{Asking}
 use Rattle.whole_questions.specs.declared.answers.Asking.the-variants.{Answered, Refused}
 
@@ -58,6 +58,10 @@ pub record Whole : Type 0 where
 abbrev pub wholeWith : Reached → ℕ → Whole
 wholeWith x m = record { total = x; parts = m }
 
+abbrev pub isWhole : Option Whole → Bool
+isWhole none = false
+isWhole (some w) = true
+
 unfoldable pub wholeOn : View → List ℕ → List ℕ → List ℕ → Option Whole
 wholeOn X left vs bs =
     andThen (rootsGiven (X .n) (X .nodeTable) left) (λ ms.
@@ -77,7 +81,7 @@ listedChecks p r nodeTable stateTable vs bs =
 unfoldable pub askChecks : List ℕ → List ℕ → List ℕ → List ℕ → List ℕ → List ℕ → List Check
 askChecks p r nodeTable stateTable vs bs =
     listedChecks p r (length nodeTable) (length stateTable) vs bs
-    ++ (check 18 (isSome (wholeLent p r nodeTable stateTable vs bs)) ∷ [])
+    ++ (check 18 (isWhole (wholeLent p r nodeTable stateTable vs bs)) ∷ [])
 
 unfoldable pub askNumber : List ℕ → List ℕ → List ℕ → List ℕ → List ℕ → List ℕ → ℕ
 askNumber p r nodeTable stateTable vs bs = firstNo (askChecks p r nodeTable stateTable vs bs)
