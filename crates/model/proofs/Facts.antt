@@ -1,7 +1,6 @@
 -- What the model takes from the questions layer: two facts about a node table as built.
 --     Handled s rs ps              parts of the first of the roots rs, with any states below s
 --     nextRoot rs ps               the root of the part after ps
---     reachedBy p                  what an advance finds for part p
 --     Layers                       the facts
 -- They are stated with what the questions layer defines (partOn) and what document 01 means (roots, partOf), and ask no more
 -- than the calls' checks and the reference model give: the states before may be any below S, those of the state table too.
@@ -14,15 +13,10 @@ use lib.ListN.{length, getD, take}
 use Rattle.list_laws.specs.Tests.{allBelow}
 use Rattle.formats.specs.Inputs.{Inputs, Sizes, nodeTableBuilt}
 use Rattle.questions.specs.ready.Parts.{Part, nodesOf, statesOf, partOf}
-use Rattle.tables.specs.declared.answers.Reached.{Reached}
-use Rattle.tables.specs.Climbs.{reached}
 use Rattle.questions.specs.Part.{partOn}
 use Rattle.questions.specs.Promises.{RootsAre}
 use Rattle.model.specs.Model.{rootsIn}
-use Rattle.questions.specs.PartInputs.{viewBy, givenOf, SettledInputs}
-
-abbrev pub reachedBy : Part → Reached
-reachedBy p = reached (p .state) (p .links) (p .passed)
+use Rattle.questions.specs.PartInputs.{viewBy, givenOf, reachedBy, SettledInputs}
 
 pub record Handled (s : ℕ) (rs : List ℕ) (ps : List Part) : Type 0 where
   pub nodes : nodesOf ps ≡ take (length ps) rs

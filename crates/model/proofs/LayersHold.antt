@@ -24,10 +24,10 @@ use Rattle.questions.proofs.RootsLaws.{rootsOn-are}
 use Rattle.questions.proofs.RootsBuilt as roots-theorem
 use Rattle.questions.proofs.PartBuilt as part-theorem
 use Rattle.formats.specs.Inputs.{Inputs, Sizes, usedNodeTable, nodeTableBuilt}
-use Rattle.questions.specs.PartInputs.{givenOf, viewBy, SettledInputs}
+use Rattle.questions.specs.PartInputs.{givenOf, viewBy, SettledInputs, reachedBy}
 use Rattle.questions.proofs.PartInputsLaws.{tree-size, cells, states-some, states-small, reads}
 use Rattle.model.specs.Model.{rootsIn}
-use Rattle.model.proofs.Facts.{Handled, nextRoot, reachedBy, Layers}
+use Rattle.model.proofs.Facts.{Handled, nextRoot, Layers}
 use Rattle.formats.proofs.InputsLaws.{node-table-built, plan-of}
 use Rattle.formats.specs.Passing.{Built}
 

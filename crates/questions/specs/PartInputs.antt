@@ -3,6 +3,7 @@
 -- viewBy z x == what the calls read of the inputs x, by the sizes z, excess aside
 -- givenOf z y x vs bs == plan and rules of the inputs y, the list's labels laid over the plan's, and the run states and maps in the
 --   state table of the inputs x, by the sizes z. y is what a question's Start was given, x what an advance is given
+-- reachedBy p == what a call finds for part p
 -- SettledInputs z y vs bs x == what an advance is given: plan, rules and node table as built and as at Start (y), states below S
 use Prim.Native.Nat.{ℕ}
 use mathlib.Core.Path.{_≡_}
@@ -13,9 +14,10 @@ use Rattle.formats.specs.Plan.{planTree, labelsIn}
 use Rattle.formats.specs.Rules.{ruleAutomaton}
 use Rattle.formats.specs.Checks.{firstNo, listChecks}
 use Rattle.formats.specs.Inputs.{Inputs, Sizes, usedNodeTable, usedStateTable, fits, sameNodeInputs, nodeTableBuilt, statesBelow}
-use Rattle.tables.specs.Climbs.{View, viewOf}
+use Rattle.tables.specs.declared.answers.Reached.{Reached}
+use Rattle.tables.specs.Climbs.{View, viewOf, reached}
 use Rattle.tables.specs.StateCells.{stateCell, mapCell}
-use Rattle.questions.specs.ready.Parts.{Given}
+use Rattle.questions.specs.ready.Parts.{Given, Part}
 
 unfoldable pub givenOf : Sizes → Inputs → Inputs → List ℕ → List ℕ → Given
 givenOf z y x vs bs = record {
@@ -25,6 +27,9 @@ givenOf z y x vs bs = record {
   runState = stateCell (z .s) (usedStateTable z x);
   mapState = mapCell (z .s) (usedStateTable z x);
 }
+
+abbrev pub reachedBy : Part → Reached
+reachedBy p = reached (p .state) (p .links) (p .passed)
 
 -- what the calls read of the inputs: by the record's N, S and K, excess aside
 abbrev pub viewBy : Sizes → Inputs → View

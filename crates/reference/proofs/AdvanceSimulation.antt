@@ -28,14 +28,14 @@ use Rattle.questions.proofs.PartBounds.{part-bounded}
 use Rattle.formats.specs.Inputs.{Inputs, Sizes, fits, sameNodeInputs, sameInputs, statesBelow}
 use Rattle.model.specs.Calls.{advance, more, finished, Outcome, outcome, outcomeAnswer, Phase, isRunning, isSome}
 use Rattle.model.specs.Refusals.{stage, refusal}
-use Rattle.questions.specs.PartInputs.{givenOf, viewBy}
+use Rattle.questions.specs.PartInputs.{givenOf, viewBy, reachedBy}
 use Rattle.reference.specs.Reference.{Settlement, clean, byRule, byProgram, Question, State, settled, phase}
 use Rattle.reference.specs.Reference.{inState, leftOf, rootsOf, partCount, givenBy, longer, advanced, goesOn, otherStates}
 use Rattle.reference.specs.Reference.{mayAdvanceWith, byAnswer, advancingByProgram, advancingByRule, advancing}
 use Rattle.reference.specs.Reference.{proceed, finishedWith, ruleAnswer}
 use Rattle.model.specs.Model.{Record, acted, marksBy, stepped, advanceWith, partNext, proceeds}
 use Rattle.model.proofs.ModelLaws.{advance-fits, left-below, marks-built}
-use Rattle.model.proofs.Facts.{reachedBy, nextRoot, Layers}
+use Rattle.model.proofs.Facts.{nextRoot, Layers}
 use Rattle.questions.proofs.ready.PassedLaws.{passed-more}
 use Rattle.questions.proofs.PartListLaws.{length-states, states-more, length-more, last-more, links-more, below-more}
 use Rattle.questions.proofs.PartListLaws.{from-more}

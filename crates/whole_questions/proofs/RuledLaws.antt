@@ -19,7 +19,7 @@ use Rattle.questions.specs.Promises.{Reads}
 use Rattle.questions.proofs.ready.PartsRun.{Members, nodes-more}
 use Rattle.questions.proofs.ready.PassedLaws.{passed-more}
 use Rattle.questions.proofs.PartBuilt.{part-built}
-use Rattle.model.proofs.Facts.{reachedBy}
+use Rattle.questions.specs.PartInputs.{reachedBy}
 use Rattle.questions.proofs.PartInputsLaws.{states-small}
 use Rattle.questions.proofs.PartListLaws.{states-more, last-more, links-more, below-more}
 use Rattle.questions.proofs.FreshLaws.{part-below}
