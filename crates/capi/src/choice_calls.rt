@@ -4,13 +4,15 @@
 //     whatif_count   how many choices end in each state
 use choices::count::count;
 use formats::bytes::read32;
+use formats::limits::STATE_LIMIT;
 ghost use mathlib.Core.Path.{_≡_};
 ghost use Rattle.list_laws.specs.Copying.{overBuffer, CopyArgs};
+ghost use Rattle.formats.specs.Limits.{stateLimit};
 ghost use Rattle.capi.specs.choice_calls.CountExported.{CountExported};
 
 // The first n counts to the front of a buffer.
-fn copy_counts(a: [u64; 16], n: usize, out: &mut [u64])
-    requires { ⌜ CopyArgs 16 a n (now out) ⌝ }
+fn copy_counts(a: [u64; STATE_LIMIT], n: usize, out: &mut [u64])
+    requires { ⌜ CopyArgs stateLimit a n (now out) ⌝ }
     ensures { λ _. ⌜ now (out .exit) ≡ overBuffer n a (now (out .entry)) ⌝ }
 {
     let mut i = 0;

@@ -3,7 +3,9 @@
 //     whatif_lay_over   one list laid over another
 use changes::Laying;
 use changes::lay_over;
+use formats::limits::CHANGE_LIMIT;
 ghost use mathlib.Core.Path.{_≡_};
+ghost use Rattle.formats.specs.Limits.{changeLimit};
 ghost use Rattle.changes.specs.LayOver.{layingNumber};
 ghost use Rattle.list_laws.specs.Copying.{overBuffer, CopyArgs};
 ghost use Rattle.capi.specs.list_calls.ListsExported.{LayExported};
@@ -19,8 +21,8 @@ fn laying_number(answer: Laying) -> u32
 }
 
 // The first n nodes to the front of a buffer.
-fn copy_nodes(a: [u16; 64], n: usize, out: &mut [u16])
-    requires { ⌜ CopyArgs 64 a n (now out) ⌝ }
+fn copy_nodes(a: [u16; CHANGE_LIMIT], n: usize, out: &mut [u16])
+    requires { ⌜ CopyArgs changeLimit a n (now out) ⌝ }
     ensures { λ _. ⌜ now (out .exit) ≡ overBuffer n a (now (out .entry)) ⌝ }
 {
     let mut i = 0;
@@ -31,8 +33,8 @@ fn copy_nodes(a: [u16; 64], n: usize, out: &mut [u16])
 }
 
 // The first n labels to the front of a buffer.
-fn copy_labels(a: [u8; 64], n: usize, out: &mut [u8])
-    requires { ⌜ CopyArgs 64 a n (now out) ⌝ }
+fn copy_labels(a: [u8; CHANGE_LIMIT], n: usize, out: &mut [u8])
+    requires { ⌜ CopyArgs changeLimit a n (now out) ⌝ }
     ensures { λ _. ⌜ now (out .exit) ≡ overBuffer n a (now (out .entry)) ⌝ }
 {
     let mut i = 0;

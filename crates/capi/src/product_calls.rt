@@ -4,6 +4,7 @@
 //     whatif_agree   whether the tables agree, or else a separating plan as lines
 use products::agreement::Agreement;
 use products::agreement::agree;
+use products::agreement::reachable::PAIR_LIMIT;
 use products::merging::MergeAnswer;
 use products::merging::merge;
 ghost use mathlib.Core.Path.{_≡_};
@@ -46,10 +47,10 @@ fn put_line(lines: &mut [u16], at: usize, kind: u8, label: u8, left: u8, right: 
 
 // The first n lines of a reply.
 fn put_lines(
-    kinds: [u8; 256],
-    labels: [u8; 256],
-    lefts: [u8; 256],
-    rights: [u8; 256],
+    kinds: [u8; PAIR_LIMIT],
+    labels: [u8; PAIR_LIMIT],
+    lefts: [u8; PAIR_LIMIT],
+    rights: [u8; PAIR_LIMIT],
     n: usize,
     lines: &mut [u16],
 )

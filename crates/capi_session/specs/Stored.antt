@@ -8,6 +8,7 @@ use Prim.Native.Nat.{ℕ, _<_}
 use mathlib.Core.Path.{_≡_}
 use mathlib.Core.Bool.{true}
 use mathlib.Core.List.{List}
+use Rattle.formats.specs.Limits.{partLimit}
 use Rattle.model.specs.Calls.{Answer}
 use Rattle.session.specs.declared.answers.Called.{Called}
 use Rattle.session.specs.declared.answers.Started.{Started}
@@ -38,7 +39,7 @@ pub record StartStored (o : Started) (b : List ℕ) (p r : ℕ) (b′ : List ℕ
 pub record AdvanceArgs (t : AdvanceStep) (i : ℕ) (b : List ℕ) : Type 0 where
   pub long : length b ≡ recordLength
   pub stores : t .stored ≡ storesBy (t .answer)
-  pub room : t .stored ≡ true → i < 254
+  pub room : t .stored ≡ true → i < partLimit
 
 pub record AdvanceStored (t : AdvanceStep) (i : ℕ) (b : List ℕ) (f r : ℕ) (b′ : List ℕ) (f′ : ℕ) : Type 0 where
   pub stored : Stored (advanceAnswer (t .answer)) (stepBytes (t .head) i (t .state) b) b r b′

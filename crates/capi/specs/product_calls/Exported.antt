@@ -18,6 +18,7 @@ use Rattle.list_laws.specs.Rows.{rows}
 use Rattle.formats.specs.Checks.{firstNo}
 use Rattle.products.specs.merging.Merged.{mergedBytes, mergeChecks}
 use Rattle.products.specs.declared.agreement.Agreement.{Agreement}
+use Rattle.products.specs.agreement.Lines.{pairLimit}
 use Rattle.products.specs.agreement.Reply.{AgreeDone}
 use Rattle.formats.specs.Checks.{Check, check}
 use Rattle.products.specs.agreement.Answer.{agreeChecks}
@@ -65,11 +66,11 @@ pub record LineArgs (at : ℕ) (l : List ℕ) : Type 0 where
   pub small : at + 4 ≤ 65536
 
 pub record LinesArgs (ks bs ls rs : List ℕ) (n : ℕ) (l : List ℕ) : Type 0 where
-  pub kinds : length ks ≡ 256
-  pub labels : length bs ≡ 256
-  pub lefts : length ls ≡ 256
-  pub rights : length rs ≡ 256
-  pub few : n ≤ 256
+  pub kinds : length ks ≡ pairLimit
+  pub labels : length bs ≡ pairLimit
+  pub lefts : length ls ≡ pairLimit
+  pub rights : length rs ≡ pairLimit
+  pub few : n ≤ pairLimit
   pub room : n * 4 ≤ length l
 
 -- the checks of the reply, then whether its lines, four numbers each, fit in `room` numbers
