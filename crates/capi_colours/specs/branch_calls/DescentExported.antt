@@ -5,33 +5,35 @@
 --   `old` where it is refused
 -- DescentNumber == an answer as a number and values
 -- DescentExported reading .. == the promise of the exported function of that reading
+-- WordAnswered reading .. == what it answers on tables as built
 --
 -- "Both are put outside the session and tell state, yes or no, drops and links".
-use Prim.Native.Nat.{ℕ}
+use Prim.Native.Nat.{ℕ, _-_, _*_, _≤_}
 use mathlib.Core.Path.{_≡_}
 use mathlib.Core.List.{List}
+use mathlib.Core.Option.{some}
+use Rattle.trees.specs.Automaton.{wordRun}
+use Rattle.formats.specs.Plan.{planTree}
+use Rattle.formats.specs.Rules.{stateCount, branchAutomaton}
 use Rattle.branches.specs.declared.answers.Reading.{Reading}
+use Rattle.branches.specs.Promise.{wordOf}
+use Rattle.colours.specs.Descents.{Descent, links}
 use Rattle.colour_questions.specs.declared.branch.answers.Descending.{Descending}
-use Rattle.colour_questions.specs.declared.branch.answers.Descending.the-variants.{Answered, Refused as NotAnswered}
-use Rattle.colour_questions.specs.branch.Question.{descendingNumber}
-use Rattle.colour_questions.specs.branch.Promise.{ColourAskDone}
-use Rattle.capi.specs.numbers.Numbers.{bitOf}
+use Rattle.colour_questions.specs.branch.Question.{descendingTold, descendingNumber}
+use Rattle.colour_questions.specs.branch.Promise.{wordDescent, wordDrops, ColourAskDone}
+use Rattle.capi.specs.numbers.Numbers.{bitOf, onAnswer}
 
 abbrev pub endOf : Descending → ℕ → ℕ
-endOf (Answered q marked drops links) old = q
-endOf (NotAnswered n) old = old
+endOf a old = onAnswer (descendingTold a .1) (λ c. c .state) old
 
 abbrev pub acceptedOf : Descending → ℕ → ℕ
-acceptedOf (Answered q marked drops links) old = bitOf marked
-acceptedOf (NotAnswered n) old = old
+acceptedOf a old = onAnswer (descendingTold a .1) (λ c. bitOf (c .marked)) old
 
 abbrev pub dropsOf : Descending → ℕ → ℕ
-dropsOf (Answered q marked drops links) old = drops
-dropsOf (NotAnswered n) old = old
+dropsOf a old = onAnswer (descendingTold a .1) (λ c. c .drops) old
 
 abbrev pub linksOf : Descending → ℕ → ℕ
-linksOf (Answered q marked drops links) old = links
-linksOf (NotAnswered n) old = old
+linksOf a old = onAnswer (descendingTold a .1) (λ c. c .links) old
 
 pub record DescentNumber (a : Descending) (state₀ yes₀ drops₀ links₀ r state₁ yes₁ drops₁ links₁ : ℕ) : Type 0 where
   pub result : r ≡ descendingNumber a
@@ -45,3 +47,16 @@ pub record DescentExported (reading : Reading) (p r nodeTable numbers bytes : Li
   pub answer : Descending
   pub done : ColourAskDone reading p r nodeTable numbers bytes u l answer
   pub number : DescentNumber answer state₀ yes₀ drops₀ links₀ n state₁ yes₁ drops₁ links₁
+
+-- on tables as built: the word automaton's answer, with the drops and links of the descent by the tree's own colours
+pub record WordAnswered (reading : Reading) (p r : List ℕ) (u l n state₁ yes₁ drops₁ links₁ : ℕ) : Type 0 where
+  pub accepted : n ≡ 0
+  pub state : state₁ ≡ wordRun (branchAutomaton r) 0 (wordOf reading (planTree p) u l)
+  pub yes : yes₁ ≡ bitOf (branchAutomaton r .accepting state₁)
+  pub drops-are : drops₁ ≡ wordDrops reading (branchAutomaton r) (planTree p) u l
+  -- the links of the searches for them by the tree's own colours
+  pub way : Descent
+  pub found : wordDescent reading (branchAutomaton r) (planTree p) u l ≡ some way
+  pub links-are : links₁ ≡ links way
+  pub falls : drops₁ ≤ stateCount r - 1
+  pub few : links₁ ≤ drops₁ * 45

@@ -10,6 +10,7 @@
 --   search does not rise or ends where the colour does not fall (check 18)
 -- colourChecks .. == 17, 13, 16 and 18, in this order; colourNumber .. == the first that fails, 0 where none does
 -- colourAskAnswer .. == the answer
+-- descendingTold a == document 01's number and values of an answer; descendingNumber a == its number
 --
 -- "Both are put outside the session and tell state, yes or no, drops and links". Both readings make the same checks;
 -- they differ in the copy in which they begin.
@@ -82,10 +83,14 @@ colourChecks reading p r nodeTable numbers bytes u l =
 unfoldable pub colourNumber : Reading → List ℕ → List ℕ → List ℕ → List ℕ → List ℕ → ℕ → ℕ → ℕ
 colourNumber reading p r nodeTable numbers bytes u l = firstNo (colourChecks reading p r nodeTable numbers bytes u l)
 
--- document 01's number of an answer: 0 accepted, else the refusal's
+-- document 01's number and values for each case: 0 with state, yes or no, drops and links, or the refusal's number alone
+abbrev pub descendingTold : Descending → ℕ × Option Coloured
+descendingTold (Answered q marked drops links) =
+    (0, some (record { state = q; marked = marked; drops = drops; links = links }))
+descendingTold (Refused n) = (n, none)
+
 unfoldable pub descendingNumber : Descending → ℕ
-descendingNumber (Answered q marked drops links) = 0
-descendingNumber (Refused n) = n
+descendingNumber a = descendingTold a .0
 
 unfoldable pub colourAnswer : ℕ → Option Coloured → Descending
 colourAnswer zero none = Refused 18

@@ -7,7 +7,8 @@
 -- handledOn L left vs bs == the parts of a list vs, bs that leaves the nodes `left` in W; none: 18
 -- ruleAskChecks .. == 17, 27, 12, 13, 14 and 18, in this order; askedChecks == those before 18
 -- ruleAskNumber .. == the first that fails, 0 where none does
--- ruleAskAnswer .. == the answer, for any inputs; ruleDescendingNumber == document 01's number of an answer
+-- ruleAskAnswer .. == the answer, for any inputs
+-- ruleDescendingTold a == document 01's number and values of an answer; ruleDescendingNumber a == its number
 --
 -- Superseding and equal labels are as in S-4 and S-5. The nodes left in W are `differing`'s, in the order of their last
 -- entries (crate changes).
@@ -85,9 +86,21 @@ ruleAskNumber p r nodeTable stateTable numbers bytes vs bs =
 
 -- ---- the answer
 
+pub record RuleValues : Type 0 where
+  pub state : ℕ
+  pub marked : Bool
+  pub drops : ℕ
+  pub links : ℕ
+  pub parts : ℕ
+
+-- document 01's number and values for each case: 0 with what is answered, or the refusal's number alone
+abbrev pub ruleDescendingTold : RuleDescending → ℕ × Option RuleValues
+ruleDescendingTold (Answered q marked drops links parts) =
+    (0, some (record { state = q; marked = marked; drops = drops; links = links; parts = parts }))
+ruleDescendingTold (Refused n) = (n, none)
+
 unfoldable pub ruleDescendingNumber : RuleDescending → ℕ
-ruleDescendingNumber (Answered q marked drops links parts) = 0
-ruleDescendingNumber (Refused n) = n
+ruleDescendingNumber a = ruleDescendingTold a .0
 
 -- the answer of state q, searches ls and the given number of parts
 abbrev pub answeredWith : List ℕ → ℕ → List ℕ → ℕ → RuleDescending
