@@ -40,7 +40,8 @@ use Rattle.questions.specs.ready.Parts.{Given, Part, stateOf, highestBelow}
 use Rattle.questions.specs.ready.Members.{roots}
 use Rattle.questions.specs.ready.StaysInside.{StaysInside}
 use Rattle.questions.proofs.ready.ListLaws.{list-members}
-use Rattle.questions.proofs.ready.PartsRun.{Members, RunGiven}
+use Rattle.questions.proofs.ready.PartsRun.{Members}
+use Rattle.questions.specs.ready.RunGiven.{RunGiven}
 use Rattle.questions.proofs.FreshLaws.{rules-inside}
 use Rattle.reference.specs.Sample.{planA, tableA}
 use Rattle.colours.specs.StateSets.{setOf, member, setStep}
@@ -63,7 +64,8 @@ use Rattle.capi.proofs.table_calls.Theorems.{build-as-built}
 use Rattle.capi_colours.specs.rule_calls.RuleExported.{RuleExported, endOf, acceptedOf, dropsOf, linksOf, partsOf}
 use Rattle.capi_colours.proofs.rule_calls.BuildTheorems.{rule-build-number, rule-build-writes, rule-build-coloured}
 use Rattle.capi_colours.proofs.rule_calls.BuildTheorems.{rule-build-refused}
-use Rattle.capi_colours.proofs.rule_calls.Theorems.{RunAnswered, rule-descent-answers, rule-descent-built}
+use Rattle.capi_colours.specs.rule_calls.RuleExported.{RunAnswered}
+use Rattle.capi_colours.proofs.rule_calls.Theorems.{rule-descent-answers, rule-descent-built}
 use Rattle.claims.specs.CallAnswers.{BuildCall, ColourBuildCall}
 use Rattle.claims.specs.ColourAnswers.{RuleColourAnswered, RuleTrialsAnswered}
 use Rattle.claims.proofs.ColourLaws.{part-sixty, all-drops}
@@ -146,7 +148,7 @@ module _ (p r nodeTable stateTable numbers bytes vs bs : List ℕ) (n s₀ y₀ 
         → RuleColourAnswered p r vs bs n s₁ y₁ d₁ k₁ m₁
     unfolding questionSearches roots
     run-answers c =
-        let W : RunAnswered p r nodeTable stateTable numbers bytes vs bs n s₀ y₀ d₀ k₀ m₀ s₁ y₁ d₁ k₁ m₁ E =
+        let W : RunAnswered p r vs bs n s₁ y₁ d₁ k₁ m₁ =
         rule-descent-answers p r nodeTable stateTable numbers bytes vs bs n s₀ y₀ d₀ k₀ m₀ s₁ y₁ d₁ k₁ m₁ E D c in
         let ms : List ℕ = rootsLeft p vs bs in
         let M : Members (λ x. holds x (differing (labelsIn p) vs bs)) (planTree p) ms =

@@ -42,23 +42,20 @@ use Rattle.formats.proofs.BranchLaws.{step-below}
 use Rattle.formats.proofs.InputLaws.{branch-table-passes}
 use Rattle.tables.specs.node_tables.Cells.{isInSubtreeOn}
 use Rattle.branches.specs.declared.answers.Reading.{Reading}
-use Rattle.branches.specs.declared.answers.Reading.the-variants.{WithUpper, BelowUpper}
 use Rattle.branches.proofs.FinishLaws.{in-subtree-is}
 use Rattle.branches.proofs.AskBuilt as climb-asks
 use Rattle.colours.specs.marks.Marks.{marksIn, marksAt}
 use Rattle.colours.proofs.marks.NextMark.{next-mark, next-mark-limit}
 use Rattle.colours.specs.marks.NextMarks.{NextMark}
-use Rattle.colours.specs.Colouring.{lowestFree, takes, recolour, placeOf, Colouring}
+use Rattle.colours.specs.Colouring.{lowestFree, takes, recolour, placeOf, Colouring, Free}
 use Rattle.colours.specs.Copies.{topCopy, copy, copyAbove, landsAt, dropsDown}
-use Rattle.colours.specs.Descents.{Place, Descent, descend, colourTableOf}
-use Rattle.colours.specs.Words.{wordStep, withUpper, belowUpper}
+use Rattle.colours.specs.Descents.{Descent, AllLe}
+use Rattle.colours.specs.Words.{withUpper, belowUpper}
 use Rattle.colours.specs.StateSets.{setStep, setCount}
 use Rattle.colours.proofs.ColouringLaws.{lowest-free}
-use Rattle.colours.specs.Colouring.{Free}
 use Rattle.colours.proofs.TurnLaws.{recolour-turn}
 use Rattle.colours.proofs.CopyLaws.{top-colour, copyAbove-root}
 use Rattle.colours.proofs.RootLaws.{set-root}
-use Rattle.colours.specs.Descents.{AllLe}
 use Rattle.colours.specs.Answers.{WordAnswer}
 use Rattle.colours.proofs.Theorems.{colours-one-each, colours-only-fall, drops-below-colours, word-upper, word-below}
 use Rattle.colours.proofs.Theorems.{links-limit}
@@ -67,26 +64,24 @@ use Rattle.colour_tables.specs.branch.Build.{BranchColoured}
 use Rattle.colour_tables.proofs.branch.BuildLaws.{room-no}
 use Rattle.colour_questions.specs.declared.branch.answers.Descending.{Descending}
 use Rattle.colour_questions.specs.branch.OutOfRange.{BranchColoursOutOfRange}
-use Rattle.colour_questions.specs.branch.Question.{colourBuffersFit, colourIn, Coloured, colouredOn, colourNumber}
+use Rattle.colour_questions.specs.branch.Question.{colourBuffersFit, Coloured, colouredOn, colourNumber}
 use Rattle.colour_questions.specs.branch.Question.{colourAnswer, colourAskAnswer, descendingNumber}
-use Rattle.colour_questions.specs.branch.Promise.{BranchColoursBuilt, BranchColoursUsable, stateKept}
+use Rattle.colour_questions.specs.branch.Promise.{BranchColoursBuilt, BranchColoursUsable, stateKept, OnCopies}
 use Rattle.colour_questions.proofs.branch.AskBuilt as colour-asks
 use Rattle.colour_questions.proofs.branch.AskChecks.{ask-17, ask-13-upper, ask-13-lower}
-use Rattle.colour_questions.proofs.branch.OnCopies as copies
-use Rattle.colour_questions.proofs.branch.OnCopies.{OnCopies, on-copies}
+use Rattle.colour_questions.proofs.branch.OnCopies.{on-copies}
 use Rattle.reference.specs.Sample.{planA}
 use Rattle.capi.specs.numbers.Numbers.{bitOf}
 use Rattle.capi.specs.branch_calls.BranchExported.{AskExported}
 use Rattle.capi.proofs.branch_calls.Ties.{branch-build-as-built}
 use Rattle.capi_colours.specs.branch_calls.DescentExported.{DescentExported, endOf, acceptedOf, dropsOf, linksOf}
-use Rattle.capi_colours.proofs.branch_calls.Theorems.{WordAnswered, branch-build-number, branch-build-writes}
-use Rattle.capi_colours.proofs.branch_calls.Theorems.{branch-build-refused}
+use Rattle.capi_colours.specs.branch_calls.DescentExported.{WordAnswered}
+use Rattle.capi_colours.proofs.branch_calls.Theorems.{branch-build-number, branch-build-writes, branch-build-refused}
 use Rattle.capi_colours.proofs.branch_calls.Theorems.{branch-build-coloured, branch-descent-answers}
-use Rattle.capi_colours.proofs.branch_calls.Theorems.{branch-descent-apart}
-use Rattle.capi_colours.proofs.branch_calls.Theorems.{branch-descent-built}
+use Rattle.capi_colours.proofs.branch_calls.Theorems.{branch-descent-apart, branch-descent-built}
 use Rattle.claims.specs.CallAnswers.{BranchBuildCall, ColourBranchBuildCall}
 use Rattle.claims.specs.BranchAnswers.{branchTableA}
-use Rattle.claims.specs.ColourAnswers.{WordColourAnswer, wordStart, WordCopiesAnswer}
+use Rattle.claims.specs.ColourAnswers.{WordColourAnswer, WordCopiesAnswer}
 use Rattle.claims.proofs.ColourLaws.{word-few}
 use Rattle.claims.proofs.Branches as branches
 
@@ -139,10 +134,6 @@ word-without : (B : WordAutomaton) (t : Tree) → ((q a : ℕ) → B .step q a <
 word-without = word-below
 
 -- ---- branch questions: BelowUpper is whatif_colour_branch, WithUpper whatif_colour_branch_with_upper
-
-same-start : (reading : Reading) (t : Tree) (u : ℕ) → wordStart reading t u ≡ copies.wordStart reading t u
-same-start WithUpper t u = refl
-same-start BelowUpper t u = refl
 
 -- where the number is 0 there is an answer: the named result is never a refusal with number 0
 answer-there : (r : List ℕ) (k : ℕ) (o : Option Coloured) → descendingNumber (colourAnswer k o) ≡ 0
@@ -217,10 +208,9 @@ module _ (reading : Reading) (p r nodeTable numbers bytes : List ℕ) (u l n s�
       record {
         accepted = E .number .result ∙ ap descendingNumber i;
         colour = O .colour;
-        starts = ap (colourIn (stateCount r) bytes) (same-start reading (planTree p) u) ∙ O .starts;
+        starts = O .starts;
         way = O .way;
-        found = ap (λ (z : Place). descend (colourTableOf (stateCount r) (wordStep (branchAutomaton r) (planTree p))
-            (planTree p)) (O .colour) z l (O .colour)) (same-start reading (planTree p) u) ∙ O .found;
+        found = O .found;
         state-is = s;
         yes-is = E .number .yes-answer ∙ ap (λ (x : Descending). acceptedOf x y₀) i
             ∙ ap (λ (q : ℕ). bitOf (branchAutomaton r .accepting q)) (sym s);
@@ -250,7 +240,7 @@ module _ (reading : Reading) (p r nodeTable numbers bytes : List ℕ) (u l n s�
       -- most 45"
       pub word-answers : AtOrBelow (planTree p) u l → WordColourAnswer reading p r u l n s₁ y₁ d₁ k₁
       word-answers A =
-          let W : WordAnswered reading p r nodeTable numbers bytes u l n s₀ y₀ d₀ k₀ s₁ y₁ d₁ k₁ E =
+          let W : WordAnswered reading p r u l n s₁ y₁ d₁ k₁ =
           branch-descent-answers reading p r nodeTable numbers bytes u l n s₀ y₀ d₀ k₀ s₁ y₁ d₁ k₁ E D hu hl A in
           let Z = E .done .built D hu hl A in
           let same : W .way ≡ Z .way = cc (W .found, Z .found) in

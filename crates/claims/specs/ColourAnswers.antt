@@ -2,7 +2,6 @@
 --
 -- WordColourAnswer reading p r u l n state yes drops links == on tables as built: the word automaton's answer, with the
 --   drops counted on the tree and the links of the tree's own descent
--- wordStart reading t u == the copy in which a reading's word begins: the one above node u, or u's own
 -- WordCopiesAnswer .. == on any copies: what the descent by the tree's own colours reads there
 -- sideDrops A t u ms c == the drops of the trials at child c of a part: of every target state from 0 up to the state
 --   that follows at c from the highest member below it, whose state is that of the changed tree u
@@ -26,18 +25,16 @@ use Rattle.trees.specs.Tables.{stepUp}
 use Rattle.formats.specs.Plan.{planTree}
 use Rattle.formats.specs.Rules.{stateCount, branchAutomaton, ruleAutomaton}
 use Rattle.branches.specs.declared.answers.Reading.{Reading}
-use Rattle.branches.specs.declared.answers.Reading.the-variants.{WithUpper, BelowUpper}
 use Rattle.branches.specs.Promise.{wordOf}
 use Rattle.questions.specs.ready.Ready.{leftChild, rightChild}
 use Rattle.questions.specs.ready.Parts.{anyBelow, highestBelow, lastState, sumOf}
 use Rattle.runs.specs.FreshRun.{changedTree, rootState}
 use Rattle.colours.specs.marks.Marks.{bit}
-use Rattle.colours.specs.Descents.{Place, Descent, sum, descend, colourTableOf}
-use Rattle.colours.specs.Words.{wordStep, aboveOf}
+use Rattle.colours.specs.Descents.{Descent, sum, descend, colourTableOf, AllLe}
+use Rattle.colours.specs.Words.{wordStep}
 use Rattle.colours.specs.StateSets.{trialDrops, dropsFrom}
-use Rattle.colours.specs.Descents.{AllLe}
 use Rattle.colour_questions.specs.branch.Question.{colourIn}
-use Rattle.colour_questions.specs.branch.Promise.{wordDescent, wordDrops}
+use Rattle.colour_questions.specs.branch.Promise.{wordDescent, wordDrops, wordStart}
 use Rattle.colour_questions.specs.parts.OneSided.{isOneSided}
 use Rattle.colour_questions.specs.parts.Trials.{triedParts, trialsFrom}
 use Rattle.colour_questions.specs.rule.Promise.{rootsLeft, searchesLeft, givenLent}
@@ -58,10 +55,6 @@ pub record WordColourAnswer (reading : Reading) (p r : List ℕ) (u l n state ye
   pub searched : drops ≡ length (way .searches)
   pub links-are : links ≡ sum (way .searches)
   pub few : AllLe 45 (way .searches)
-
-abbrev pub wordStart : Reading → Tree → ℕ → Place
-wordStart WithUpper t u = aboveOf t u
-wordStart BelowUpper t u = some u
 
 pub record WordCopiesAnswer (reading : Reading) (p r bytes : List ℕ) (u l n state yes drops links : ℕ) : Type 0 where
   pub accepted : n ≡ 0

@@ -45,7 +45,8 @@ use Rattle.questions.specs.ready.Parts.{Given, Part, anyBelow, stateOf, 
 use Rattle.questions.specs.ready.Parts.{partsOf, lastState, allLinks, questionLinks, allPassed, questionPassed}
 use Rattle.questions.proofs.ready.ChangedRun.{Changes}
 use Rattle.questions.specs.ready.StaysInside.{StaysInside}
-use Rattle.questions.proofs.ready.PartsRun.{RunGiven, parts-right, rising-not, state-new}
+use Rattle.questions.proofs.ready.PartsRun.{parts-right, rising-not, state-new}
+use Rattle.questions.specs.ready.RunGiven.{RunGiven}
 use Rattle.questions.proofs.ready.SameTrees.{same-count}
 use Rattle.questions.proofs.ready.ListLaws.{list-members, list-last, list-rising}
 use Rattle.formats.specs.Inputs.{Inputs, Sizes, usedStateTable, stateTableBuilt, statesBelow}

@@ -31,7 +31,8 @@ use Rattle.questions.proofs.ready.ClosedForm as closed-form
 use Rattle.questions.proofs.ready.HighestLaws.{Highest, highest-holds}
 use Rattle.questions.proofs.ready.ChangedRun.{Changes}
 use Rattle.questions.specs.ready.StaysInside.{StaysInside}
-use Rattle.questions.proofs.ready.PartsRun.{Members, RunGiven, parts-right}
+use Rattle.questions.proofs.ready.PartsRun.{Members, parts-right}
+use Rattle.questions.specs.ready.RunGiven.{RunGiven}
 use Rattle.questions.proofs.ready.PassedLaws.{question-passed}
 use Rattle.questions.specs.Roots.{rootsOn}
 use Rattle.questions.specs.Part.{partOn}

@@ -4,3 +4,4 @@ pub mod Members
 pub mod Parts
 pub mod Partition
 pub mod StaysInside
+pub mod RunGiven

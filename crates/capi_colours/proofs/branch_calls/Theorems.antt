@@ -15,25 +15,23 @@ use mathlib.Core.Path.{_≡_, refl, sym, ap, _∙_}
 use mathlib.Core.List.{List, _++_}
 use native.Mathlib.Omega.{arith}
 use lib.ListN.{length, drop}
-use Rattle.trees.specs.Automaton.{wordRun}
 use Rattle.trees.specs.Numbering.{AtOrBelow}
 use Rattle.formats.specs.Plan.{nodeCount, planTree}
-use Rattle.formats.specs.Rules.{stateCount, branchAutomaton}
+use Rattle.formats.specs.Rules.{branchAutomaton}
 use Rattle.formats.specs.Checks.{firstNo}
 use Rattle.branches.specs.declared.answers.Reading.{Reading}
-use Rattle.branches.specs.Promise.{wordOf}
-use Rattle.colours.specs.Descents.{Descent, drops, links}
+use Rattle.colours.specs.Descents.{drops, links}
 use mathlib.Core.Option.{some}
 use Rattle.colour_tables.specs.branch.Build.{branchColourChecks, builtColourNumbers, builtCopies, BranchColoured}
 use Rattle.colour_tables.proofs.branch.BuildLaws.{built-coloured}
 use Rattle.colour_questions.specs.declared.branch.answers.Descending.{Descending}
 use Rattle.colour_questions.specs.declared.branch.answers.Descending.the-variants.{Answered, Refused}
 use Rattle.colour_questions.specs.branch.Question.{descendingNumber}
-use Rattle.colour_questions.specs.branch.Promise.{BranchColoursBuilt, BranchColoursUsable, wordDrops, wordDescent, DescentAnswer}
+use Rattle.colour_questions.specs.branch.Promise.{BranchColoursBuilt, BranchColoursUsable, DescentAnswer}
 use Rattle.colour_questions.proofs.branch.AskBuilt.{built-usable}
 use Rattle.capi.specs.numbers.Numbers.{bitOf, BuildExported}
 use Rattle.capi.proofs.numbers.BuildExportedLaws.{exported-number, exported-lists, exported-kept}
-use Rattle.capi_colours.specs.branch_calls.DescentExported.{endOf, acceptedOf, dropsOf, linksOf, DescentExported}
+use Rattle.capi_colours.specs.branch_calls.DescentExported.{endOf, acceptedOf, dropsOf, linksOf, DescentExported, WordAnswered}
 
 -- ---- the build
 
@@ -61,20 +59,8 @@ module _ (reading : Reading) (p r nodeTable numbers bytes : List ℕ)
     (u l n state₀ yes₀ drops₀ links₀ state₁ yes₁ drops₁ links₁ : ℕ)
     (E : DescentExported reading p r nodeTable numbers bytes u l n state₀ yes₀ drops₀ links₀ state₁ yes₁ drops₁
     links₁) where
-  pub record WordAnswered : Type 0 where
-    pub accepted : n ≡ 0
-    pub state : state₁ ≡ wordRun (branchAutomaton r) 0 (wordOf reading (planTree p) u l)
-    pub yes : yes₁ ≡ bitOf (branchAutomaton r .accepting state₁)
-    pub drops-are : drops₁ ≡ wordDrops reading (branchAutomaton r) (planTree p) u l
-    -- the links of the searches for them by the tree's own colours
-    pub way : Descent
-    pub found : wordDescent reading (branchAutomaton r) (planTree p) u l ≡ some way
-    pub links-are : links₁ ≡ links way
-    pub falls : drops₁ ≤ stateCount r - 1
-    pub few : links₁ ≤ drops₁ * 45
-
   module _ (D : BranchColoursBuilt p r nodeTable numbers bytes) (hu : u < nodeCount p) (hl : l < nodeCount p) where
-    pub branch-descent-answers : AtOrBelow (planTree p) u l → WordAnswered
+    pub branch-descent-answers : AtOrBelow (planTree p) u l → WordAnswered reading p r u l n state₁ yes₁ drops₁ links₁
     unfolding descendingNumber
     branch-descent-answers A =
         let W : DescentAnswer reading p r u l (E .answer) = E .done .built D hu hl A in

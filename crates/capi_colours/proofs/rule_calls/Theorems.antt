@@ -10,19 +10,17 @@ use mathlib.Core.Bool.{Bool, true, false}
 use mathlib.Core.List.{List, [], _∷_}
 use native.Mathlib.Omega.{arith}
 use lib.ListN.{length}
-use Rattle.formats.specs.Plan.{nodeCount, planTree}
+use Rattle.formats.specs.Plan.{nodeCount}
 use Rattle.formats.specs.Rules.{labelCount, ruleAutomaton}
 use Rattle.formats.specs.Checks.{check, firstNo, listChecks}
-use Rattle.runs.specs.FreshRun.{rootState}
 use Rattle.colours.specs.Descents.{sum}
 use Rattle.colours.proofs.DescentLaws.{sum-le}
-use Rattle.colour_questions.specs.parts.OneSided.{oneSided}
 use Rattle.colour_questions.specs.declared.rule.answers.RuleDescending.{RuleDescending}
 use Rattle.colour_questions.specs.declared.rule.answers.RuleDescending.the-variants.{Answered, Refused}
 use Rattle.colour_questions.specs.rule.Question.{ruleDescendingNumber, askedChecks, ruleAskChecks, ruleAskNumber}
-use Rattle.colour_questions.specs.rule.Promise.{RuleColoursBuilt, RuleColourAnswer, rootsLeft, searchesLeft}
+use Rattle.colour_questions.specs.rule.Promise.{RuleColoursBuilt, RuleColourAnswer, searchesLeft}
 use Rattle.capi.specs.numbers.Numbers.{bitOf}
-use Rattle.capi_colours.specs.rule_calls.RuleExported.{endOf, acceptedOf, dropsOf, linksOf, partsOf, RuleExported}
+use Rattle.capi_colours.specs.rule_calls.RuleExported.{endOf, acceptedOf, dropsOf, linksOf, partsOf, RuleExported, RunAnswered}
 
 -- where 18 is the first that fails, 12 to 14 pass
 list-passes : (a b c d e f : Bool)
@@ -40,19 +38,9 @@ module _ (p r nodeTable stateTable numbers bytes vs bs : List ℕ)
     (n state₀ yes₀ drops₀ links₀ parts₀ state₁ yes₁ drops₁ links₁ parts₁ : ℕ)
     (E : RuleExported p r nodeTable stateTable numbers bytes vs bs n state₀ yes₀ drops₀ links₀ parts₀ state₁ yes₁ drops₁
     links₁ parts₁) where
-  pub record RunAnswered : Type 0 where
-    pub accepted : n ≡ 0
-    pub state : state₁ ≡ rootState p r vs bs
-    pub yes : yes₁ ≡ bitOf (ruleAutomaton r .accepting state₁)
-    pub parts : parts₁ ≡ length (rootsLeft p vs bs)
-    -- the searches of the trials by the tree's own colours: their number, and the links of all
-    pub drops-are : drops₁ ≡ length (searchesLeft p r vs bs)
-    pub links-are : links₁ ≡ sum (searchesLeft p r vs bs)
-    pub falls : drops₁ ≤ 60 * oneSided (planTree p) (rootsLeft p vs bs) (rootsLeft p vs bs)
-    pub few : links₁ ≤ drops₁ * 45
-
   pub rule-descent-answers : RuleColoursBuilt p r nodeTable stateTable numbers bytes
-      → firstNo (listChecks (nodeCount p) (labelCount r) vs bs) ≡ 0 → RunAnswered
+      → firstNo (listChecks (nodeCount p) (labelCount r) vs bs) ≡ 0
+      → RunAnswered p r vs bs n state₁ yes₁ drops₁ links₁ parts₁
   unfolding ruleDescendingNumber
   rule-descent-answers D c =
       let W : RuleColourAnswer p r vs bs (E .answer) = E .done .built D c in

@@ -27,7 +27,8 @@ use Rattle.questions.proofs.ready.HighestLaws.{Highest}
 use Rattle.questions.proofs.ready.ClosedForm.{kind-one}
 use Rattle.questions.proofs.ready.BelowLaws.{some-below, rising-above}
 use Rattle.questions.specs.ready.StaysInside.{StaysInside}
-use Rattle.questions.proofs.ready.PartsRun.{Members, RunGiven, rising-first, rising-not}
+use Rattle.questions.proofs.ready.PartsRun.{Members, rising-first, rising-not}
+use Rattle.questions.specs.ready.RunGiven.{RunGiven}
 use Rattle.choices.specs.assignments.Assignments.{counted}
 use Rattle.choices.specs.assignments.Sums.{sumTo, LabelSum, openSum, one}
 use Rattle.choices.specs.assignments.inner.Weights.{weighed, weighedAt}

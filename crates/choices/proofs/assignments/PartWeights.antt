@@ -29,7 +29,8 @@ use Rattle.questions.proofs.ready.HighestWalk.{far, way-proper, way-free, way-l
 use Rattle.questions.proofs.ready.BelowLaws.{none-below, some-below}
 use Rattle.questions.proofs.ready.ClosedForm.{kind-one}
 use Rattle.questions.specs.ready.StaysInside.{StaysInside}
-use Rattle.questions.proofs.ready.PartsRun.{Members, RunGiven, climb-walk}
+use Rattle.questions.proofs.ready.PartsRun.{Members, climb-walk}
+use Rattle.questions.specs.ready.RunGiven.{RunGiven}
 use Rattle.choices.specs.assignments.Sums.{LabelSum}
 use Rattle.choices.specs.assignments.inner.Weights.{weighed, weighedAt}
 use Rattle.choices.proofs.assignments.WeighLaws.{weighed-below}

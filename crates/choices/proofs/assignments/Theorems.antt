@@ -18,7 +18,7 @@ use Rattle.list_laws.specs.Tests.{allBelow, holds, distinct}
 use Rattle.questions.specs.ready.Members.{roots}
 use Rattle.questions.specs.ready.Parts.{Given}
 use Rattle.questions.specs.ready.StaysInside.{StaysInside}
-use Rattle.questions.proofs.ready.PartsRun.{RunGiven}
+use Rattle.questions.specs.ready.RunGiven.{RunGiven}
 use Rattle.questions.proofs.ready.ListLaws.{list-members}
 use Rattle.choices.specs.assignments.Assignments.{assignments, howMany, counted}
 use Rattle.choices.specs.assignments.Sums.{sumTo, openSum, one}

@@ -44,7 +44,7 @@ use Rattle.tables.specs.StateCells.{stateCell, mapCell}
 use Rattle.questions.specs.ready.Members.{roots}
 use Rattle.questions.specs.ready.Parts.{Given}
 use Rattle.questions.specs.ready.StaysInside.{StaysInside}
-use Rattle.questions.proofs.ready.PartsRun.{RunGiven}
+use Rattle.questions.specs.ready.RunGiven.{RunGiven}
 use Rattle.questions.specs.RootsAnswers.{rootsFit}
 use Rattle.questions.specs.Promises.{Reads}
 use Rattle.choices.specs.assignments.Assignments.{assignments, howMany, endState, counted}

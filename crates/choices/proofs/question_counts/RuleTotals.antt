@@ -26,7 +26,7 @@ use Rattle.questions.specs.ready.Ready.{leftChild, rightChild}
 use Rattle.questions.specs.ready.Members.{roots}
 use Rattle.questions.specs.ready.Parts.{Given, anyBelow, highestBelow}
 use Rattle.questions.specs.ready.StaysInside.{StaysInside}
-use Rattle.questions.proofs.ready.PartsRun.{RunGiven}
+use Rattle.questions.specs.ready.RunGiven.{RunGiven}
 use Rattle.questions.specs.RootsAnswers.{rootsFit}
 use Rattle.questions.specs.Promises.{Reads}
 use Rattle.questions.proofs.FitLaws.{fit-facts}

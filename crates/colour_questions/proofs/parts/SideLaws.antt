@@ -11,7 +11,8 @@ use Rattle.trees.specs.Numbering.{depth, InSubtree}
 use Rattle.trees.proofs.IntervalLaws.{interval-ancestor, above-at}
 use Rattle.questions.specs.ready.Parts.{Given, Part, stateOf, highestBelow, climbedState}
 use Rattle.questions.specs.ready.StaysInside.{StaysInside}
-use Rattle.questions.proofs.ready.PartsRun.{RunGiven, climb-walk}
+use Rattle.questions.proofs.ready.PartsRun.{climb-walk}
+use Rattle.questions.specs.ready.RunGiven.{RunGiven}
 use Rattle.colours.specs.StateSets.{tried}
 use Rattle.colours.proofs.Theorems.{set-targets}
 use Rattle.colours.specs.Answers.{SetAnswer}

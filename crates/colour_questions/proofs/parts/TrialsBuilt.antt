@@ -26,7 +26,8 @@ use Rattle.questions.proofs.ready.BelowLaws.{some-below}
 use Rattle.questions.proofs.ready.ChangedRun.{Changes}
 use Rattle.questions.proofs.ready.ClosedForm.{kind-one}
 use Rattle.questions.proofs.ready.HighestLaws.{Highest}
-use Rattle.questions.proofs.ready.PartsRun.{Members, RunGiven, nodes-more, state-kept, state-new, rising-first, rising-not}
+use Rattle.questions.proofs.ready.PartsRun.{Members, nodes-more, state-kept, state-new, rising-first, rising-not}
+use Rattle.questions.specs.ready.RunGiven.{RunGiven}
 use Rattle.questions.proofs.ready.PartsRun.{climb-walk, part-right}
 use Rattle.questions.proofs.ready.UnderLaws.{left-in, right-in}
 use Rattle.questions.proofs.PartListLaws.{last-more}

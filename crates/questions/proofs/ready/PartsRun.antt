@@ -1,6 +1,5 @@
 -- Worked out one by one on the run's own bytes, the parts give the changed run.
 --     nodes-more, state-kept, state-new   one more part
---     RunGiven           what is given is the run's: its states, its maps, and the changed tree's labels
 --     climb-walk         a climb carries a state as the walk does
 --     part-right         the part of a member has the changed run's state at its root, if those before it have
 --     parts-right        so all have: not only the plan's root
@@ -17,7 +16,7 @@ use native.Mathlib.Omega.{arith}
 use lib.Dec.{eqb}
 use lib.ListN.{length, getD}
 use borrow.Author.Tests.{eqb-true, eqb-false, eq-eqb, ne-eqb}
-use Rattle.trees.specs.Tree.{Tree, size, kindsOf, kindAt, labelsOf, labelAt}
+use Rattle.trees.specs.Tree.{Tree, size, kindsOf, kindAt, labelAt}
 use Rattle.trees.specs.Automaton.{state}
 use Rattle.trees.specs.Numbering.{sub, parent, depth, InSubtree}
 use Rattle.trees.specs.Jumps.{jump}
@@ -29,6 +28,7 @@ use Rattle.trees.proofs.MapLaws.{stepUp-right, stepUp-left, stepUp-below, left-
 use Rattle.trees.proofs.RunLaws.{state-leaf, state-inner, state-below}
 use Rattle.trees.proofs.IntervalLaws.{interval-ancestor, above-at}
 use Rattle.questions.specs.ready.StaysInside.{StaysInside}
+use Rattle.questions.specs.ready.RunGiven.{RunGiven}
 use Rattle.questions.specs.ready.Ready.{leftChild, rightChild, Closed, Fork}
 use Rattle.questions.specs.ready.Members.{Rising}
 use Rattle.questions.specs.ready.Parts.{Given, anyBelow, highestBelow, moveState, moveStates, movesOf, climbMoves, Part, part, nodesOf}
@@ -45,11 +45,6 @@ pub record Members (w : ℕ → Bool) (t : Tree) (ms : List ℕ) : Type 0 where
   pub rising : Rising 0 ms
   pub inside : (v : ℕ) → List·Memᴰ v ms → v < size t
   pub closed : Closed w t (λ v. List·Memᴰ v ms)
-
-pub record RunGiven (G : Given) (u : Tree) : Type 0 where
-  pub labels : G .labels ≡ labelsOf u
-  pub states : (v : ℕ) → v < size (G .tree) → G .runState v ≡ state (G .automaton) (sub (G .tree) v)
-  pub maps : (v q : ℕ) → v < size (G .tree) → q < G .automaton .states → G .mapState v q ≡ stateMap (G .automaton) (G .tree) v q
 
 -- ---- lists of parts
 
