@@ -8,6 +8,7 @@
 --   does not rise (check 18)
 -- askChecks .. == 17, 13, 16 and 18, in this order; askNumber .. == the first that fails, 0 where none does
 -- askAnswer .. == the answer
+-- branchTold a == document 01's number and values of an answer; branchNumber a == its number
 --
 -- "It tells state, yes or no, and the links of the climb from the lower node to the upper's depth", and the nodes that this climb passed
 -- over (02, S-7). The word runs downward while the climb goes up, so the first state goes through the climb's moves from the last to
@@ -66,10 +67,13 @@ askChecks reading p r nodeTable stateTable u l =
 unfoldable pub askNumber : Reading → List ℕ → List ℕ → List ℕ → List ℕ → ℕ → ℕ → ℕ
 askNumber reading p r nodeTable stateTable u l = firstNo (askChecks reading p r nodeTable stateTable u l)
 
--- document 01's number of an answer: 0 accepted, else the refusal's
+-- document 01's number and values for each case: 0 with what is answered, or the refusal's number alone
+abbrev pub branchTold : Branching → ℕ × Option Branched
+branchTold (Answered b) = (0, some b)
+branchTold (Refused n) = (n, none)
+
 unfoldable pub branchNumber : Branching → ℕ
-branchNumber (Answered b) = 0
-branchNumber (Refused n) = n
+branchNumber a = branchTold a .0
 
 unfoldable pub branchAnswer : ℕ → Option Branched → Branching
 branchAnswer zero none = Refused 18

@@ -1,6 +1,7 @@
 -- The fresh run: what it answers, on every input.
 --
--- runningNumber a == document 01's number of an answer: 0 for a run, else the refusal's
+-- runningTold a == document 01's number and values of an answer: 0 with state and yes or no, or the refusal's number alone
+-- runningNumber a == its number
 -- runAnswer n q accepted == the answer where the first failing check is n (0: none), q the root's state, accepted or not
 -- changedTree p vs bs == plan p's tree with label bs[i] at node vs[i]; of two entries for a node the last would hold
 -- rootState p r vs bs, rootAccepted p r vs bs == the root's state, and its yes or no, in rules r's run over that tree
@@ -13,6 +14,7 @@ use Prim.Native.Nat.{ℕ, zero, suc}
 use mathlib.Core.Path.{_≡_, refl}
 use mathlib.Core.Bool.{Bool}
 use mathlib.Core.List.{List, []}
+use mathlib.Core.Option.{Option, none, some}
 use Rattle.trees.specs.Tree.{Tree}
 use Rattle.trees.specs.Automaton.{state, accepts}
 use Rattle.trees.specs.Postorder.{treeOf}
@@ -23,10 +25,17 @@ use Rattle.formats.specs.Checks.{firstNo, freshRunChecks}
 use Rattle.runs.specs.declared.answer.Running.{Running}
 use Rattle.runs.specs.declared.answer.Running.the-variants.{Ended, Refused}
 
+pub record RunValues : Type 0 where
+  pub state : ℕ
+  pub accepted : Bool
+
 -- "The first no gives its number; nothing else is returned and nothing is altered."
+abbrev pub runningTold : Running → ℕ × Option RunValues
+runningTold (Ended q accepted) = (0, some (record { state = q; accepted = accepted }))
+runningTold (Refused n) = (n, none)
+
 unfoldable pub runningNumber : Running → ℕ
-runningNumber (Ended q accepted) = 0
-runningNumber (Refused n) = n
+runningNumber a = runningTold a .0
 
 -- "a fresh run without tables (it tells state, yes or no)"
 unfoldable pub runAnswer : ℕ → ℕ → Bool → Running

@@ -10,26 +10,21 @@ use mathlib.Core.Path.{_≡_}
 use mathlib.Core.List.{List}
 use Rattle.branches.specs.declared.answers.Reading.{Reading}
 use Rattle.branches.specs.declared.answers.Branching.{Branching}
-use Rattle.branches.specs.declared.answers.Branching.the-variants.{Answered, Refused as NotAnswered}
-use Rattle.branches.specs.Question.{branchNumber}
+use Rattle.branches.specs.Question.{branchTold, branchNumber}
 use Rattle.branches.specs.Promise.{AskDone}
-use Rattle.capi.specs.numbers.Numbers.{bitOf}
+use Rattle.capi.specs.numbers.Numbers.{bitOf, onAnswer}
 
 abbrev pub endOf : Branching → ℕ → ℕ
-endOf (Answered b) old = b .state
-endOf (NotAnswered n) old = old
+endOf a old = onAnswer (branchTold a .1) (λ b. b .state) old
 
 abbrev pub acceptedOf : Branching → ℕ → ℕ
-acceptedOf (Answered b) old = bitOf (b .marked)
-acceptedOf (NotAnswered n) old = old
+acceptedOf a old = onAnswer (branchTold a .1) (λ b. bitOf (b .marked)) old
 
 abbrev pub linksOf : Branching → ℕ → ℕ
-linksOf (Answered b) old = b .links
-linksOf (NotAnswered n) old = old
+linksOf a old = onAnswer (branchTold a .1) (λ b. b .links) old
 
 abbrev pub passedOf : Branching → ℕ → ℕ
-passedOf (Answered b) old = b .passed
-passedOf (NotAnswered n) old = old
+passedOf a old = onAnswer (branchTold a .1) (λ b. b .passed) old
 
 pub record AskNumber (a : Branching) (state₀ yes₀ links₀ passed₀ r state₁ yes₁ links₁ passed₁ : ℕ) : Type 0 where
   pub result : r ≡ branchNumber a

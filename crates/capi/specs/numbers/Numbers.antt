@@ -2,6 +2,7 @@
 -- its answer, and that answer's number and values.
 --
 -- bitOf b == 1 for yes, 0 for no
+-- onAnswer o f old == an output parameter afterwards: its value by f where there is an answer, else what it held
 -- yesOf a old == the output parameter of a full check's yes afterwards: the answer's value, or old where the call is
 --   refused
 -- BuildNumber, CheckNumber == an answer as a number and values
@@ -10,6 +11,7 @@ use Prim.Native.Nat.{ℕ}
 use mathlib.Core.Path.{_≡_}
 use mathlib.Core.Bool.{Bool, true, false}
 use mathlib.Core.List.{List}
+use mathlib.Core.Option.{Option, none, some}
 use Rattle.tables.specs.declared.answers.Building.{Building}
 use Rattle.tables.specs.declared.answers.Checking.{Checking}
 use Rattle.tables.specs.declared.answers.Checking.the-variants.{Yes, No, Refused as NotChecked}
@@ -18,6 +20,10 @@ use Rattle.tables.specs.Answers.{buildingNumber, checkNumber, BuildDone, CheckD
 abbrev pub bitOf : Bool → ℕ
 bitOf true = 1
 bitOf false = 0
+
+abbrev pub onAnswer : {A : Type 0} → Option A → (A → ℕ) → ℕ → ℕ
+onAnswer none f old = old
+onAnswer (some x) f old = f x
 
 abbrev pub BuildNumber : Building → ℕ → Type 0
 BuildNumber a r = r ≡ buildingNumber a

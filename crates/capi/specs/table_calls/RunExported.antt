@@ -8,17 +8,14 @@ use Prim.Native.Nat.{ℕ}
 use mathlib.Core.Path.{_≡_}
 use mathlib.Core.List.{List}
 use Rattle.runs.specs.declared.answer.Running.{Running}
-use Rattle.runs.specs.declared.answer.Running.the-variants.{Ended, Refused as NotRun}
-use Rattle.runs.specs.FreshRun.{runningNumber, FreshRunDone}
-use Rattle.capi.specs.numbers.Numbers.{bitOf}
+use Rattle.runs.specs.FreshRun.{runningTold, runningNumber, FreshRunDone}
+use Rattle.capi.specs.numbers.Numbers.{bitOf, onAnswer}
 
 abbrev pub stateOf : Running → ℕ → ℕ
-stateOf (Ended q m) old = q
-stateOf (NotRun n) old = old
+stateOf a old = onAnswer (runningTold a .1) (λ x. x .state) old
 
 abbrev pub markedOf : Running → ℕ → ℕ
-markedOf (Ended q m) old = bitOf m
-markedOf (NotRun n) old = old
+markedOf a old = onAnswer (runningTold a .1) (λ x. bitOf (x .accepted)) old
 
 pub record RunNumber (a : Running) (state₀ yes₀ r state₁ yes₁ : ℕ) : Type 0 where
   pub result : r ≡ runningNumber a

@@ -21,8 +21,7 @@ use Rattle.colours.specs.Descents.{Descent, links}
 use Rattle.colour_questions.specs.declared.branch.answers.Descending.{Descending}
 use Rattle.colour_questions.specs.branch.Question.{descendingTold, descendingNumber}
 use Rattle.colour_questions.specs.branch.Promise.{wordDescent, wordDrops, ColourAskDone}
-use Rattle.capi.specs.numbers.Numbers.{bitOf}
-use Rattle.capi_colours.specs.Outputs.{onAnswer}
+use Rattle.capi.specs.numbers.Numbers.{bitOf, onAnswer}
 
 abbrev pub endOf : Descending → ℕ → ℕ
 endOf a old = onAnswer (descendingTold a .1) (λ c. c .state) old

@@ -20,8 +20,7 @@ use Rattle.colour_questions.specs.declared.rule.answers.RuleDescending.{RuleDes
 use Rattle.colour_questions.specs.rule.Question.{ruleDescendingTold, ruleDescendingNumber}
 use Rattle.colour_questions.specs.rule.Promise.{rootsLeft, searchesLeft, RuleAskDone}
 use Rattle.colour_questions.specs.parts.OneSided.{oneSided}
-use Rattle.capi.specs.numbers.Numbers.{bitOf}
-use Rattle.capi_colours.specs.Outputs.{onAnswer}
+use Rattle.capi.specs.numbers.Numbers.{bitOf, onAnswer}
 
 abbrev pub endOf : RuleDescending → ℕ → ℕ
 endOf a old = onAnswer (ruleDescendingTold a .1) (λ c. c .state) old
