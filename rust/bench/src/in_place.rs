@@ -188,8 +188,17 @@ fn screens_by_bytes(loaded: &Session, lent: &Lent, (nodes, labels): &List, turns
     };
     let [mut parts, mut others] = [0; 2];
     for (screen, parts) in [(turns.screen, &mut parts), (turns.other, &mut others)] {
-        let number =
-            slices::screens_start(&mut records, screen as u32, plan, rules, node_table, state_table, nodes, labels, parts);
+        let number = slices::screens_start(
+            &mut records,
+            screen as u32,
+            plan,
+            rules,
+            node_table,
+            state_table,
+            nodes,
+            labels,
+            parts,
+        );
         told("Start on a screen", number);
     }
     let mut next = turns.first as u32;
