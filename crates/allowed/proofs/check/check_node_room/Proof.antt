@@ -12,9 +12,6 @@ use Rattle.allowed.proofs.check.check_node_room.Lts as lts
 use Rattle.formats.proofs.bytes.read32.Reads as read32-reads
 use Rattle.formats.proofs.inputs.check_rule_inputs.Reads as check-rule-inputs-reads
 
-check-rule-inputs-requires : tie.Need-check-rule-inputs-requires
-check-rule-inputs-requires c κs = search needs
-
 returns : tie.Need-returns
 returns c = let g = c .before .before .before .before .args in first-no (g .plan .now) (g .rules .now) (g .room) (c .before .check-rule-inputs .result)
     (c .before .check-rule-inputs .ensures) (c .if1 .taken)
@@ -38,4 +35,4 @@ returns-3 c =
 
 pub check-node-room-spec : {M : Type 1} → statement M
 check-node-room-spec =
-    tie.close (tie.spec check-rule-inputs-requires returns read32-requires returns-2 returns-3)
+    tie.close (tie.spec (λ c κs. search needs) returns read32-requires returns-2 returns-3)

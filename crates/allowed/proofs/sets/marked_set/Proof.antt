@@ -10,13 +10,10 @@ use Rattle.allowed.proofs.sets.marked_set.Reads as reads
 use Rattle.allowed.proofs.sets.marked_set.Lts as lts
 use Rattle.state_sets.proofs.gather.gathered.Reads as gathered-reads
 
-gathered-requires : tie.Need-gathered-requires
-gathered-requires c κs = search needs
-
 returns : tie.Need-returns
 returns c =
     let t = c .before .before in
     (c .gathered .ensures, omega (arith, c .gathered .ensures, gathered-below (t .args .marks .now) 0 1 2 (t .args .s) (t .pre .few)))
 
 pub marked-set-spec : {M : Type 1} → statement M
-marked-set-spec = tie.close (tie.spec gathered-requires returns)
+marked-set-spec = tie.close (tie.spec (λ c κs. search needs) returns)

@@ -7,11 +7,8 @@ use Rattle.state_sets.proofs.gather.bit_of.Tie as tie
 use Rattle.state_sets.proofs.gather.bit_of.Reads as reads
 use Rattle.state_sets.proofs.gather.bit_of.Lts as lts
 
-shr-result : tie.Need-shr-result
-shr-result c = search needs
-
 returns : tie.Need-returns
 returns c = bit-is (c .args .set) (c .args .x)
 
 pub bit-of-spec : {M : Type 1} → statement M
-bit-of-spec = tie.close (tie.spec shr-result returns)
+bit-of-spec = tie.close (tie.spec (λ c. search needs) returns)

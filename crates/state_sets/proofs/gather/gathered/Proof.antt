@@ -37,15 +37,6 @@ bit-of-requires c κs =
     let i : ℕ = c .before .before .loop .i in
     omega (arith, s .pre .below (s .args .base + i * s .args .stride))
 
-with-bit-requires : tie.Need-with-bit-requires Inv-loop μ-loop
-with-bit-requires c κs = search needs
-
-add-i : tie.Need-add-i Inv-loop μ-loop
-add-i c = search needs
-
-loop-less : tie.Need-loop-less Inv-loop μ-loop
-loop-less c = search needs
-
 loop-again : tie.Need-loop-again Inv-loop μ-loop
 loop-again c =
     let a = c .before .before .before .before in
@@ -67,16 +58,5 @@ returns c =
 pub gathered-spec : {M : Type 1} → statement M
 gathered-spec =
     tie.close
-    (tie.spec
-    Inv-loop
-    μ-loop
-    loop-holds
-    mul-bit-of
-    add-bit-of
-    shared-slice-read-bit-of
-    bit-of-requires
-    with-bit-requires
-    add-i
-    loop-less
-    loop-again
-    returns)
+    (tie.spec Inv-loop μ-loop loop-holds mul-bit-of add-bit-of shared-slice-read-bit-of bit-of-requires
+    (λ c κs. search needs) (λ c. search needs) (λ c. search needs) loop-again returns)

@@ -7,9 +7,6 @@ use Rattle.state_sets.proofs.gather.with_bit.Tie as tie
 use Rattle.state_sets.proofs.gather.with_bit.Reads as reads
 use Rattle.state_sets.proofs.gather.with_bit.Lts as lts
 
-shl-result : tie.Need-shl-result
-shl-result c = search needs
-
 returns : tie.Need-returns
 returns c =
     let a = c .args in
@@ -17,4 +14,4 @@ returns c =
     (e, rw e (bound (a .b) (a .i) (a .r) (c .pre .one) (c .pre .low)))
 
 pub with-bit-spec : {M : Type 1} → statement M
-with-bit-spec = tie.close (tie.spec shl-result returns)
+with-bit-spec = tie.close (tie.spec (λ c. search needs) returns)

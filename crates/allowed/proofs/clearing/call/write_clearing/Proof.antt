@@ -11,79 +11,10 @@ use Rattle.allowed.proofs.clearing.call.write_clearing.Lts as lts
 use Rattle.allowed.proofs.clearing.call.write_sets.Reads as write-sets-reads
 use Rattle.formats.proofs.rules.inner_count.Reads as inner-count-reads
 
-add-end : tie.Need-add-end
-add-end c = search needs
-
-inner-count-requires : tie.Need-inner-count-requires
-inner-count-requires c κs = search needs
-
-add-end-2 : tie.Need-add-end-2
-add-end-2 c = search needs
-
-add-write-sets : tie.Need-add-write-sets
-add-write-sets c = search needs
-
-sub-write-sets : tie.Need-sub-write-sets
-sub-write-sets c = search needs
-
-part-write-sets-start : tie.Need-part-write-sets-start
-part-write-sets-start c = search needs
-
-part-write-sets-end : tie.Need-part-write-sets-end
-part-write-sets-end c = search needs
-
-add-write-sets-2 : tie.Need-add-write-sets-2
-add-write-sets-2 c = search needs
-
-sub-write-sets-2 : tie.Need-sub-write-sets-2
-sub-write-sets-2 c = search needs
-
-part-write-sets-start-2 : tie.Need-part-write-sets-start-2
-part-write-sets-start-2 c = search needs
-
-part-write-sets-end-2 : tie.Need-part-write-sets-end-2
-part-write-sets-end-2 c = search needs
-
-add-write-sets-3 : tie.Need-add-write-sets-3
-add-write-sets-3 c = search needs
-
-sub-write-sets-3 : tie.Need-sub-write-sets-3
-sub-write-sets-3 c = search needs
-
-part-write-sets-start-3 : tie.Need-part-write-sets-start-3
-part-write-sets-start-3 c = search needs
-
-part-write-sets-end-3 : tie.Need-part-write-sets-end-3
-part-write-sets-end-3 c = search needs
-
-add-write-sets-4 : tie.Need-add-write-sets-4
-add-write-sets-4 c = search needs
-
-sub-write-sets-4 : tie.Need-sub-write-sets-4
-sub-write-sets-4 c = search needs
-
-part-write-sets-start-4 : tie.Need-part-write-sets-start-4
-part-write-sets-start-4 c = search needs
-
-part-write-sets-end-4 : tie.Need-part-write-sets-end-4
-part-write-sets-end-4 c = search needs
-
-sub-write-sets-5 : tie.Need-sub-write-sets-5
-sub-write-sets-5 c = search needs
-
-part-write-sets-start-5 : tie.Need-part-write-sets-start-5
-part-write-sets-start-5 c = search needs
-
-part-write-sets-end-5 : tie.Need-part-write-sets-end-5
-part-write-sets-end-5 c = search needs
-
 write-sets-requires : tie.Need-write-sets-requires
 write-sets-requires c κs =
     let i = c .before .before .before .before .before .before in
     parts-given (c .before .before .before .before .before .before .before .before .before .before .pre) (i .inner-count .result) (i .inner-count .ensures .value)
-
-same-length : tie.Need-same-length
-same-length c = search needs
 
 returns : tie.Need-returns
 returns c =
@@ -95,29 +26,8 @@ returns c =
 pub write-clearing-spec : {M : Type 1} → statement M
 write-clearing-spec =
     tie.close
-    (tie.spec
-    add-end
-    inner-count-requires
-    add-end-2
-    add-write-sets
-    sub-write-sets
-    part-write-sets-start
-    part-write-sets-end
-    add-write-sets-2
-    sub-write-sets-2
-    part-write-sets-start-2
-    part-write-sets-end-2
-    add-write-sets-3
-    sub-write-sets-3
-    part-write-sets-start-3
-    part-write-sets-end-3
-    add-write-sets-4
-    sub-write-sets-4
-    part-write-sets-start-4
-    part-write-sets-end-4
-    sub-write-sets-5
-    part-write-sets-start-5
-    part-write-sets-end-5
-    write-sets-requires
-    same-length
-    returns)
+    (tie.spec (λ c. search needs) (λ c κs. search needs) (λ c. search needs) (λ c. search needs) (λ c. search needs)
+    (λ c. search needs) (λ c. search needs) (λ c. search needs) (λ c. search needs) (λ c. search needs)
+    (λ c. search needs) (λ c. search needs) (λ c. search needs) (λ c. search needs) (λ c. search needs)
+    (λ c. search needs) (λ c. search needs) (λ c. search needs) (λ c. search needs) (λ c. search needs)
+    (λ c. search needs) (λ c. search needs) write-sets-requires (λ c. search needs) returns)

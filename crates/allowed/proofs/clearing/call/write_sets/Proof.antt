@@ -16,9 +16,6 @@ use Rattle.allowed.proofs.clearing.call.write_sets.Tie as tie
 use Rattle.allowed.proofs.clearing.call.write_sets.Reads as reads
 use Rattle.allowed.proofs.clearing.call.write_sets.Lts as lts
 
-pairs-up-requires : tie.Need-pairs-up-requires
-pairs-up-requires c κs = search needs
-
 marked-set-requires : tie.Need-marked-set-requires
 marked-set-requires c κs = mark-args (c .before .before .before .before .before .before .before .before .before .before .args .marks .now) (c .before .before .before .before .before .before .before .before .before .before .args .s) (c .before .before .before .before .before .before .before .before .before .before .pre .0 .few) (c .before .before .before .before .before .before .before .before .before .before .pre .1)
 
@@ -36,9 +33,6 @@ sets-down-requires c κs =
           (down-start (g .kinds .now) (g .labels .now) (g .leaves .now) (g .inner .now) (g .s) (g .k) (c .before .before .before .before .before .before .before .before .before .before .before .before .pre .0) (g .marks .now) (g .cells .now) (c .before .before .before .before .pairs-up .last .1 .1 .1 .1 .1 .1 .0) (c .before .before .before .before .pairs-up .ensures));
     }
 
-same-length : tie.Need-same-length
-same-length c = search needs
-
 returns : tie.Need-returns
 returns c =
     let g = c .before .before .before .before .before .before .before .before .before .before .before .before .before .before .before .args in
@@ -50,9 +44,4 @@ returns c =
 pub write-sets-spec : {M : Type 1} → statement M
 write-sets-spec =
     tie.close
-    (tie.spec
-    pairs-up-requires
-    marked-set-requires
-    sets-down-requires
-    same-length
-    returns)
+    (tie.spec (λ c κs. search needs) marked-set-requires sets-down-requires (λ c. search needs) returns)

@@ -7,17 +7,8 @@ use Rattle.allowed.proofs.clearing.cells.first_of.Tie as tie
 use Rattle.allowed.proofs.clearing.cells.first_of.Reads as reads
 use Rattle.allowed.proofs.clearing.cells.first_of.Lts as lts
 
-shared-slice-read-if1 : tie.Need-shared-slice-read-if1
-shared-slice-read-if1 c = search needs
-
 returns : tie.Need-returns
 returns c = first-of-leaf (c .before .before .args .kinds .now) (c .before .before .args .cells .now) (c .before .before .args .u) (c .if1 .taken)
-
-mul-result : tie.Need-mul-result
-mul-result c = search needs
-
-shared-slice-read-result : tie.Need-shared-slice-read-result
-shared-slice-read-result c = search needs
 
 cast-result : tie.Need-cast-result
 cast-result c = omega (arith, c .shared-slice-known2 .given (c .before .before .before .args .u))
@@ -28,10 +19,4 @@ returns-2 c = first-of-inner (c .before .before .before .args .kinds .now) (c .b
 pub first-of-spec : {M : Type 1} → statement M
 first-of-spec =
     tie.close
-    (tie.spec
-    shared-slice-read-if1
-    returns
-    mul-result
-    shared-slice-read-result
-    cast-result
-    returns-2)
+    (tie.spec (λ c. search needs) returns (λ c. search needs) (λ c. search needs) cast-result returns-2)

@@ -11,18 +11,6 @@ use Rattle.allowed.proofs.clearing.cells.state_of.Tie as tie
 use Rattle.allowed.proofs.clearing.cells.state_of.Reads as reads
 use Rattle.allowed.proofs.clearing.cells.state_of.Lts as lts
 
-shared-slice-read-if1 : tie.Need-shared-slice-read-if1
-shared-slice-read-if1 c = search needs
-
-shared-slice-read-result : tie.Need-shared-slice-read-result
-shared-slice-read-result c = search needs
-
-cast-result : tie.Need-cast-result
-cast-result c = search needs
-
-shared-slice-read-result-2 : tie.Need-shared-slice-read-result-2
-shared-slice-read-result-2 c = search needs
-
 cast-result-2 : tie.Need-cast-result-2
 cast-result-2 c = omega (arith, c .shared-slice-known7 .given (getD (c .before .before .before .before .before .before .before .before .args .labels .now) (c .before .before .before .before .before .before .before .before .args .u) 0))
 
@@ -54,16 +42,5 @@ returns-2 c =
 pub state-of-spec : {M : Type 1} → statement M
 state-of-spec =
     tie.close
-    (tie.spec
-    shared-slice-read-if1
-    shared-slice-read-result
-    cast-result
-    shared-slice-read-result-2
-    cast-result-2
-    returns
-    sub-first-of
-    first-of-requires
-    mul-result
-    shared-slice-read-result-3
-    cast-result-3
-    returns-2)
+    (tie.spec (λ c. search needs) (λ c. search needs) (λ c. search needs) (λ c. search needs) cast-result-2 returns
+    sub-first-of first-of-requires mul-result shared-slice-read-result-3 cast-result-3 returns-2)

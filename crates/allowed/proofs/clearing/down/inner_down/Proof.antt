@@ -14,24 +14,6 @@ use Rattle.allowed.proofs.clearing.down.inner_down.Tie as tie
 use Rattle.allowed.proofs.clearing.down.inner_down.Reads as reads
 use Rattle.allowed.proofs.clearing.down.inner_down.Lts as lts
 
-sub-first-of : tie.Need-sub-first-of
-sub-first-of c = search needs
-
-first-of-requires : tie.Need-first-of-requires
-first-of-requires c κs = search needs
-
-mul-x : tie.Need-mul-x
-mul-x c = search needs
-
-slice-read-x : tie.Need-slice-read-x
-slice-read-x c = search needs
-
-cast-p : tie.Need-cast-p
-cast-p c = search needs
-
-cast-q : tie.Need-cast-q
-cast-q c = search needs
-
 right-set-requires : tie.Need-right-set-requires
 right-set-requires c κs =
     let g = c .before .before .before .before .before .before .args in
@@ -43,27 +25,6 @@ left-set-requires c κs =
     let g = c .before .before .before .before .before .before .before .args in
     subst (λ (f : ℕ). SetArgs (g .inner .now) (g .s) (g .k) (getD (g .cells .now) f 0 % 16) (g .a) (getD (g .cells .now) f 0 / 16 % 16))
     (sym (c .before .before .first-of .ensures)) (c .before .before .before .before .before .before .before .pre .sets)
-
-cast-cells : tie.Need-cast-cells
-cast-cells c = search needs
-
-mul-cells : tie.Need-mul-cells
-mul-cells c = search needs
-
-slice-write-cells : tie.Need-slice-write-cells
-slice-write-cells c = search needs
-
-cast-cells-2 : tie.Need-cast-cells-2
-cast-cells-2 c = search needs
-
-mul-cells-2 : tie.Need-mul-cells-2
-mul-cells-2 c = search needs
-
-slice-write-cells-2 : tie.Need-slice-write-cells-2
-slice-write-cells-2 c = search needs
-
-same-length : tie.Need-same-length
-same-length c = search needs
 
 returns : tie.Need-returns
 returns c =
@@ -77,20 +38,6 @@ returns c =
 pub inner-down-spec : {M : Type 1} → statement M
 inner-down-spec =
     tie.close
-    (tie.spec
-    sub-first-of
-    first-of-requires
-    mul-x
-    slice-read-x
-    cast-p
-    cast-q
-    right-set-requires
-    left-set-requires
-    cast-cells
-    mul-cells
-    slice-write-cells
-    cast-cells-2
-    mul-cells-2
-    slice-write-cells-2
-    same-length
-    returns)
+    (tie.spec (λ c. search needs) (λ c κs. search needs) (λ c. search needs) (λ c. search needs) (λ c. search needs)
+    (λ c. search needs) right-set-requires left-set-requires (λ c. search needs) (λ c. search needs)
+    (λ c. search needs) (λ c. search needs) (λ c. search needs) (λ c. search needs) (λ c. search needs) returns)

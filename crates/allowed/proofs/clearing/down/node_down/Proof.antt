@@ -10,15 +10,6 @@ use Rattle.allowed.proofs.clearing.down.node_down.Tie as tie
 use Rattle.allowed.proofs.clearing.down.node_down.Reads as reads
 use Rattle.allowed.proofs.clearing.down.node_down.Lts as lts
 
-shared-slice-read-if1 : tie.Need-shared-slice-read-if1
-shared-slice-read-if1 c = search needs
-
-leaf-down-requires : tie.Need-leaf-down-requires
-leaf-down-requires c κs = search needs
-
-same-length : tie.Need-same-length
-same-length c = search needs
-
 returns : tie.Need-returns
 returns c =
     let g = c .before .before .before .before .before .before .before .before .before .before .args in (
@@ -26,17 +17,11 @@ returns c =
       c .before .before .leaf-down .ensures .1 ∙ leaf-set (g .kinds .now) (g .labels .now) (g .inner .now) (g .s) (g .k) (g .cells .now) (g .v) (g .c) (c .before .before .before .before .if1 .taken),
     )
 
-shared-slice-read-inner-down : tie.Need-shared-slice-read-inner-down
-shared-slice-read-inner-down c = search needs
-
 cast-inner-down : tie.Need-cast-inner-down
 cast-inner-down c = omega (arith, c .shared-slice-known5 .given (c .before .before .before .before .before .before .before .before .args .v))
 
 inner-down-requires : tie.Need-inner-down-requires
 inner-down-requires c κs = c .before .before .before .before .before .before .before .before .pre .inner (c .before .before .if1 .left)
-
-same-length-2 : tie.Need-same-length-2
-same-length-2 c = search needs
 
 returns-2 : tie.Need-returns-2
 returns-2 c =
@@ -48,13 +33,5 @@ returns-2 c =
 pub node-down-spec : {M : Type 1} → statement M
 node-down-spec =
     tie.close
-    (tie.spec
-    shared-slice-read-if1
-    leaf-down-requires
-    same-length
-    returns
-    shared-slice-read-inner-down
-    cast-inner-down
-    inner-down-requires
-    same-length-2
-    returns-2)
+    (tie.spec (λ c. search needs) (λ c κs. search needs) (λ c. search needs) returns (λ c. search needs)
+    cast-inner-down inner-down-requires (λ c. search needs) returns-2)

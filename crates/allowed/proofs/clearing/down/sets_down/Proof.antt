@@ -26,9 +26,6 @@ abbrev μ-loop : tie.MeasureT-loop
 loop-holds : tie.Need-loop-holds Inv-loop μ-loop
 loop-holds c = (omega arith, refl, λ leaves marks first G D. D)
 
-sub-v : tie.Need-sub-v Inv-loop μ-loop
-sub-v c = search needs
-
 node-down-requires : tie.Need-node-down-requires Inv-loop μ-loop
 node-down-requires c κs =
     let g = c .before .before .before .before .before .before .before .args in
@@ -38,9 +35,6 @@ node-down-requires c κs =
     (omega (arith, c .before .before .loop .inv .0, c .before .loop-test .taken)) (omega (arith, c .before .before .loop .inv .1, w .room)) (w .marks) (w .first)
     (subst (λ (i : ℕ). DownWritten (g .kinds .now) (g .labels .now) (w .leaves) (g .inner .now) (w .marks) (g .s) (g .k) i (c .before .before .loop .set)
     (w .first) (c .before .before .loop .cells)) e (c .before .before .loop .inv .2 (w .leaves) (w .marks) (w .first) (w .runs) (w .ready)))
-
-loop-less : tie.Need-loop-less Inv-loop μ-loop
-loop-less c = search needs
 
 loop-again : tie.Need-loop-again Inv-loop μ-loop
 loop-again c =
@@ -59,9 +53,6 @@ loop-again c =
           first (c .before .before .before .before .before .loop .cells)) e (c .before .before .before .before .before .loop .inv .2 leaves marks first G D)))),
     )
 
-same-length : tie.Need-same-length Inv-loop μ-loop
-same-length c = search needs
-
 returns : tie.Need-returns Inv-loop μ-loop
 returns c leaves marks first G D =
     let g = c .before .before .before .before .before .before .args in
@@ -73,13 +64,5 @@ returns c leaves marks first G D =
 pub sets-down-spec : {M : Type 1} → statement M
 sets-down-spec =
     tie.close
-    (tie.spec
-    Inv-loop
-    μ-loop
-    loop-holds
-    sub-v
-    node-down-requires
-    loop-less
-    loop-again
-    same-length
-    returns)
+    (tie.spec Inv-loop μ-loop loop-holds (λ c. search needs) node-down-requires (λ c. search needs) loop-again
+    (λ c. search needs) returns)

@@ -13,44 +13,17 @@ use Rattle.allowed.proofs.clearing.up.inner_up.Tie as tie
 use Rattle.allowed.proofs.clearing.up.inner_up.Reads as reads
 use Rattle.allowed.proofs.clearing.up.inner_up.Lts as lts
 
-sub-first-of : tie.Need-sub-first-of
-sub-first-of c = search needs
-
-first-of-requires : tie.Need-first-of-requires
-first-of-requires c κs = search needs
-
 pair-cell-requires : tie.Need-pair-cell-requires
 pair-cell-requires c κs =
     let g = c .before .before .before .before .before .before .before .before .args in
     subst (λ (f : ℕ). PairArgs (g .kinds .now) (g .labels .now) (g .leaves .now) (g .inner .now) (g .s) (g .k) (g .cells .now) f (g .v))
     (sym (c .before .first-of .ensures)) (c .before .before .before .before .before .before .before .before .pre .pair)
 
-sub-first-of-2 : tie.Need-sub-first-of-2
-sub-first-of-2 c = search needs
-
-first-of-requires-2 : tie.Need-first-of-requires-2
-first-of-requires-2 c κs = search needs
-
-mul-cells : tie.Need-mul-cells
-mul-cells c = search needs
-
-slice-write-cells : tie.Need-slice-write-cells
-slice-write-cells c = search needs
-
 cast-cells : tie.Need-cast-cells
 cast-cells c =
     let g = c .before .before .before .before .before .before .before .before .before .before .before .args in
     let e = ap (λ (f : ℕ). firstIn (g .kinds .now) (g .cells .now) (f - 1)) (c .before .before .before .before .first-of .ensures) in
     omega (arith, c .first-of2 .ensures, e, c .before .before .before .before .before .before .before .before .before .before .before .pre .left-low)
-
-mul-cells-2 : tie.Need-mul-cells-2
-mul-cells-2 c = search needs
-
-slice-write-cells-2 : tie.Need-slice-write-cells-2
-slice-write-cells-2 c = search needs
-
-same-length : tie.Need-same-length
-same-length c = search needs
 
 returns : tie.Need-returns
 returns c =
@@ -61,16 +34,6 @@ returns c =
 pub inner-up-spec : {M : Type 1} → statement M
 inner-up-spec =
     tie.close
-    (tie.spec
-    sub-first-of
-    first-of-requires
-    pair-cell-requires
-    sub-first-of-2
-    first-of-requires-2
-    mul-cells
-    slice-write-cells
-    cast-cells
-    mul-cells-2
-    slice-write-cells-2
-    same-length
+    (tie.spec (λ c. search needs) (λ c κs. search needs) pair-cell-requires (λ c. search needs) (λ c κs. search needs)
+    (λ c. search needs) (λ c. search needs) cast-cells (λ c. search needs) (λ c. search needs) (λ c. search needs)
     returns)

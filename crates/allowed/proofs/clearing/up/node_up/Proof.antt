@@ -9,9 +9,6 @@ use Rattle.allowed.proofs.clearing.up.node_up.Tie as tie
 use Rattle.allowed.proofs.clearing.up.node_up.Reads as reads
 use Rattle.allowed.proofs.clearing.up.node_up.Lts as lts
 
-shared-slice-read-if1 : tie.Need-shared-slice-read-if1
-shared-slice-read-if1 c = search needs
-
 returns : tie.Need-returns
 returns c =
     let g = c .before .before .before .before .before .before .before .args in
@@ -19,9 +16,6 @@ returns c =
 
 inner-up-requires : tie.Need-inner-up-requires
 inner-up-requires c κs = c .before .before .before .before .before .before .before .before .pre .inner (c .before .if1 .left)
-
-same-length : tie.Need-same-length
-same-length c = search needs
 
 returns-2 : tie.Need-returns-2
 returns-2 c =
@@ -32,9 +26,4 @@ returns-2 c =
 pub node-up-spec : {M : Type 1} → statement M
 node-up-spec =
     tie.close
-    (tie.spec
-    shared-slice-read-if1
-    returns
-    inner-up-requires
-    same-length
-    returns-2)
+    (tie.spec (λ c. search needs) returns inner-up-requires (λ c. search needs) returns-2)

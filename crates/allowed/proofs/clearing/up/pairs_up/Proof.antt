@@ -29,12 +29,6 @@ node-up-requires c κs =
     node-args (g .kinds .now) (g .labels .now) (g .leaves .now) (g .inner .now) (g .s) (g .k) (c .before .before .before .before .before .before .before .before .pre .0) (c .before .before .loop .v) (g .cells .now) (c .before .before .loop .cells)
     (c .before .loop-test .taken) (c .before .before .loop .inv .2) (omega (arith, c .before .before .before .before .before .before .before .before .pre .1, c .before .before .loop .inv .1))
 
-add-v : tie.Need-add-v Inv-loop μ-loop
-add-v c = search needs
-
-loop-less : tie.Need-loop-less Inv-loop μ-loop
-loop-less c = search needs
-
 loop-again : tie.Need-loop-again Inv-loop μ-loop
 loop-again c =
     let g = c .before .before .before .before .before .before .before .before .before .before .before .args in (
@@ -45,9 +39,6 @@ loop-again c =
           (omega (arith, c .before .before .before .before .before .before .before .before .before .before .before .pre .1, c .before .before .before .before .before .loop .inv .1))),
     )
 
-same-length : tie.Need-same-length Inv-loop μ-loop
-same-length c = search needs
-
 returns : tie.Need-returns Inv-loop μ-loop
 returns c =
     let g = c .before .before .before .before .before .before .before .args in
@@ -57,13 +48,5 @@ returns c =
 pub pairs-up-spec : {M : Type 1} → statement M
 pairs-up-spec =
     tie.close
-    (tie.spec
-    Inv-loop
-    μ-loop
-    loop-holds
-    node-up-requires
-    add-v
-    loop-less
-    loop-again
-    same-length
-    returns)
+    (tie.spec Inv-loop μ-loop loop-holds node-up-requires (λ c. search needs) (λ c. search needs) loop-again
+    (λ c. search needs) returns)

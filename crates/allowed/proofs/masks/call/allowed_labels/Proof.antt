@@ -21,9 +21,6 @@ passed : (c : tie.Else1)
     → let g = c .before .before .before .before .before .args in firstNo (nodeRoomChecks (g .plan .now) (g .rules .now) (length (g .masks .now))) ≡ 0
 passed c = sym (c .before .check-node-room .ensures) ∙ c .if1 .left
 
-check-node-room-requires : tie.Need-check-node-room-requires
-check-node-room-requires c κs = search needs
-
 returns : tie.Need-returns
 returns c =
     let g = c .before .before .before .before .before .args in
@@ -52,9 +49,6 @@ write-allowed-requires c κs =
     (table-yes (g .plan .now) (g .rules .now) (length (g .masks .now)) (passed (c .before .before .before .before)))
     (length (g .masks .now)) (room-yes (g .plan .now) (g .rules .now) (length (g .masks .now)) (passed (c .before .before .before .before))))
 
-same-length : tie.Need-same-length
-same-length c = search needs
-
 returns-2 : tie.Need-returns-2
 returns-2 c =
     let g = c .before .before .before .before .before .before .before .before .before .before .before .before .args in
@@ -64,12 +58,5 @@ returns-2 c =
 pub allowed-labels-spec : {M : Type 1} → statement M
 allowed-labels-spec =
     tie.close
-    (tie.spec
-    check-node-room-requires
-    returns
-    read32-requires
-    read32-requires-2
-    read32-requires-3
-    write-allowed-requires
-    same-length
-    returns-2)
+    (tie.spec (λ c κs. search needs) returns read32-requires read32-requires-2 read32-requires-3
+    write-allowed-requires (λ c. search needs) returns-2)

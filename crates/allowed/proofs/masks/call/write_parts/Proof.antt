@@ -13,9 +13,6 @@ use Rattle.allowed.proofs.masks.call.set_root.Reads as set-root-reads
 use Rattle.allowed.proofs.masks.down.come_down.Reads as come-down-reads
 use Rattle.allowed.proofs.masks.up.run_up.Reads as run-up-reads
 
-run-up-requires : tie.Need-run-up-requires
-run-up-requires c κs = search needs
-
 sub-set-root : tie.Need-sub-set-root
 sub-set-root c =
     let t = c .before .before .before .before .before .before .before .before .before .before in
@@ -44,9 +41,6 @@ come-down-requires c κs =
           (c .before .before .before .set-root .last .1 .1 .1 .0) (c .before .before .before .set-root .ensures);
     }
 
-same-length : tie.Need-same-length
-same-length c = search needs
-
 returns : tie.Need-returns
 returns c =
     let t = c .before .before .before .before .before .before .before .before .before .before .before .before .before .before .before .before .before .before in
@@ -60,10 +54,4 @@ returns c =
 pub write-parts-spec : {M : Type 1} → statement M
 write-parts-spec =
     tie.close
-    (tie.spec
-    run-up-requires
-    sub-set-root
-    set-root-requires
-    come-down-requires
-    same-length
-    returns)
+    (tie.spec (λ c κs. search needs) sub-set-root set-root-requires come-down-requires (λ c. search needs) returns)

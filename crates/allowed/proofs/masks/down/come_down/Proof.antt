@@ -25,9 +25,6 @@ abbrev μ-loop : tie.MeasureT-loop
 loop-holds : tie.Need-loop-holds Inv-loop μ-loop
 loop-holds c = (omega arith, refl, λ marks first D. D)
 
-sub-v : tie.Need-sub-v Inv-loop μ-loop
-sub-v c = search needs
-
 node-down-requires : tie.Need-node-down-requires Inv-loop μ-loop
 node-down-requires c κs =
     let t = c .before .before .before .before .before .before .before .before in
@@ -39,9 +36,6 @@ node-down-requires c κs =
     (omega (arith, l .inv .0, h)) (omega (arith, l .inv .1, t .pre .room)) (t .pre .marks) (t .pre .first)
     (subst (λ (i : ℕ). DownWritten (g .kinds .now) (g .labels .now) (g .leaves .now) (g .inner .now) (t .pre .marks) (g .s) (g .k) i
     (t .pre .first) (l .cells)) e (l .inv .2 (t .pre .marks) (t .pre .first) (t .pre .ready)))
-
-loop-less : tie.Need-loop-less Inv-loop μ-loop
-loop-less c = search needs
 
 loop-again : tie.Need-loop-again Inv-loop μ-loop
 loop-again c =
@@ -60,9 +54,6 @@ loop-again c =
           first (l .cells)) e (l .inv .2 marks first D))),
     )
 
-same-length : tie.Need-same-length Inv-loop μ-loop
-same-length c = search needs
-
 returns : tie.Need-returns Inv-loop μ-loop
 returns c marks first D =
     let g = c .before .before .before .before .before .before .before .args in
@@ -74,13 +65,5 @@ returns c marks first D =
 pub come-down-spec : {M : Type 1} → statement M
 come-down-spec =
     tie.close
-    (tie.spec
-    Inv-loop
-    μ-loop
-    loop-holds
-    sub-v
-    node-down-requires
-    loop-less
-    loop-again
-    same-length
-    returns)
+    (tie.spec Inv-loop μ-loop loop-holds (λ c. search needs) node-down-requires (λ c. search needs) loop-again
+    (λ c. search needs) returns)

@@ -11,24 +11,6 @@ use Rattle.allowed.proofs.masks.down.leaf_down.Reads as reads
 use Rattle.allowed.proofs.masks.down.leaf_down.Lts as lts
 use Rattle.state_sets.proofs.gather.gathered.Reads as gathered-reads
 
-mul-c : tie.Need-mul-c
-mul-c c = search needs
-
-slice-read-c : tie.Need-slice-read-c
-slice-read-c c = search needs
-
-gathered-requires : tie.Need-gathered-requires
-gathered-requires c κs = search needs
-
-mul-cells : tie.Need-mul-cells
-mul-cells c = search needs
-
-slice-write-cells : tie.Need-slice-write-cells
-slice-write-cells c = search needs
-
-same-length : tie.Need-same-length
-same-length c = search needs
-
 returns : tie.Need-returns
 unfolding leafDown
 returns c = let g = c .before .before .before .before .args in ap (set (g .cells .now) (g .v)) (c .gathered .ensures)
@@ -36,4 +18,5 @@ returns c = let g = c .before .before .before .before .args in ap (set (g .cells
 pub leaf-down-spec : {M : Type 1} → statement M
 leaf-down-spec =
     tie.close
-    (tie.spec mul-c slice-read-c gathered-requires mul-cells slice-write-cells same-length returns)
+    (tie.spec (λ c. search needs) (λ c. search needs) (λ c κs. search needs) (λ c. search needs) (λ c. search needs)
+    (λ c. search needs) returns)

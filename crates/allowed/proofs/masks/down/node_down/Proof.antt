@@ -12,24 +12,12 @@ use Rattle.allowed.proofs.masks.down.node_down.Lts as lts
 use Rattle.allowed.proofs.masks.down.inner_down.Reads as inner-down-reads
 use Rattle.allowed.proofs.masks.down.leaf_down.Reads as leaf-down-reads
 
-shared-slice-read-if1 : tie.Need-shared-slice-read-if1
-shared-slice-read-if1 c = search needs
-
-leaf-down-requires : tie.Need-leaf-down-requires
-leaf-down-requires c κs = search needs
-
-same-length : tie.Need-same-length
-same-length c = search needs
-
 returns : tie.Need-returns
 returns c =
     let t = c .before .before .before .before .before .before .before .before .before .before .before in
     let g = t .args in
     c .before .before .leaf-down .ensures
     ∙ leaf-case (g .kinds .now) (g .labels .now) (g .leaves .now) (g .inner .now) (g .s) (g .k) (g .cells .now) (g .v) (c .before .before .before .before .if1 .taken)
-
-shared-slice-read-inner-down : tie.Need-shared-slice-read-inner-down
-shared-slice-read-inner-down c = search needs
 
 cast-inner-down : tie.Need-cast-inner-down
 cast-inner-down c =
@@ -39,9 +27,6 @@ cast-inner-down c =
 inner-down-requires : tie.Need-inner-down-requires
 inner-down-requires c κs =
     let t = c .before .before .before .before .before .before .before .before .before in t .pre .inner (c .before .before .if1 .left)
-
-same-length-2 : tie.Need-same-length-2
-same-length-2 c = search needs
 
 returns-2 : tie.Need-returns-2
 returns-2 c =
@@ -53,13 +38,5 @@ returns-2 c =
 pub node-down-spec : {M : Type 1} → statement M
 node-down-spec =
     tie.close
-    (tie.spec
-    shared-slice-read-if1
-    leaf-down-requires
-    same-length
-    returns
-    shared-slice-read-inner-down
-    cast-inner-down
-    inner-down-requires
-    same-length-2
-    returns-2)
+    (tie.spec (λ c. search needs) (λ c κs. search needs) (λ c. search needs) returns (λ c. search needs)
+    cast-inner-down inner-down-requires (λ c. search needs) returns-2)

@@ -11,18 +11,6 @@ use Rattle.allowed.proofs.masks.up.node_cell.Reads as reads
 use Rattle.allowed.proofs.masks.up.node_cell.Lts as lts
 use Rattle.allowed.proofs.masks.up.inner_cell.Reads as inner-cell-reads
 
-shared-slice-read-a : tie.Need-shared-slice-read-a
-shared-slice-read-a c = search needs
-
-cast-a : tie.Need-cast-a
-cast-a c = search needs
-
-shared-slice-read-if1 : tie.Need-shared-slice-read-if1
-shared-slice-read-if1 c = search needs
-
-shared-slice-read-result : tie.Need-shared-slice-read-result
-shared-slice-read-result c = search needs
-
 cast-result : tie.Need-cast-result
 cast-result c =
     let t = c .before .before .before .before .before .before .before .before .before in
@@ -57,14 +45,5 @@ returns-2 c =
 pub node-cell-spec : {M : Type 1} → statement M
 node-cell-spec =
     tie.close
-    (tie.spec
-    shared-slice-read-a
-    cast-a
-    shared-slice-read-if1
-    shared-slice-read-result
-    cast-result
-    mul-result
-    add-result
-    returns
-    inner-cell-requires
-    returns-2)
+    (tie.spec (λ c. search needs) (λ c. search needs) (λ c. search needs) (λ c. search needs) cast-result mul-result
+    add-result returns inner-cell-requires returns-2)

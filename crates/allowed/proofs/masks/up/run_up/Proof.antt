@@ -31,18 +31,6 @@ node-cell-requires c κs =
     node-args (g .kinds .now) (g .labels .now) (g .leaves .now) (g .inner .now) (g .s) (g .k) (t .pre .0) (l .v) (g .cells .now)
     (l .cells) (c .before .loop-test .taken) (l .inv .2) (omega (arith, t .pre .1, l .inv .1))
 
-mul-cells : tie.Need-mul-cells Inv-loop μ-loop
-mul-cells c = search needs
-
-slice-write-cells : tie.Need-slice-write-cells Inv-loop μ-loop
-slice-write-cells c = search needs
-
-add-v : tie.Need-add-v Inv-loop μ-loop
-add-v c = search needs
-
-loop-less : tie.Need-loop-less Inv-loop μ-loop
-loop-less c = search needs
-
 loop-again : tie.Need-loop-again Inv-loop μ-loop
 loop-again c =
     let t = c .before .before .before .before .before .before .before .before .before in
@@ -57,9 +45,6 @@ loop-again c =
           (l .cells) h (l .inv .2) (omega (arith, t .pre .1, l .inv .1))),
     )
 
-same-length : tie.Need-same-length Inv-loop μ-loop
-same-length c = search needs
-
 returns : tie.Need-returns Inv-loop μ-loop
 returns c =
     let g = c .before .before .before .before .before .before .before .args in
@@ -71,15 +56,5 @@ returns c =
 pub run-up-spec : {M : Type 1} → statement M
 run-up-spec =
     tie.close
-    (tie.spec
-    Inv-loop
-    μ-loop
-    loop-holds
-    node-cell-requires
-    mul-cells
-    slice-write-cells
-    add-v
-    loop-less
-    loop-again
-    same-length
-    returns)
+    (tie.spec Inv-loop μ-loop loop-holds node-cell-requires (λ c. search needs) (λ c. search needs)
+    (λ c. search needs) (λ c. search needs) loop-again (λ c. search needs) returns)
