@@ -74,5 +74,5 @@ returns-2 c =
 pub answer-roots-spec : {M : Type 1} → statement M
 answer-roots-spec =
     tie.close
-    (tie.spec all-parts-requires (λ c. search needs) add-yes inner-count-requires add-yes-2 (λ c. search needs) add-yes-3
-    shared-slice-read-yes cast-t22 returns (λ c. search needs) returns-2)
+    (tie.spec all-parts-requires (λ c. search needs) add-yes inner-count-requires add-yes-2 (λ c. search needs)
+    add-yes-3 shared-slice-read-yes cast-t22 returns (λ c. search needs) returns-2)
