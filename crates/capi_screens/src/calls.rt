@@ -4,6 +4,9 @@ use capi_session::calls::whatif_advance;
 use capi_session::calls::whatif_cancel;
 use capi_session::calls::whatif_read;
 use capi_session::calls::whatif_start;
+use records::layout::RECORD_BYTES;
+use screens::LAST_SCREEN;
+use screens::SCREENS;
 use screens::one_past;
 ghost use mathlib.Core.Path.{_≡_};
 ghost use Prim.Native.Nat.{_<_};
@@ -16,20 +19,26 @@ ghost use Rattle.capi_screens.specs.RunLayout.{runLength, runs};
 ghost use Rattle.capi_screens.specs.ScreensExported.{ScreensCallExported, ScreensStartExported};
 ghost use Rattle.capi_screens.specs.ScreensExported.{ScreensDealExported, ScreensReadExported};
 
+// The bytes of a run: the records of all screens.
+pub const RUN_BYTES: usize = SCREENS * RECORD_BYTES;
+
+// The last screen's number, as the calls take it.
+const LAST: u32 = LAST_SCREEN as u32;
+
 // Cancel of one screen: its question is forgotten, its last finished answer kept.
 #[no_mangle]
 pub extern "C" fn whatif_screens_cancel(records: &mut [u8], screen: u32) -> u32
     ensures { λ r. ⌜
         ScreensCallExported (now (records .entry)) (screens.cancelOn screen) r (now (records .exit)) ⌝ }
 {
-    if records.len() != 7864 {
+    if records.len() != RUN_BYTES {
         return 25;
     }
-    if screen > 7 {
+    if screen > LAST {
         return 25;
     }
     let i = screen as usize;
-    whatif_cancel(&mut records[983 * i..983 * i + 983])
+    whatif_cancel(&mut records[RECORD_BYTES * i..RECORD_BYTES * i + RECORD_BYTES])
 }
 
 // Start on one screen: a question about a list of changes.
@@ -52,15 +61,15 @@ pub extern "C" fn whatif_screens_start(
         (now (nodes .entry)) (now (labels .entry)))
         r (now (records .exit)) (now (parts .entry)) (now (parts .exit)) ⌝ }
 {
-    if records.len() != 7864 {
+    if records.len() != RUN_BYTES {
         return 25;
     }
-    if screen > 7 {
+    if screen > LAST {
         return 25;
     }
     let i = screen as usize;
     whatif_start(
-        &mut records[983 * i..983 * i + 983],
+        &mut records[RECORD_BYTES * i..RECORD_BYTES * i + RECORD_BYTES],
         plan,
         rules,
         node_table,
@@ -87,15 +96,15 @@ pub extern "C" fn whatif_screens_read(
         (places (now (state .entry)) (now (yes .entry)) (now (parts .entry)) (now (links .entry)) (now (passed .entry)))
         (places (now (state .exit)) (now (yes .exit)) (now (parts .exit)) (now (links .exit)) (now (passed .exit))) ⌝ }
 {
-    if records.len() != 7864 {
+    if records.len() != RUN_BYTES {
         return 25;
     }
-    if screen > 7 {
+    if screen > LAST {
         return 25;
     }
     let i = screen as usize;
     whatif_read(
-        &records[983 * i..983 * i + 983],
+        &records[RECORD_BYTES * i..RECORD_BYTES * i + RECORD_BYTES],
         state,
         yes,
         parts,
@@ -111,15 +120,15 @@ fn next_running(records: &[u8], first: usize) -> usize
     ensures { λ r. ⌜ r ≡ found (runs (now (records .entry))) first ⌝ }
 {
     let mut at = first;
-    let mut left = 8usize;
+    let mut left = SCREENS;
     while left > 0 {
-        if records[983 * at] == 2 {
+        if records[RECORD_BYTES * at] == 2 {
             return at;
         }
         at = one_past(at);
         left = left - 1;
     }
-    8
+    SCREENS
 }
 
 // A deal: one advance for the next running screen; reports the screen to try first next time, and whether it finished.
@@ -141,18 +150,18 @@ pub extern "C" fn whatif_screens_deal(
         r (now (records .exit)) (now (next .entry)) (now (next .exit))
         (now (finished .entry)) (now (finished .exit)) ⌝ }
 {
-    if records.len() != 7864 {
+    if records.len() != RUN_BYTES {
         return 25;
     }
-    if first > 7 {
+    if first > LAST {
         return 25;
     }
     let i = next_running(records, first as usize);
-    if i > 7 {
+    if i > LAST_SCREEN {
         return 1;
     }
     let number = whatif_advance(
-        &mut records[983 * i..983 * i + 983],
+        &mut records[RECORD_BYTES * i..RECORD_BYTES * i + RECORD_BYTES],
         plan,
         rules,
         node_table,

@@ -1,7 +1,10 @@
 // Load of eight screens: refused with 1 where any runs or is no record; else one build with its checks, and all eight
 // records are as after a first Load of that plan.
+use crate::calls::RUN_BYTES;
 use capi_session::calls::whatif_load;
 use records::bytes::valid_bytes;
+use records::layout::RECORD_BYTES;
+use screens::SCREENS;
 ghost use mathlib.Core.Path.{_≡_};
 ghost use mathlib.Core.Bool.{not, _||_};
 ghost use lib.Dec.{eqb};
@@ -28,10 +31,10 @@ fn any_busy(records: &[u8]) -> bool
     requires { ⌜ length (now records) ≡ runLength ⌝ }
     ensures { λ r. ⌜ r ≡ anyRuns 8 (busy (now (records .entry))) ⌝ }
 {
-    let mut left = 8usize;
+    let mut left = SCREENS;
     while left > 0 {
-        let at = 983 * (left - 1);
-        if is_busy(&records[at..at + 983]) {
+        let at = RECORD_BYTES * (left - 1);
+        if is_busy(&records[at..at + RECORD_BYTES]) {
             return true;
         }
         left = left - 1;
@@ -44,9 +47,9 @@ fn copy_first(records: &mut [u8])
     requires { ⌜ length (now records) ≡ runLength ⌝ }
     ensures { λ _. ⌜ now (records .exit) ≡ rows 8 (λ i. take recordLength (now (records .entry))) ⌝ }
 {
-    let mut at = 983;
+    let mut at = RECORD_BYTES;
     while at < records.len() {
-        records[at] = records[at - 983];
+        records[at] = records[at - RECORD_BYTES];
         at += 1;
     }
 }
@@ -67,13 +70,19 @@ pub extern "C" fn whatif_screens_load(
         r (now (records .exit)) (now («node_table» .exit)) (now («state_table» .exit)) (now (next .entry))
         (now (next .exit)) ⌝ }
 {
-    if records.len() != 7864 {
+    if records.len() != RUN_BYTES {
         return 25;
     }
     if any_busy(records) {
         return 1;
     }
-    let number = whatif_load(&mut records[..983], plan, rules, node_table, state_table);
+    let number = whatif_load(
+        &mut records[..RECORD_BYTES],
+        plan,
+        rules,
+        node_table,
+        state_table,
+    );
     if number != 0 {
         return number;
     }

@@ -9,6 +9,10 @@ use branches::answers::Reading;
 use colour_tables::branch::build::colours_fit;
 use formats::buffers::headers_fit;
 use formats::bytes::read32;
+use formats::layout::BRANCH_HEAD;
+use formats::layout::LABEL_COUNT_AT;
+use formats::layout::NODE_COLUMNS;
+use formats::layout::PLAN_HEAD;
 use tables::node_tables::moves::is_below;
 ghost use mathlib.Core.Path.{_≡_};
 ghost use Rattle.branches.specs.declared.answers.Reading.the-variants.{WithUpper, BelowUpper};
@@ -26,19 +30,19 @@ fn colour_buffers_fit(
 ) -> bool
     ensures { λ r. ⌜ r ≡ colourBuffersFit (now (plan .entry)) (now (branch .entry)) «node_table» numbers bytes ⌝ }
 {
-    if !headers_fit(plan, branch, 16) {
+    if !headers_fit(plan, branch, BRANCH_HEAD) {
         return false;
     }
     let n = read32(plan, 0);
     let s = read32(branch, 0);
-    let k = read32(branch, 4);
-    if plan.len() != 12 + 2 * n {
+    let k = read32(branch, LABEL_COUNT_AT);
+    if plan.len() != PLAN_HEAD + 2 * n {
         return false;
     }
-    if branch.len() != 16 + s * k + s {
+    if branch.len() != BRANCH_HEAD + s * k + s {
         return false;
     }
-    if node_table < n * 4 {
+    if node_table < n * NODE_COLUMNS {
         return false;
     }
     colours_fit(n, s, numbers, bytes)
@@ -62,7 +66,7 @@ fn answer_colours(
 {
     let n = read32(plan, 0);
     let s = read32(branch, 0);
-    let k = read32(branch, 4);
+    let k = read32(branch, LABEL_COUNT_AT);
     let z = start_place(reading, node_table, n, u);
     if n < z {
         return Descending::Refused(18);
@@ -77,7 +81,7 @@ fn answer_colours(
     }
     finish(
         bytes,
-        &branch[16 + s * k..],
+        &branch[BRANCH_HEAD + s * k..],
         s,
         l,
         d.colour,

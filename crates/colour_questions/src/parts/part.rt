@@ -79,6 +79,7 @@ fn side_by_colours(
 }
 
 // The part of inner node v with left child l, whose right child is the node before it, and with label a.
+// On the many parameters see docs/DECISIONS.md, "Many parameters".
 fn fork_by_colours(
     inner: &[u8],
     node_table: &[u16],
@@ -161,6 +162,7 @@ fn leaf_state(leaves: &[u8], s: usize, k: usize, a: usize) -> Trial
 
 // The part of root v, after the earlier roots and their states, with the listed nodes' labels changed; m is the number
 // of sets of states.
+// On the many parameters see docs/DECISIONS.md, "Many parameters".
 pub fn part_by_colours(
     labels: &[u8],
     kinds: &[u8],

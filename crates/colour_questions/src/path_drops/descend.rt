@@ -3,6 +3,7 @@
 use crate::path_drops::drops::Dropping;
 use crate::path_drops::drops::next_drop;
 use crate::path_drops::drops::seen_at;
+use formats::layout::NODE_COLUMNS;
 ghost use mathlib.Core.Path.{_≡_};
 ghost use Rattle.colours.specs.Descents.{descend};
 ghost use Rattle.colour_tables.specs.ColourCells.{cellTable};
@@ -22,7 +23,7 @@ fn drop_in(nums: &[u16], n: usize, c: usize, top: bool, z: usize, l: usize) -> D
     requires { ⌜ DescendArgs n c (now nums) z l ⌝ }
     ensures { λ r. ⌜ DropDone n (now (nums .entry)) c (startPlace top z) l r ⌝ }
 {
-    let size = n * 4;
+    let size = n * NODE_COLUMNS;
     let from = c * size;
     let table = &nums[from..from + size];
     if top {

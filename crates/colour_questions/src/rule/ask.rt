@@ -5,6 +5,10 @@ use crate::rule::checks::check_asked;
 use crate::rule::parts::all_by_colours;
 use colour_tables::set_states::sets::set_count;
 use formats::bytes::read32;
+use formats::layout::LABEL_COUNT_AT;
+use formats::layout::NODE_COLUMNS;
+use formats::layout::PLAN_HEAD;
+use formats::layout::RULES_HEAD;
 use questions::changed_roots::roots_left;
 ghost use mathlib.Core.Path.{_≡_};
 ghost use Rattle.colour_questions.specs.rule.Promise.{linksKept, RuleAskDone};
@@ -34,11 +38,11 @@ fn answer_roots(
 {
     let m = set_count(s);
     let t = all_by_colours(
-        &plan[12..12 + n],
-        &plan[12 + n..],
-        &rules[20..20 + k],
-        &rules[20 + k..20 + k + s * k * s],
-        &node_table[..n * 4],
+        &plan[PLAN_HEAD..PLAN_HEAD + n],
+        &plan[PLAN_HEAD + n..],
+        &rules[RULES_HEAD..RULES_HEAD + k],
+        &rules[RULES_HEAD + k..RULES_HEAD + k + s * k * s],
+        &node_table[..n * NODE_COLUMNS],
         &state_table[..n * (s + 1)],
         numbers,
         &bytes[n * (s + 1)..],
@@ -54,7 +58,7 @@ fn answer_roots(
         return RuleDescending::Refused(18);
     }
     let q = t.state;
-    let yes = rules[20 + k + s * k * s + q as usize] == 1;
+    let yes = rules[RULES_HEAD + k + s * k * s + q as usize] == 1;
     RuleDescending::Answered(q, yes, t.drops, t.links, roots.len() as u32)
 }
 
@@ -77,7 +81,7 @@ fn answer_lent(
 {
     let n = read32(plan, 0);
     let s = read32(rules, 0);
-    let k = read32(rules, 4);
+    let k = read32(rules, LABEL_COUNT_AT);
     let found = roots_left(n, plan, node_table, nodes, labels);
     if !found.ok {
         return RuleDescending::Refused(18);

@@ -3,6 +3,8 @@ use colour_tables::rule::build::set_colours_fit;
 use formats::buffers::headers_fit;
 use formats::buffers::rule_buffers_fit;
 use formats::bytes::read32;
+use formats::layout::LABEL_COUNT_AT;
+use formats::layout::RULES_HEAD;
 use formats::lists::check_list;
 ghost use mathlib.Core.Path.{_≡_};
 ghost use Rattle.formats.specs.Checks.{firstNo};
@@ -21,12 +23,12 @@ fn tables_fit(
     ensures { λ r. ⌜ r ≡ ruleColoursFit (now (plan .entry)) (now (rules .entry)) «node_table» «state_table» numbers
         bytes ⌝ }
 {
-    if !headers_fit(plan, rules, 20) {
+    if !headers_fit(plan, rules, RULES_HEAD) {
         return false;
     }
     let n = read32(plan, 0);
     let s = read32(rules, 0);
-    let k = read32(rules, 4);
+    let k = read32(rules, LABEL_COUNT_AT);
     if !rule_buffers_fit(n, s, k, plan.len(), rules.len(), node_table, state_table) {
         return false;
     }
@@ -56,7 +58,7 @@ pub fn check_asked(
     }
     let n = read32(plan, 0);
     let s = read32(rules, 0);
-    let k = read32(rules, 4);
+    let k = read32(rules, LABEL_COUNT_AT);
     if 4 < s {
         return 27;
     }

@@ -2,10 +2,12 @@
 use crate::parts::part::lost;
 use crate::parts::part::part_by_colours;
 use crate::target_states::trials::Trial;
+use formats::limits::PART_LIMIT;
 ghost use Rattle.colour_questions.specs.parts.inner.Args.{colourView};
 ghost use Rattle.colour_questions.specs.rule.inner.Args.{AllArgs, AllDone};
 
 // The state of the last root, the drops of all trials and their links; m is the number of sets of states.
+// On the many parameters see docs/DECISIONS.md, "Many parameters".
 pub fn all_by_colours(
     labels: &[u8],
     kinds: &[u8],
@@ -30,7 +32,7 @@ pub fn all_by_colours(
         (now (inner .entry)) (now («node_table» .entry)) (now («state_table» .entry)) (now (numbers .entry))
         (now (copies .entry))) (now (nodes .entry)) (now (changes .entry)) (now (roots .entry)) r ⌝ }
 {
-    let mut states = [0u8; 254];
+    let mut states = [0u8; PART_LIMIT];
     let mut last: u8 = 0;
     let mut drops: u32 = 0;
     let mut links: u32 = 0;

@@ -2,6 +2,8 @@
 use crate::branch::fill::write_branch_colours;
 use formats::bytes::read32;
 use formats::inputs::check_branch_inputs;
+use formats::layout::LABEL_COUNT_AT;
+use formats::layout::NODE_COLUMNS;
 use tables::answers::Building;
 ghost use mathlib.Core.Path.{_≡_};
 ghost use lib.ListN.{length};
@@ -15,7 +17,7 @@ pub fn colours_fit(n: usize, s: usize, numbers: usize, bytes: usize) -> bool
     requires { ⌜ Sizes n s ⌝ }
     ensures { λ r. ⌜ r ≡ coloursFit n s numbers bytes ⌝ }
 {
-    if numbers < s * (n * 4) {
+    if numbers < s * (n * NODE_COLUMNS) {
         return false;
     }
     n * s <= bytes
@@ -58,7 +60,7 @@ pub fn build_branch_colours(
     }
     let n = read32(plan, 0);
     let s = read32(branch, 0);
-    let k = read32(branch, 4);
+    let k = read32(branch, LABEL_COUNT_AT);
     write_branch_colours(plan, branch, n, s, k, numbers, bytes);
     Building::Built
 }

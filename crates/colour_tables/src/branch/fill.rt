@@ -2,6 +2,8 @@
 // land on, and then each colour's own table.
 use crate::forests::all_colours::write_colours;
 use crate::states::words::write_words;
+use formats::layout::BRANCH_HEAD;
+use formats::layout::PLAN_HEAD;
 use tables::node_tables::build::build_node_table;
 ghost use lib.ListN.{length};
 ghost use Rattle.colour_tables.specs.branch.inner.Filled.{FillArgs, Filled, PartArgs, ColoursWritten};
@@ -42,9 +44,9 @@ pub fn write_branch_colours(
         (now (numbers .exit)) (now (bytes .exit)) ⌝ }
 {
     fill_colours(
-        &plan[12..12 + n],
-        &plan[12 + n..],
-        &branch[16..16 + s * k],
+        &plan[PLAN_HEAD..PLAN_HEAD + n],
+        &plan[PLAN_HEAD + n..],
+        &branch[BRANCH_HEAD..BRANCH_HEAD + s * k],
         s,
         k,
         numbers,

@@ -1,6 +1,9 @@
 // A colour's table, from the root down: each node's row from its parent's. The first table of the numbers is the
 // plan's own node table; colour c's follows after c of the same length, and its fourth numbers, the colours landed on,
 // are there already.
+use formats::layout::DEPTH;
+use formats::layout::JUMP;
+use formats::layout::NODE_COLUMNS;
 use tables::node_tables::down::by_distances;
 use tables::node_tables::moves::parent_at;
 use tables::node_tables::moves::size_at;
@@ -26,14 +29,14 @@ fn row_below(table: &[u16], c: usize, v: usize, p: usize) -> Row
 {
     if size_at(table, p) < c {
         let jump = by_distances(table, p);
-        let depth = table[p * 4 + 2] + 1;
+        let depth = table[p * NODE_COLUMNS + DEPTH] + 1;
         return Row {
             up: p as u16,
             jump,
             depth,
         };
     }
-    if table[p * 4 + 2] == 0 {
+    if table[p * NODE_COLUMNS + DEPTH] == 0 {
         return Row {
             up: v as u16,
             jump: v as u16,
@@ -41,9 +44,9 @@ fn row_below(table: &[u16], c: usize, v: usize, p: usize) -> Row
         };
     }
     Row {
-        up: table[p * 4],
-        jump: table[p * 4 + 1],
-        depth: table[p * 4 + 2],
+        up: table[p * NODE_COLUMNS],
+        jump: table[p * NODE_COLUMNS + JUMP],
+        depth: table[p * NODE_COLUMNS + DEPTH],
     }
 }
 
@@ -60,7 +63,7 @@ fn next_row(nums: &[u16], n: usize, c: usize, v: usize) -> Row
         };
     }
     let p = parent_at(nums, v);
-    let size = n * 4;
+    let size = n * NODE_COLUMNS;
     let from = c * size;
     row_below(&nums[from..from + size], c, v, p)
 }
@@ -85,6 +88,6 @@ pub fn write_colour(nums: &mut [u16], n: usize, c: usize)
     while 0 < v {
         v -= 1;
         let row = next_row(nums, n, c, v);
-        put_row(nums, c * (n * 4) + v * 4, row);
+        put_row(nums, c * (n * NODE_COLUMNS) + v * NODE_COLUMNS, row);
     }
 }

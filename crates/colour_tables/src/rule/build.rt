@@ -2,6 +2,9 @@
 use crate::rule::fill::write_rule_colours;
 use crate::set_states::sets::set_count;
 use formats::bytes::read32;
+use formats::layout::LABEL_COUNT_AT;
+use formats::layout::NODE_COLUMNS;
+use formats::layout::PLAN_HEAD;
 use formats::plan::check_plan;
 use formats::rules::all_below;
 use formats::rules::check_rule_bytes;
@@ -19,7 +22,7 @@ pub fn set_colours_fit(n: usize, s: usize, numbers: usize, bytes: usize) -> bool
     ensures { λ r. ⌜ r ≡ setColoursFit n s numbers bytes ⌝ }
 {
     let count = set_count(s);
-    if numbers < count * (n * 4) {
+    if numbers < count * (n * NODE_COLUMNS) {
         return false;
     }
     n * (s + 1) + n * count <= bytes
@@ -39,11 +42,11 @@ fn check_rule_colours(plan: &[u8], rules: &[u8], numbers: usize, bytes: usize) -
     }
     let n = read32(plan, 0);
     let s = read32(rules, 0);
-    let k = read32(rules, 4);
+    let k = read32(rules, LABEL_COUNT_AT);
     if 4 < s {
         return 27;
     }
-    if !all_below(&plan[12..12 + n], k as u8) {
+    if !all_below(&plan[PLAN_HEAD..PLAN_HEAD + n], k as u8) {
         return 10;
     }
     if !set_colours_fit(n, s, numbers, bytes) {
@@ -73,7 +76,7 @@ pub fn build_rule_colours(
     }
     let n = read32(plan, 0);
     let s = read32(rules, 0);
-    let k = read32(rules, 4);
+    let k = read32(rules, LABEL_COUNT_AT);
     write_rule_colours(plan, rules, n, s, k, numbers, bytes);
     Building::Built
 }

@@ -3,6 +3,8 @@
 use crate::forests::all_colours::write_colours;
 use crate::set_states::sets::set_count;
 use crate::set_states::sets::write_sets;
+use formats::layout::PLAN_HEAD;
+use formats::layout::RULES_HEAD;
 use formats::rules::inner_count;
 use tables::build::write_tables;
 ghost use lib.ListN.{length};
@@ -43,6 +45,13 @@ pub fn write_rule_colours(
         (now (bytes .entry)) (now (numbers .exit)) (now (bytes .exit)) ⌝ }
 {
     write_tables(plan, rules, n, s, k, numbers, bytes);
-    let end = 20 + k + inner_count(s, k);
-    fill_set_colours(&plan[12..12 + n], &rules[20 + k..end], s, k, numbers, bytes);
+    let end = RULES_HEAD + k + inner_count(s, k);
+    fill_set_colours(
+        &plan[PLAN_HEAD..PLAN_HEAD + n],
+        &rules[RULES_HEAD + k..end],
+        s,
+        k,
+        numbers,
+        bytes,
+    );
 }

@@ -2,6 +2,7 @@
 // copies are in the bytes from `base` on, `k` bytes for each node; colour c's landings are the fourth numbers of its
 // table.
 use crate::rows::turns::take_in_turn;
+use formats::layout::NODE_COLUMNS;
 use tables::node_tables::moves::parent_at;
 ghost use Prim.Native.Nat.{_+_};
 ghost use lib.ListN.{getD};
@@ -63,7 +64,7 @@ fn put_lands(lands: [u8; 16], numbers: &mut [u16], n: usize, k: usize, v: usize)
 {
     let mut c = 1;
     while c < k {
-        numbers[c * (n * 4) + (v * 4 + 3)] = lands[c] as u16;
+        numbers[c * (n * NODE_COLUMNS) + (v * NODE_COLUMNS + 3)] = lands[c] as u16;
         c += 1;
     }
 }
