@@ -1,6 +1,7 @@
 use crate::changes::SPAN;
 use crate::changes::UNLISTED;
-use crate::changes::marks_from;
+use crate::changes::mark_in;
+use crate::changes::unmarked;
 use formats::rules::rule;
 ghost use mathlib.Core.Path.{_≡_};
 ghost use Prim.Native.Nat.{_+_, _-_, _*_, _≤_, _<_};
@@ -188,7 +189,8 @@ fn pass_in(
     let mut v: usize = 0;
     while v < n {
         let to = span_end(v, n);
-        let marks = marks_from(nodes, news, v, to);
+        let mut marks = unmarked();
+        mark_in(&mut marks, nodes, news, v, to);
         turn = turns(states, turn, kinds, labels, &marks, to, leaves, inner, s, k);
         v = to;
     }

@@ -11,6 +11,7 @@ use Rattle.runs.specs.inner.Pass.{reads, readOn, Stacked}
 use Rattle.trees.proofs.RunLaws.{changed-length}
 use Rattle.runs.proofs.ListedLaws.{label-below, label-changed}
 use Rattle.runs.proofs.PassLoop.{pass-start, pass-end, no-trees}
+use borrow.Author.Needs.{needs}
 use Rattle.runs.proofs.pass.pass_in.Statement.{statement}
 use Rattle.runs.proofs.pass.pass_in.Tie as tie
 
@@ -75,25 +76,30 @@ loop-holds c =
 span-end-requires : tie.Need-span-end-requires Inv-loop μ-loop
 span-end-requires c κs = omega (arith, c .loop-test .taken, c .before .loop .inv .0)
 
-marks-from-requires : tie.Need-marks-from-requires Inv-loop μ-loop
-marks-from-requires c κs =
-    let e = c .span-end .ensures in
-    let p = entered (c .before .before) .pre .0 in
-    record {
-      rising = omega (arith, e .rising);
-      few = e .few;
-      paired = omega (arith, p .paired);
-      labels-below = λ j. omega (arith, p .changes-below j, p .letters);
-    }
+slice-aggregate-mark-in : tie.Need-slice-aggregate-mark-in Inv-loop μ-loop
+slice-aggregate-mark-in c = sym (c .before .unmarked .ensures .size)
+
+mark-in-requires : tie.Need-mark-in-requires Inv-loop μ-loop
+mark-in-requires c κs =
+    let e = c .before .before .span-end .ensures in
+    let p = entered (c .before .before .before .before) .pre .0 in (
+      record {
+        rising = omega (arith, e .rising);
+        few = e .few;
+        paired = omega (arith, p .paired);
+        labels-below = λ j. omega (arith, p .changes-below j, p .letters);
+      },
+      c .before .unmarked .ensures,
+    )
 
 slice-aggregate-turns : tie.Need-slice-aggregate-turns Inv-loop μ-loop
-slice-aggregate-turns c = sym (c .before .before .marks-from .ensures .size)
+slice-aggregate-turns c = sym (c .before .before .before .mark-in .ensures .size)
 
 turns-requires : tie.Need-turns-requires Inv-loop μ-loop
 turns-requires c κs =
-    let l = c .before .before .before .before .before in
-    let e = c .before .before .before .span-end .ensures in
-    let m = c .before .before .marks-from .ensures in
+    let l = c .before .before .before .before .before .before .before .before in
+    let e = c .before .before .before .before .before .before .span-end .ensures in
+    let m = c .before .before .before .mark-in .ensures in
     let p = entered l .pre .0 in
     let i = l .loop .inv in (
       record {
@@ -119,13 +125,14 @@ turns-requires c κs =
 
 loop-less : tie.Need-loop-less Inv-loop μ-loop
 loop-less c =
-    let e = c .before .before .before .before .before .before .span-end .ensures in omega (arith, e .rising, e .inside)
+    let e = c .before .before .before .before .before .before .before .before .before .span-end .ensures in
+    omega (arith, e .rising, e .inside)
 
 loop-again : tie.Need-loop-again Inv-loop μ-loop
 loop-again c =
-    let l = c .before .before .before .before .before .before .before .before in
-    let e = c .before .before .before .before .before .before .span-end .ensures in
-    let m = c .before .before .before .before .before .marks-from .ensures in
+    let l = c .before .before .before .before .before .before .before .before .before .before .before in
+    let e = c .before .before .before .before .before .before .before .before .before .span-end .ensures in
+    let m = c .before .before .before .before .before .before .mark-in .ensures in
     let d = c .before .before .turns .ensures in (
       refl,
       sym (d .reached),
@@ -146,5 +153,5 @@ returns c =
 pub pass-in-spec : {M : Type 1} → statement M
 pass-in-spec =
     tie.close
-    (tie.spec Inv-loop μ-loop loop-holds span-end-requires marks-from-requires slice-aggregate-turns turns-requires
-    loop-less loop-again same-length returns)
+    (tie.spec Inv-loop μ-loop loop-holds span-end-requires (λ c κs. search needs) slice-aggregate-mark-in
+    mark-in-requires slice-aggregate-turns turns-requires loop-less loop-again same-length returns)
