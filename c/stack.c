@@ -1,7 +1,8 @@
 /*
  * The stack that each call needs, on plans of 65,535 nodes with 16 states, 64 labels and 64 changes: it is run on a
  * painted stack, and what it leaves unpainted is counted, less what an empty call leaves. It is compared with what
- * interface.txt allows; the header says the same in words.
+ * interface.txt allows; the header says the same in words. With a number of KiB as its word the calls that may need so
+ * much are made on the program's own stack, which the caller keeps short (ulimit -s).
  */
 #define _POSIX_C_SOURCE 200809L
 #include "whatif.h"
@@ -272,7 +273,25 @@ static void make_inputs(int left) {
     memset(screens, 0, sizeof screens);
 }
 
-int main(void) {
+/* Those that may need so many bytes on the stack of main, the others as always; whether all are accepted. */
+static int on_own_stack(size_t most) {
+    for (int left = 0; left < 2; left++) {
+        make_inputs(left);
+        for (size_t i = 0; i < sizeof calls / sizeof *calls; i++) {
+            if (calls[i].most <= most)
+                calls[i].make();
+            else
+                used(&calls[i]);
+            if (answer != WHATIF_ACCEPTED)
+                return 0;
+        }
+    }
+    return 1;
+}
+
+int main(int words, char **word) {
+    if (words > 1)
+        return !on_own_stack((size_t)strtoul(word[1], NULL, 10) * 1024);
     const struct call empty = {"nothing", nothing, 0};
     int wrong = 0;
     for (int left = 0; left < 2; left++) {

@@ -62,11 +62,12 @@ static void told(const char *what, const char *has) {
     memset(differing, 0, sizeof differing);
 }
 
-/* A question of one or two changes, by a number; node N and label K are among them, and are refused. */
+/* A question of one or two changes, by a number; node N and label K are among them, and are refused. The third place is
+ * asked for, and never listed. */
 struct list {
     size_t m;
-    uint16_t nodes[2];
-    uint8_t labels[2];
+    uint16_t nodes[3];
+    uint8_t labels[3];
 };
 enum { LISTS = 2 * (N + 1) * (K + 1) };
 

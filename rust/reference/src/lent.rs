@@ -63,8 +63,7 @@ impl<'a> View<'a> {
 
     /// "v's own label, as changed": the last entry of a node holds.
     fn own_label(&self, nodes: &[u16], labels: &[u8], v: usize) -> u8 {
-        let entries = nodes.iter().zip(labels).filter(|(&w, _)| w as usize == v);
-        entries.last().map_or(self.labels[v], |(_, &a)| a)
+        nodes.iter().zip(labels).rfind(|(&w, _)| w as usize == v).map_or(self.labels[v], |(_, &a)| a)
     }
 
     /// The climb from a root and its state to a depth.

@@ -45,7 +45,7 @@ fn what_is_imported_is_the_reference_s_plan() {
     let (plan, rules) = input[12..].split_at(out.plan.len());
     assert_eq!(plan, out.plan);
     let rules = &rules[..whatif::sizes::rules_bytes(2, 64)];
-    let yes = |nodes: &[u16], labels: &[u8]| whatif::fresh_run(plan, rules, nodes, labels).unwrap().yes;
+    let yes = |nodes: &[u16], labels: &[u8]| reference::fresh::fresh_run(plan, rules, nodes, labels).unwrap().yes;
     assert!(yes(&[], &[]) && !yes(&[out.places[3]], &[8]) && yes(&[out.places[3], out.places[5]], &[8, 9]));
 }
 

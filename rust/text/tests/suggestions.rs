@@ -1,6 +1,7 @@
-//! Every single change, suggested or not, against the library's session: the verdict is turned exactly by those
+//! Every single change, suggested or not, against the reference's fresh run: the verdict is turned exactly by those
 //! suggested.
 
+use reference::fresh::fresh_run;
 use text::input::Input;
 use text::loaded::Loaded;
 use text::outline::edges;
@@ -11,6 +12,12 @@ fn input(words: &str) -> Input {
     Input::of_text(&text::random::text(&words).unwrap().unwrap()).unwrap()
 }
 
+/// The verdict on a plan with changes, by a run over the whole plan.
+fn clears(input: &Input, changes: &[(u16, u8)]) -> bool {
+    let (nodes, labels): (Vec<u16>, Vec<u8>) = changes.iter().copied().unzip();
+    fresh_run(&input.plan, &input.rules, &nodes, &labels).unwrap().yes
+}
+
 #[test]
 fn exactly_those_that_turn() {
     let (mut turned, mut tried) = (0, 0);
@@ -18,12 +25,12 @@ fn exactly_those_that_turn() {
         for (rules, states) in [("lasting", 2), ("lasting", 5), ("random", 3), ("random", 16)] {
             let words = format!("--nodes 61 --shape {} --rules {} --states {} --labels 5", shape, rules, states);
             let input = input(&words);
-            let mut loaded = Loaded::new(&input.plan, &input.rules).unwrap();
-            let now = loaded.ask(&[]).unwrap().answer.yes;
+            let loaded = Loaded::new(&input.plan, &input.rules).unwrap();
+            let now = clears(&input, &[]);
             let (labels, mut expected) = (loaded.labels().to_vec(), Vec::new());
             for v in 0..61u16 {
                 for label in (0..5).filter(|&label| label != labels[v as usize]) {
-                    if loaded.ask(&[(v, label)]).unwrap().answer.yes != now {
+                    if clears(&input, &[(v, label)]) != now {
                         expected.push((v, label));
                     }
                     tried += 1;
@@ -38,7 +45,7 @@ fn exactly_those_that_turn() {
     assert!(turned > 100 && tried - turned > 100, "{} of {}", turned, tried);
 }
 
-/// Where some choice clears the plan, the one that is shown does, by the library's session.
+/// Where some choice clears the plan, the one that is shown does, by the fresh run; where none is shown, none does.
 #[test]
 fn choices_that_clear() {
     let (mut shown, mut none) = (0, 0);
@@ -51,18 +58,28 @@ fn choices_that_clear() {
                 let pairs = choice.trim().split(' ').map(|pair| pair.split_once("->").expect("NODE->LABEL"));
                 let list: Vec<(u16, u8)> =
                     pairs.map(|(v, label)| (v.parse().unwrap(), label.parse().unwrap())).collect();
-                let mut loaded = Loaded::new(&input.plan, &input.rules).unwrap();
                 assert!(list.iter().map(|change| usize::from(change.0)).eq(open), "{}", text);
-                assert!(loaded.ask(&list).unwrap().answer.yes, "{}", text);
+                assert!(clears(&input, &list), "{}", text);
                 shown += 1;
             }
             None => {
                 assert!(text.contains("no choice clears the plan"), "{}", text);
+                assert!(!any_clears(&input, &open), "{}", text);
                 none += 1;
             }
         }
     }
     assert!(shown > 30, "{} shown, {} times none", shown, none);
+}
+
+/// Whether one of the choices of three labels at these nodes clears the plan, by trying all.
+fn any_clears(input: &Input, open: &[usize]) -> bool {
+    let choices = 3usize.pow(open.len() as u32);
+    (0..choices).any(|choice| {
+        let label = |i: usize| (choice / 3usize.pow(i as u32) % 3) as u8;
+        let list: Vec<(u16, u8)> = open.iter().enumerate().map(|(i, &v)| (v as u16, label(i))).collect();
+        clears(input, &list)
+    })
 }
 
 /// The largest plan, all labels: some four million changes.
