@@ -5,6 +5,7 @@ use std::io::{self, Write};
 use std::process::exit;
 use text::args::{one_of, verb, Args};
 use text::branch::Reading;
+use text::completions::Shell;
 use text::input::Input;
 use text::json::Object;
 use text::outcome::{self, Failure, Made};
@@ -110,6 +111,10 @@ fn answered(args: &Args) -> Result<Made, Failure> {
                 Drawn::Svg => |_, lines, _| text::agree::picture(lines, Drawn::Svg),
             };
             agree(&two_rules(first, second)?, shown, false)
+        }
+        ("completions", [shell]) => {
+            let shells = [("bash", Shell::Bash), ("zsh", Shell::Zsh), ("fish", Shell::Fish)];
+            Ok(Made::answered(text::completions::of(one_of(shell, &shells)?)))
         }
         ("random", options) => {
             text::random::text(options).unwrap_or_else(|| Err(text::random::usage(options))).map(Made::answered)
