@@ -1,6 +1,7 @@
 //! What `whatif-text agree` says of two tables: a separating plan as lines, as a plan to paste, and as a picture.
 
 use crate::json::Object;
+use crate::names::Names;
 use crate::outcome::Failure;
 use crate::picture::{Drawn, Edge, Look, Node, Picture, Stroke, PLAIN_LOOK};
 use crate::plan;
@@ -52,10 +53,12 @@ pub fn clears(rules: &Rules, lines: &[Line]) -> bool {
 }
 
 /// Text that can be pasted: the lines as comments, then their plan; none where it would have too many nodes.
-pub fn text(lines: &[Line], plan: Option<&Plan>) -> String {
-    let line = |(i, line): (usize, &Line)| match line {
-        Line::Leaf { label } => format!("# line {}: leaf {}\n", i, label),
-        Line::Inner { label, left, right } => format!("# line {}: inner {} over {} and {}\n", i, label, left, right),
+pub fn text(lines: &[Line], plan: Option<&Plan>, names: &Names) -> String {
+    let line = |(i, line): (usize, &Line)| match *line {
+        Line::Leaf { label } => format!("# line {}: leaf {}\n", i, names.label(label)),
+        Line::Inner { label, left, right } => {
+            format!("# line {}: inner {} over {} and {}\n", i, names.label(label), left, right)
+        }
     };
     let said: String = lines.iter().enumerate().map(line).collect();
     match plan {
@@ -68,11 +71,11 @@ pub fn text(lines: &[Line], plan: Option<&Plan>) -> String {
 }
 
 /// The same as an object.
-pub fn object(yes: [bool; 2], lines: &[Line], plan: Option<&Plan>) -> String {
+pub fn object(yes: [bool; 2], lines: &[Line], plan: Option<&Plan>, names: &Names) -> String {
     let line = |line: &Line| match *line {
-        Line::Leaf { label } => Object::new().number("label", label).inner(),
+        Line::Leaf { label } => Object::new().label("label", label, names).inner(),
         Line::Inner { label, left, right } => {
-            Object::new().number("label", label).count("left", left).count("right", right).inner()
+            Object::new().label("label", label, names).count("left", left).count("right", right).inner()
         }
     };
     let object = Object::new().truth("agree", false).truth("first", yes[0]).truth("second", yes[1]);
@@ -81,7 +84,7 @@ pub fn object(yes: [bool; 2], lines: &[Line], plan: Option<&Plan>) -> String {
 }
 
 /// The lines as a picture: a node for each, also where several lead to it.
-pub fn picture(lines: &[Line], how: Drawn) -> String {
+pub fn picture(lines: &[Line], names: &Names, how: Drawn) -> String {
     let at = |line: usize| lines.len() - 1 - line;
     let (mut nodes, mut edges) = (Vec::new(), Vec::new());
     for (i, line) in lines.iter().enumerate().rev() {
@@ -96,7 +99,7 @@ pub fn picture(lines: &[Line], how: Drawn) -> String {
                 (label, false)
             }
         };
-        let said = vec![format!("line {}", i), format!("label {}", label)];
+        let said = vec![format!("line {}", i), format!("label {}", names.label(label))];
         nodes.push(Node { tip: said.join(", "), lines: said, look: Look { square, ..PLAIN_LOOK } });
     }
     let legend = vec![(Look { square: true, ..PLAIN_LOOK }, "square corners: a leaf")];

@@ -8,7 +8,7 @@ use crate::terminal::Colour;
 use crate::verbs::{self, Verb};
 
 /// Options with a value, and which field they fill.
-const FILES: [&str; 7] = ["--input", "--plan", "--planner", "--rules", "--questions", "--branch", "--names"];
+pub(crate) const FILES: [&str; 7] = ["--input", "--plan", "--planner", "--rules", "--questions", "--branch", "--names"];
 
 /// When verdicts have colours: each verb that answers takes it.
 const COLOURS: [(&str, Colour); 3] = [("auto", Colour::Auto), ("always", Colour::Always), ("never", Colour::Never)];

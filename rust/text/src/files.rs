@@ -73,7 +73,7 @@ impl Files<'_> {
             found.questions = Some(questions_of(path, found.places.as_deref())?);
         }
         if let Some(path) = self.names {
-            found.names = names_of(path)?;
+            found.names = names_of(path)?.or(&found.names);
         }
         if let Some(path) = self.input() {
             found.take_rest(path)?;
@@ -115,6 +115,7 @@ impl Found {
                 let [rules, questions] = text.rest_as_bytes(planned.places()).map_err(|w| wrong(path, w))?;
                 self.rules = rules;
                 self.questions = questions;
+                self.names = text.names().map_err(|w| wrong(path, w))?;
                 planned
             }
             // a plan of one node is a planner's file of one node
@@ -193,6 +194,15 @@ pub fn plan_of(path: &str) -> Result<Vec<u8>, Failure> {
 /// The rules of a file.
 pub fn rules_of(path: &str) -> Result<Vec<u8>, Failure> {
     section(path, 1, Form::Rules, rules::to_bytes)
+}
+
+/// The names that stand beside the rules of a text; none of bytes, and of standard input, which is read once.
+pub fn names_beside(path: &str) -> Names {
+    if path == "-" {
+        return Names::default();
+    }
+    let text = file(path).ok().and_then(|bytes| text_of(&bytes).map(String::from)).unwrap_or_default();
+    sections(&text).and_then(|found| Names::of(&found.names)).unwrap_or_default()
 }
 
 /// One of plan and rules: of a text, of the bytes of `whatif`, or alone.

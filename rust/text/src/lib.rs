@@ -30,7 +30,7 @@
 //!
 //! Order: `lines` (words and numbers), `plan`, `rules`, `questions`, `names` (each from text, and to bytes and back where
 //! it has any), `formats` (what a file looks like), `files` and `input` (where plan, rules and questions come from),
-//! `nearest`, `verbs`, `args`, `help` (the command line), `outcome` (what a verb writes, its status), `sentences`,
+//! `nearest`, `verbs`, `args`, `help`, `completions` (the command line), `outcome` (what a verb writes, its status), `sentences`,
 //! `json`, `terminal` (colours), `loaded` (the library's session on an input), `progress`, `generator` (random trees and
 //! tables), `picture` and `svg` (any picture), `drawing` (what pictures of a question share); then a file a verb:
 //! `answer`, `outline`, `why`, `suggest`, `count`, `script` (session), `screens`, `over`, `branch` (by a
@@ -44,6 +44,7 @@ pub mod args;
 pub mod branch;
 pub mod branch_table;
 pub mod colours;
+pub mod completions;
 pub mod count;
 pub mod dot;
 pub mod drawing;

@@ -5,12 +5,13 @@ use std::io::{self, Write};
 use std::process::exit;
 use text::args::{one_of, verb, Args};
 use text::branch::Reading;
+use text::completions::Shell;
 use text::input::Input;
 use text::json::Object;
 use text::outcome::{self, Failure, Made};
 use text::picture::Drawn;
 use text::{files, help};
-use whatif::{Line, Plan, Rules};
+use whatif::Rules;
 
 fn main() {
     let words: Vec<String> = std::env::args().skip(1).collect();
@@ -102,14 +103,13 @@ fn answered(args: &Args) -> Result<Made, Failure> {
             text::stored::check(&input()?, &files::file(nodes)?, &files::file(states)?, args.json)
         }
         ("merge", [first, second]) => merge(&two_rules(first, second)?),
-        ("agree", [first, second]) if args.json => agree(&two_rules(first, second)?, text::agree::object, true),
-        ("agree", [first, second]) => agree(&two_rules(first, second)?, separating_text, false),
-        ("agree", [first, second, word]) => {
-            let shown: Shown = match one_of(word, &DRAWN)? {
-                Drawn::Dot => |_, lines, _| text::agree::picture(lines, Drawn::Dot),
-                Drawn::Svg => |_, lines, _| text::agree::picture(lines, Drawn::Svg),
-            };
-            agree(&two_rules(first, second)?, shown, false)
+        ("agree", [first, second, rest @ ..]) => {
+            let drawn = rest.first().map(|word| one_of(word, &DRAWN)).transpose()?;
+            agree(first, second, drawn, args.json)
+        }
+        ("completions", [shell]) => {
+            let shells = [("bash", Shell::Bash), ("zsh", Shell::Zsh), ("fish", Shell::Fish)];
+            Ok(Made::answered(text::completions::of(one_of(shell, &shells)?)))
         }
         ("random", options) => {
             text::random::text(options).unwrap_or_else(|| Err(text::random::usage(options))).map(Made::answered)
@@ -177,28 +177,31 @@ enum Shape {
     Picture(Drawn),
 }
 
-/// How a separating plan is shown: which of the two clear it, the lines that are needed, and the plan where it has one.
-type Shown = fn([bool; 2], &[Line], Option<&Plan>) -> String;
-
-/// Whether two rules agree; else a separating plan.
-fn agree([first, second]: &[Vec<u8>; 2], shown: Shown, json: bool) -> Result<Made, Failure> {
-    let first = Rules::from_bytes(&first[..]).map_err(Failure::refused)?;
-    let second = Rules::from_bytes(&second[..]).map_err(Failure::refused)?;
-    let plan = match first.differs_from(&second).map_err(Failure::refused)? {
+/// Whether the rules of two files agree; else a separating plan.
+fn agree(first: &str, second: &str, drawn: Option<Drawn>, json: bool) -> Result<Made, Failure> {
+    let rules = two_rules(first, second)?.map(|bytes| Rules::from_bytes(bytes).map_err(Failure::refused));
+    let names = files::names_beside(first).or(&files::names_beside(second));
+    let [first, second] = rules;
+    let (first, second) = (first?, second?);
+    let separating = match first.differs_from(&second).map_err(Failure::refused)? {
         None if json => return Ok(Made::answered(Object::new().truth("agree", true).line())),
         None => return Ok(Made::answered("# the two agree on every plan\n")),
-        Some(plan) => plan,
+        Some(separating) => separating,
     };
-    let lines = text::agree::needed(&plan.lines().collect::<Vec<_>>());
-    let plan = plan.to_plan();
-    let yes = [&first, &second].map(|rules| text::agree::verdict(rules, &lines, plan.as_ref()));
-    let [first, second] = yes;
-    Ok(Made { bytes: shown([first?, second?], &lines, plan.as_ref()).into_bytes(), status: outcome::NO })
-}
-
-fn separating_text(yes: [bool; 2], lines: &[Line], plan: Option<&Plan>) -> String {
+    let lines = text::agree::needed(&separating.lines().collect::<Vec<_>>());
+    let plan = separating.to_plan();
+    let verdict = |rules: &Rules| text::agree::verdict(rules, &lines, plan.as_ref());
+    let yes = [verdict(&first)?, verdict(&second)?];
     let word = |yes: bool| if yes { "yes" } else { "no" };
-    format!("# {} by the first, {} by the second\n{}", word(yes[0]), word(yes[1]), text::agree::text(lines, plan))
+    let shown = match drawn {
+        Some(how) => text::agree::picture(&lines, &names, how),
+        None if json => text::agree::object(yes, &lines, plan.as_ref(), &names),
+        None => {
+            let head = format!("# {} by the first, {} by the second\n", word(yes[0]), word(yes[1]));
+            head + &text::agree::text(&lines, plan.as_ref(), &names)
+        }
+    };
+    Ok(Made { bytes: shown.into_bytes(), status: outcome::NO })
 }
 
 fn a_question(word: &str) -> Result<usize, Failure> {

@@ -9,6 +9,8 @@
 //! rules             # as in any other text; they have 64 labels, since label 63 is at every leaf
 //! questions         # pNODE->LABEL names a planner's node, NODE->LABEL a node of our plan
 //! p1->4 p2->0
+//! names             # may be left out, as everything after the tree may
+//! label 6 pillar
 //! ```
 //!
 //! A file that has no such form is written with lines of the word `bytes`. The planner's own files are read and written
@@ -17,6 +19,7 @@
 use crate::dot::from_the_top;
 use crate::formats::{form, text_of, Form};
 use crate::lines::{self, all_raw, raw_text, Line, Wrong};
+use crate::names::Names;
 use crate::outcome::Failure;
 use crate::picture::{Drawn, Edge, Look, Node, Picture, Stroke, PLAIN_LOOK};
 use crate::{parts_of, plan, questions, rules};
@@ -119,12 +122,13 @@ pub struct Text<'a> {
     /// The lines between `rules` and `questions` as they stand.
     rules: Vec<&'a str>,
     questions: Vec<Line<'a>>,
+    names: Vec<Line<'a>>,
 }
 
 impl<'a> Text<'a> {
-    /// Rules that are wrong are told, and otherwise left as they stand.
+    /// Rules that are wrong are told, and otherwise left as they stand. Names stand last.
     pub fn of(text: &'a str, first: &'static str) -> Result<Text<'a>, Wrong> {
-        let names = [first, "rules", "questions"];
+        let names = [first, "rules", "questions", "names"];
         let (mut found, mut at, mut of_rules) = (Text::default(), None, Vec::new());
         for (i, raw) in text.lines().enumerate() {
             if at == Some(1) {
@@ -142,15 +146,25 @@ impl<'a> Text<'a> {
                     found.nodes.push(line);
                 }
                 (None, Some(1)) => of_rules.push(line),
-                (None, Some(_)) => found.questions.push(line),
+                (None, Some(2)) => found.questions.push(line),
+                (None, Some(_)) => found.names.push(line),
                 (None, None) => return Err(line.wrong(format!("this is in no section: '{}' comes first", first))),
             }
         }
-        if at == Some(2) {
-            found.rules.pop(); // the word 'questions'
+        // the word of the next section
+        let ends = |raw: &&str| {
+            lines::of(raw).next().map_or(false, |line| line.words.len() == 1 && names.contains(&line.words[0]))
+        };
+        if found.rules.last().map_or(false, ends) {
+            found.rules.pop();
         }
         rules::to_bytes(&of_rules)?;
+        Names::of(&found.names)?;
         Ok(found)
+    }
+
+    pub fn names(&self) -> Result<Names, Wrong> {
+        Names::of(&self.names)
     }
 
     /// Rules and questions as bytes, a planner's node by its place; none of a section that is not there.
@@ -173,6 +187,12 @@ impl<'a> Text<'a> {
         }
         for line in &self.questions {
             text += &(said(line)? + "\n");
+        }
+        if !self.names.is_empty() {
+            text += "\nnames\n";
+        }
+        for line in &self.names {
+            text += &(line.words.join(" ") + "\n");
         }
         Ok(text)
     }

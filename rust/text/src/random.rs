@@ -49,7 +49,7 @@ pub fn text(words: &[&str]) -> Option<Result<String, Failure>> {
     Some(wanted.text())
 }
 
-const OPTIONS: [&str; 8] =
+pub(crate) const OPTIONS: [&str; 8] =
     ["--nodes", "--shape", "--states", "--labels", "--questions", "--changes", "--rules", "--seed"];
 
 /// What is wrong with words that are no options.

@@ -129,6 +129,9 @@ pub const ALL: &[Verb] = &[
     verb("agree", "FILE FILE [dot|svg]", 2, 3, "do two rules judge every plan alike? else a plan that they judge differently")
         .without_input()
         .answers().example("whatif-text agree examples/sample.txt examples/sample.txt"),
+    verb("completions", "bash|zsh|fish", 1, 1, "what a shell is to offer for whatif-text, as its script")
+        .without_input()
+        .example("whatif-text completions bash > whatif-text.bash"),
     verb("random", "--nodes N --shape arch|comb|balanced|random ..", 0, ANY, "a plan to try, with rules and questions, as text")
         .more("[--states S] [--labels K] [--questions Q] [--changes M] [--rules lasting|random] [--seed X]")
         .without_input()

@@ -3,6 +3,7 @@
 use std::fs;
 use std::process::{Command, Output};
 use text::agree::{clears, needed, picture, text, verdict};
+use text::names::Names;
 use text::picture::Drawn;
 use text::{rules_of, write};
 use whatif::{Line, Plan, Rules};
@@ -34,16 +35,16 @@ fn shown(first: &str, second: &str) -> (Vec<Line>, Option<Plan>) {
 #[test]
 fn a_plan_of_three_levels() {
     let (lines, plan) = shown(&balanced(4, "3"), &balanced(4, ""));
-    let said = text(&lines, plan.as_ref());
+    let said = text(&lines, plan.as_ref(), &Names::default());
     let head = "# line 0: leaf 0\n# line 1: inner 0 over 0 and 0\n# line 2: inner 0 over 1 and 1\n# line 3: inner 0 over 2 and 2\n";
     assert!(said.starts_with(&format!("{}plan\nleaf 0 ", head)), "{}", said);
     // it may be pasted, before the rules
     let bytes = write(&said).unwrap();
     assert_eq!(bytes[0] as usize, 12 + 2 * 15);
-    let drawn = picture(&lines, Drawn::Dot);
+    let drawn = picture(&lines, &Names::default(), Drawn::Dot);
     assert!(drawn.contains("    0 [label=\"line 3\\nlabel 0\""), "{}", drawn);
     assert!(drawn.contains("    0 -> 1 [label=\" left and right \"];\n"), "{}", drawn);
-    let svg = picture(&lines, Drawn::Svg);
+    let svg = picture(&lines, &Names::default(), Drawn::Svg);
     assert_eq!((svg.matches("<g class=\"node\">").count(), svg.matches(">left and right<").count()), (4, 3), "{}", svg);
 }
 
@@ -60,7 +61,7 @@ fn lines_that_are_not_needed() {
 fn a_plan_beyond_65_535_nodes() {
     let but_14 = |s: usize| (0..s).filter(|&state| state != 14).map(|state| format!("{} ", state)).collect::<String>();
     let (lines, plan) = shown(&balanced(15, &but_14(15)), &balanced(16, &but_14(16)));
-    let said = text(&lines, plan.as_ref());
+    let said = text(&lines, plan.as_ref(), &Names::default());
     assert!(said.contains("# as a tree it has more than 65,535 nodes, the most that a plan can have\n"), "{}", said);
     assert!(said.ends_with("# so the two verdicts are worked out by whatif-text, not by the library\n"), "{}", said);
     assert!(!said.contains("plan\n"), "{}", said);

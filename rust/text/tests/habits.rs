@@ -195,3 +195,32 @@ fn the_first_suggestions() {
     assert!(depths.len() == 50 && depths.windows(2).all(|pair| pair[0] <= pair[1]), "{:?}", depths);
     assert_eq!(out(&run(&["suggest", "--first", "99"], SAMPLE)).lines().count(), 8);
 }
+
+/// The shells read their scripts, where they are there, and bash offers verbs, options, words and values.
+#[test]
+fn completions() {
+    for shell in ["bash", "zsh", "fish"] {
+        let path = std::env::temp_dir().join(format!("whatif-text-completions-{}-{}", std::process::id(), shell));
+        std::fs::write(&path, out(&run(&["completions", shell], ""))).unwrap();
+        match Command::new(shell).arg("-n").arg(&path).output() {
+            Ok(done) => assert!(done.status.success() && done.stderr.is_empty(), "{}: {}", shell, err(&done)),
+            Err(_) => eprintln!("NOT TRIED: {} is not there", shell),
+        }
+        if shell == "bash" {
+            let offered = |words: &str, at: usize| {
+                let ask = "_whatif_text; printf '%s ' \"${COMP[@]}\" \"${COMPREPLY[@]}\"";
+                let script =
+                    format!(". {}; COMP_WORDS=(whatif-text {}); COMP_CWORD={}; {}", path.display(), words, at, ask);
+                let done = Command::new("bash").args(["-c", &script]).current_dir("/").output().unwrap();
+                out(&done).trim().to_string()
+            };
+            assert_eq!(offered("sugg", 1), "suggest");
+            assert_eq!(offered("suggest --fi", 2), "--first");
+            assert_eq!(offered("answer --colour a", 3), "auto always");
+            assert_eq!(offered("branch t 6 4 sv", 5), "svg");
+            assert_eq!(offered("random --sh", 2), "--shape");
+            assert_eq!(offered("help out", 2), "outline");
+        }
+        std::fs::remove_file(&path).unwrap();
+    }
+}

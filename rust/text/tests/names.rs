@@ -100,3 +100,22 @@ fn wrong_names_are_told_by_their_line() {
     assert_eq!(line("label 1 a\nlabel 1 b"), "whatif-text: line 3: label 1 has a name already, 'a'\n");
     assert_eq!(line("label 1 a\nnames"), "whatif-text: line 3: 'names' stands again\n");
 }
+
+/// Of two rules that are compared, and of a planner's tree: they go along with it, out and home.
+#[test]
+fn of_rules_and_of_planner_s_trees() {
+    let (first, second) = (file("first", &named()), file("second", &SAMPLE.replace("accept 1", "accept 0")));
+    assert!(run(&["agree", &first, &second], "").contains("# line 0: leaf 0 (coarse-bur)\n"));
+    assert!(run(&["agree", &second, &first, "svg"], "").contains(">label 0 (coarse-bur)<"));
+    assert!(run(&["agree", &first, &second, "--json"], "").contains("{\"label\":0,\"label_name\":\"coarse-bur\"}"));
+    let planner =
+        fs::read_to_string(format!("{}planner.txt", EXAMPLES)).unwrap() + "\nnames\nlabel 8 pin\nstate 1 whole\n";
+    let tree = file("tree", &planner);
+    let said = run(&["answer", "--planner", &tree], "");
+    assert!(said.starts_with("question 1, none: cleared, state 1 (whole),"), "{}", said);
+    let plan = run(&["planner", "import"], &planner);
+    assert!(plan.ends_with("\nnames\nlabel 8 pin\nstate 1 whole\n"), "{}", plan);
+    assert_eq!(run(&["answer"], &plan), said);
+    assert!(run(&["planner", "export"], &plan).ends_with("\nnames\nlabel 8 pin\nstate 1 whole\n"));
+    [first, second, tree].iter().for_each(|path| fs::remove_file(path).unwrap());
+}
