@@ -3,11 +3,11 @@ use crate::node_counts::sums::capped_add;
 use crate::node_counts::sums::capped_times;
 use formats::limits::STATE_LIMIT;
 ghost use mathlib.Core.Path.{_≡_};
-ghost use Rattle.choices.specs.node_counts.Join.{PourArgs, Poured, RowArgs, RowJoined, JoinArgs, Joined};
+ghost use Rattle.choices.specs.node_counts.Join.{AccumulateArgs, Accumulated, RowArgs, RowJoined, JoinArgs, Joined};
 
 // x assignments below end in states p at the left and q at the right: for every label b from `from` to before `to` they
 // end in the state that p, b and q lead to.
-pub fn pour(
+pub fn accumulate(
     inner: &[u8],
     s: usize,
     k: usize,
@@ -18,8 +18,8 @@ pub fn pour(
     x: u64,
     out: &mut [u64; STATE_LIMIT],
 )
-    requires { ⌜ PourArgs (now inner) s k from to p q x (now out) ⌝ }
-    ensures { λ r. ⌜ Poured (now (inner .entry)) s k from to p q x (now (out .entry)) (now (out .exit)) ⌝ }
+    requires { ⌜ AccumulateArgs (now inner) s k from to p q x (now out) ⌝ }
+    ensures { λ r. ⌜ Accumulated (now (inner .entry)) s k from to p q x (now (out .entry)) (now (out .exit)) ⌝ }
 {
     if x == 0 {
         return;
@@ -51,7 +51,7 @@ pub fn join_row(
     let mut q = 0;
     while q < s {
         let y = capped_times(right[q], x);
-        pour(inner, s, k, from, to, p, q, y, out);
+        accumulate(inner, s, k, from, to, p, q, y, out);
         q += 1;
     }
 }
