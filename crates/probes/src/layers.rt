@@ -1,4 +1,5 @@
 // The roots of a question and one part, as the questions layer works them out.
+use formats::limits::PART_LIMIT;
 use questions::part::part;
 use questions::roots::roots;
 use tables::answers::Climbed;
@@ -21,7 +22,7 @@ pub extern "C" fn probe_roots(
     n: usize,
     node_table: &[u16],
     nodes: &[u16],
-    out: &mut [u16; 254],
+    out: &mut [u16; PART_LIMIT],
 ) -> usize
     ensures { λ r. ⌜
         RootsProbed (rootedOf (rootsGiven n (now («node_table» .entry)) (now (nodes .entry)))) r (now (out .exit)) ⌝ }
