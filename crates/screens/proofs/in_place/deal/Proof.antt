@@ -89,10 +89,10 @@ use Rattle.screens.proofs.in_place.next_running as next
 use Rattle.screens.proofs.in_place.next_running.Symbol as next-def
 use Rattle.screens.proofs.in_place.next_running.Symbol.{name as #next}
 use Rattle.screens.proofs.in_place.next_running.Met as next-thm
-use Rattle.screens.proofs.in_place.told_of as tell
-use Rattle.screens.proofs.in_place.told_of.Symbol as tell-def
-use Rattle.screens.proofs.in_place.told_of.Symbol.{name as #tell}
-use Rattle.screens.proofs.in_place.told_of.Met as tell-thm
+use Rattle.screens.proofs.in_place.deal_answer as tell
+use Rattle.screens.proofs.in_place.deal_answer.Symbol as tell-def
+use Rattle.screens.proofs.in_place.deal_answer.Symbol.{name as #tell}
+use Rattle.screens.proofs.in_place.deal_answer.Met as tell-thm
 
 abbrev lends : List (Lending 5)
 lends = shared 1 tt u8 ∷ shared 2 tt u8 ∷ shared 3 tt u16 ∷ shared 4 tt u8 ∷ []
@@ -475,7 +475,7 @@ deal-spec 𝓤 H 𝓜 𝓖 𝓡 = let 𝓣 = tablesOf 𝓤 H 𝓜 (tables 𝓤 H
     𝓤 H 𝓜 𝓡 code.env .Λ) #this code.function (code.unfolded 𝓤 H 𝓜 𝓡) (met lends D.the-row 𝓤 H (𝓖 .A) Promised W (WpFn
     𝓤 H (𝓣 .C) (𝓣 .Λ) code.function) (WpFn-mono 𝓤 H (W .laws) 𝓣 code.function) (λ κs qs a room fits. walk 𝓤 H (𝓖 .A) W
     (𝓜 .mem) (𝓡 .run) κs qs a fits (𝓣 .C) (𝓣 .Λ) (fmOf 𝓤 H (W .laws) 𝓣) (cited 𝓤 H (Tell 𝓤 H (𝓖 .A) (𝓜 .mem) (𝓡 .run))
-    𝓜 𝓡 code.env #tell tell-def.routine code.calls-screens·in-place·told-of (tell-thm.met 𝓤 H 𝓜 𝓖 𝓡)) (cited 𝓤 H (Next
+    𝓜 𝓡 code.env #tell tell-def.routine code.calls-screens·in-place·deal-answer (tell-thm.met 𝓤 H 𝓜 𝓖 𝓡)) (cited 𝓤 H (Next
     𝓤 H (𝓖 .A) (𝓜 .mem) (𝓡 .run)) 𝓜 𝓡 code.env #next next-def.routine code.calls-screens·in-place·next-running
     (next-thm.met 𝓤 H 𝓜 𝓖 𝓡)) (cited 𝓤 H (Step 𝓤 H (𝓖 .A) (𝓜 .mem) (𝓡 .run)) 𝓜 𝓡 code.env #step step-def.routine
     code.calls-session·state·Session·advance (step-thm.met 𝓤 H 𝓜 𝓖 𝓡)) room))
