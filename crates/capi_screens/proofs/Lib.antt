@@ -7,7 +7,7 @@ pub mod RestLaws
 pub mod LoadLaws
 pub mod LoadClears
 pub mod OwnBytes
-pub mod HeldRun
+pub mod EncodedRun
 pub mod DecodedLaws
 pub mod ScreensTheorem
 pub mod ScreenTies

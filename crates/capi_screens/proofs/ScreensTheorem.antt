@@ -16,16 +16,16 @@ use Rattle.screens.specs.EightRecords.{actAll, DoesAll, eightFresh}
 use Rattle.screens.specs.Statements.{Screens}
 use Rattle.screens.proofs.Theorems.{screens-hold, screens-hold-of}
 use Rattle.records.specs.Layout.{recordLength}
-use Rattle.capi_session.proofs.ExportedRefines.{Held, fresh-held}
+use Rattle.capi_session.proofs.ExportedRefines.{Encodes, fresh-held}
 use Rattle.capi_screens.specs.RunLayout.{runLength, recordAt}
 use Rattle.capi_screens.specs.DecodedScreens.{ScreensExports, loads-all, starts-on, cancels-on, reads-on}
 use Rattle.capi_screens.specs.DecodedScreens.{deals-one, freshRun}
 use Rattle.capi_screens.proofs.PartLaws.{part, part-room, part-length, part-at, part-stride}
-use Rattle.capi_screens.proofs.HeldRun.{HeldAll, told-is, left-held, read-held}
+use Rattle.capi_screens.proofs.EncodedRun.{EncodesAll, told-is, left-held, read-held}
 use Rattle.capi_screens.proofs.DecodedLaws.{decoded-load-all, decoded-start-on, decoded-cancel-on}
 use Rattle.capi_screens.proofs.DecodedLaws.{decoded-read-on, decoded-deal}
 
-pub screens-refine : Refines ScreensExports DoesAll HeldAll
+pub screens-refine : Refines ScreensExports DoesAll EncodesAll
 screens-refine b b′ rs c a Z (loads-all {x} r k₀ k₁ nodeTable stateTable e) = (
   actAll rs (loadAll x) .records′,
   record {
@@ -84,16 +84,16 @@ part-zeros w n i h =
         ∙ getD-replicate {A = ℕ} (w * n) (w * i + k) 0 0 (omega (arith, part-stride w n i h))
         ∙ sym (getD-replicate {A = ℕ} w k 0 0 m)
 
-pub fresh-run-held : HeldAll freshRun eightFresh
+pub fresh-run-held : EncodesAll freshRun eightFresh
 fresh-run-held = record {
   long = length-replicate {A = ℕ} runLength 0;
   records = refl;
   each = λ i h.
-      subst (λ (p : List ℕ). Held p (getD eightFresh i freshRecord)) (sym (part-zeros recordLength 8 i h))
-      (subst (λ (r : Record). Held (zeros recordLength) r) (sym (getD-replicate 8 i freshRecord freshRecord h))
+      subst (λ (p : List ℕ). Encodes p (getD eightFresh i freshRecord)) (sym (part-zeros recordLength 8 i h))
+      (subst (λ (r : Record). Encodes (zeros recordLength) r) (sym (getD-replicate 8 i freshRecord freshRecord h))
       fresh-held);
 }
 
 pub bytes-hold : Screens freshRun ScreensExports
-bytes-hold = screens-hold-of ScreensExports DoesAll HeldAll screens-refine freshRun eightFresh fresh-run-held
+bytes-hold = screens-hold-of ScreensExports DoesAll EncodesAll screens-refine freshRun eightFresh fresh-run-held
     screens-hold

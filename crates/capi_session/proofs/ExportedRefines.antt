@@ -28,7 +28,7 @@ use Rattle.session.specs.Records.{recordOf, sessionOf, valid, freshSession}
 use Rattle.session.specs.Promises.{answerOn, recordOn}
 use Rattle.session.specs.inner.Shapes.{Shaped}
 use Rattle.session.proofs.Holds.{struct-is}
-use Rattle.session.proofs.Refine.{Seen, fresh-seen, seen-answer, read-keeps, call-refines}
+use Rattle.session.proofs.Refine.{Represents, fresh-seen, seen-answer, read-keeps, call-refines}
 use Rattle.records.specs.Layout.{encoded, decoded, laidOut, validBytes, InTypes, Bytes}
 use Rattle.records.proofs.Theorems.{decode-encode, encode-decode, encoded-valid, decoded-valid, decoded-types, fresh-bytes}
 use Rattle.records.proofs.ValidTypes.{valid-types}
@@ -44,10 +44,10 @@ record ByteStep (b : List ℕ) (c : Call) (a : Answer) (b′ : List ℕ) : Type 
   stays : validBytes b ≡ true → valid (recordOn (decoded b) c) ≡ true
 
 -- the bytes of a struct that holds record r
-pub record Held (b : List ℕ) (r : Record) : Type 0 where
+pub record Encodes (b : List ℕ) (r : Record) : Type 0 where
   pub struct : Session
   pub bytes : b ≡ encoded struct
-  pub seen : Seen struct r
+  pub seen : Represents struct r
 
 -- ---- a refusal leaves the record, so its bytes
 
@@ -94,7 +94,7 @@ module _ (r : Record) where
 
 -- ---- a call on the bytes of a struct
 
-module _ (s : Session) (r : Record) (i : Seen s r) (c : Call) where
+module _ (s : Session) (r : Record) (i : Represents s r) (c : Call) where
   types : InTypes s
   types = valid-types s (i .shaped) (i .passes)
 
@@ -123,7 +123,7 @@ module _ (s : Session) (r : Record) (i : Seen s r) (c : Call) where
       ∙ settled (recordOf s) c
       ∙ sym (ap encoded model-record)
 
-  step-is : (a : Answer) (b′ : List ℕ) → ByteStep (encoded s) c a b′ → (r′ : Record) × Does r c a r′ × Held b′ r′
+  step-is : (a : Answer) (b′ : List ℕ) → ByteStep (encoded s) c a b′ → (r′ : Record) × Does r c a r′ × Encodes b′ r′
   step-is a b′ e =
       let v : valid (recordOn s c) ≡ true =
       subst (λ (t : Session). valid (recordOn t c) ≡ true) (decode-encode s types) (e .stays (encoded-valid s types (i .passes))) in
@@ -132,7 +132,7 @@ module _ (s : Session) (r : Record) (i : Seen s r) (c : Call) where
 
 -- ---- a call as its number and values are decoded
 
-module _ (s : Session) (r : Record) (i : Seen s r) where
+module _ (s : Session) (r : Record) (i : Represents s r) where
   -- what is decoded is the answer, if that is decoded as itself
   decoded-answer : (c : Call) (f : Answer → Answer) → f (act (recordOf s) c .answer) ≡ act (recordOf s) c .answer
       → f (answerFor (encoded s) c) ≡ answerFor (encoded s) c
@@ -185,17 +185,17 @@ module _ (s : Session) (r : Record) (i : Seen s r) where
     stays = λ v. read-stays;
   }
 
-pub exported-refines : Refines Exports Does Held
+pub exported-refines : Refines Exports Does Encodes
 exported-refines b b′ r c a h e =
     step-is (h .struct) r (h .seen) c a b′ (exports-is (h .struct) r (h .seen) c a b b′ (h .bytes) e)
 
-pub held-answer : (b : List ℕ) (r : Record) → Held b r → (c : Call) → answerFor b c ≡ act r c .answer
+pub held-answer : (b : List ℕ) (r : Record) → Encodes b r → (c : Call) → answerFor b c ≡ act r c .answer
 held-answer b r h c =
     ap (λ (t : List ℕ). answerFor t c) (h .bytes) ∙ answer-is (h .struct) r (h .seen) c
     ∙ seen-answer (h .struct) r (h .seen) c
 
-pub held-after : (b b′ : List ℕ) (r : Record) → Held b r → (c : Call) (n : ℕ) → CallExported b c n b′
-    → Held b′ (act r c .record′)
+pub held-after : (b b′ : List ℕ) (r : Record) → Encodes b r → (c : Call) (n : ℕ) → CallExported b c n b′
+    → Encodes b′ (act r c .record′)
 held-after b b′ r h c n e =
     let k = step-is (h .struct) r (h .seen) c (answerFor (encoded (h .struct)) c) b′
     (record {
@@ -203,9 +203,9 @@ held-after b b′ r h c n e =
       leaves = e .left ∙ ap (λ (t : List ℕ). recordFor t c) (h .bytes);
       stays = subst (λ (t : List ℕ). Stays (h .struct) r (h .seen) c t) (h .bytes) (e .stays);
     }) in
-    subst (λ (t : Record). Held b′ t) (k .1 .leaves) (k .2)
+    subst (λ (t : Record). Encodes b′ t) (k .1 .leaves) (k .2)
 
-pub fresh-held : Held (replicate 983 0) freshRecord
+pub fresh-held : Encodes (replicate 983 0) freshRecord
 fresh-held = record { struct = freshSession; bytes = sym fresh-bytes; seen = fresh-seen }
 
 -- ---- every record that a call leaves is a record again
@@ -217,7 +217,7 @@ record-stays b b′ c a e v fits =
     let T = decoded-types b l fits in
     let S : Shaped (decoded b) =
     record { nodes = T .nodes-length; labels = T .labels-length; roots = T .roots-length; states = T .states-length } in
-    let i : Seen (decoded b) (recordOf (decoded b)) = record { shaped = S; passes = decoded-valid b v; holds = refl } in
+    let i : Represents (decoded b) (recordOf (decoded b)) = record { shaped = S; passes = decoded-valid b v; holds = refl } in
     let h = exported-refines b b′ (recordOf (decoded b)) c a
     (record { struct = decoded b; bytes = sym (encode-decode b v fits); seen = i }) e .2 in
     subst (λ (t : List ℕ). validBytes t ≡ true) (sym (h .bytes))

@@ -11,11 +11,11 @@ use Rattle.model.proofs.LayersHold.{layers}
 use Rattle.reference.proofs.QuestionTheorem.{question-answered, questions-of}
 use Rattle.reference.specs.Outcomes.{QuestionsAnswered}
 use Rattle.capi_session.specs.DecodedAnswers.{Exports}
-use Rattle.capi_session.proofs.ExportedRefines.{Held, exported-refines, fresh-held}
+use Rattle.capi_session.proofs.ExportedRefines.{Encodes, exported-refines, fresh-held}
 
 pub exported-demand-3 : Demand3 (replicate 983 0) Exports
-exported-demand-3 = demand-3-of Exports Does Held exported-refines (replicate 983 0) freshRecord fresh-held (demand-3 layers)
+exported-demand-3 = demand-3-of Exports Does Encodes exported-refines (replicate 983 0) freshRecord fresh-held (demand-3 layers)
 
 -- a question that Start accepted
 pub exported-questions : QuestionsAnswered (replicate 983 0) Exports
-exported-questions = questions-of Exports Does Held exported-refines (replicate 983 0) freshRecord fresh-held (question-answered layers)
+exported-questions = questions-of Exports Does Encodes exported-refines (replicate 983 0) freshRecord fresh-held (question-answered layers)

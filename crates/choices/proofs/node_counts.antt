@@ -1,3 +1,3 @@
 pub mod CappedLaws
-pub mod PourLoop
+pub mod AccumulateLoop
 pub mod JoinLoop

@@ -97,7 +97,7 @@ references-on-bytes = bytes-hold .references
 screen-alone : say.ScreenAlone
 screen-alone = of-records.screen-alone
 
--- and so it is in both forms: every statement about lists of calls (Main, Session, Kept, Lists) holds of a screen's own
+-- and so it is in both forms: every statement about lists of calls (Main, Session, LastAnswer, Lists) holds of a screen's own
 -- calls and turns
 screen-on-structs : ScreenHistory eightSessions ScreenInPlace
 screen-on-structs = history.screen-on-structs

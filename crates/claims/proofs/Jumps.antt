@@ -4,7 +4,7 @@
 --     table-count, entry-by-rule     the table has 1,024 numbers, and each follows the rule from earlier ones
 --     entry-is-jump, table-is-jumps  each is the length of a jump: by depth, and of every node of every tree
 -- That the passes read the table for depths below 1,024 and the rule from there on is the contract of `child_jump`
--- (crate tables, node_tables). Climbs: ProvedToo.
+-- (crate tables, node_tables). Climbs: FurtherStatements.
 use Prim.Native.Nat.{ℕ, _+_, _-_, _<_}
 use mathlib.Core.Path.{_≡_, refl, sym, ap, _∙_}
 use mathlib.Core.List.{List, [], _∷_}

@@ -5,13 +5,13 @@ pub mod Main
 pub mod Forms
 pub mod Session
 pub mod Lists
-pub mod Kept
+pub mod LastAnswer
 pub mod PassedOver
 pub mod EightScreens
 pub mod Colours
 pub mod ColourSets
 pub mod Controls
-pub mod ProvedToo
+pub mod FurtherStatements
 pub mod Contracts
 pub mod Calls
 pub mod Tables

@@ -25,7 +25,7 @@ use Rattle.questions.proofs.ready.PassedLaws.{question-passed}
 use Rattle.model.specs.Calls.{Call, Answer, parts, more, finished, outcomeAnswer}
 use Rattle.reference.specs.Undisturbed.{EveryOutcomeAfter}
 use Rattle.reference.specs.Outcomes.{CleanOutcomes}
-use Rattle.reference.specs.Sample.{seen}
+use Rattle.reference.specs.Sample.{sampleRun}
 use Rattle.reference.proofs.Controls.{all}
 use Rattle.controls.proofs.PassedControls.{gapCalls, gap-told}
 use Rattle.session.specs.declared.state.Session.{Session}
@@ -62,6 +62,6 @@ stays-valid-on-bytes : (b b′ : List ℕ) (c : Call) (a : Answer) → Exports b
 stays-valid-on-bytes = record-stays
 
 -- N 13, kinds 0 0 0 0 1 1 0 1 0 1 0 1 1, labels 0 0 0 0 1 1 1 1 0 1 1 1 0, the list 1→0, 3→1, table A
-gap : seen gapCalls
+gap : sampleRun gapCalls
     ≡ all (some Answer.accepted ∷ some (parts 2) ∷ some more ∷ some finished ∷ some (outcomeAnswer 0 false 2 3 5) ∷ [])
 gap = gap-told

@@ -26,22 +26,22 @@ use Rattle.session.specs.declared.state.Session.{Session}
 use Rattle.session.specs.Records.{recordOf, sessionOf, valid, freshSession}
 use Rattle.session.specs.Promises.{recordOn, CallDone}
 use Rattle.session.specs.CallsByValue.{CallByValue, advances}
-use Rattle.session.proofs.Refine.{Seen, fresh-seen, by-value-refines}
+use Rattle.session.proofs.Refine.{Represents, fresh-seen, by-value-refines}
 use Rattle.session.specs.in_place.CallsInPlace.{CallInPlace}
 use Rattle.session.proofs.in_place.InPlaceTheorem.{in-place-history}
 use Rattle.capi_session.specs.DecodedAnswers.{Exports}
-use Rattle.capi_session.proofs.ExportedRefines.{Held, exported-refines, fresh-held}
+use Rattle.capi_session.proofs.ExportedRefines.{Encodes, exported-refines, fresh-held}
 
 pub finishes-by-value : QuestionsFinish freshSession CallByValue
 finishes-by-value =
-    finish-of CallByValue Does Seen by-value-refines freshSession freshRecord fresh-seen (questions-finish layers)
+    finish-of CallByValue Does Represents by-value-refines freshSession freshRecord fresh-seen (questions-finish layers)
 
 pub finishes-in-place : QuestionsFinish freshSession CallInPlace
 finishes-in-place cs xs x vs bs n ws ys l c s h = finishes-by-value cs xs x vs bs n ws ys l c s (in-place-history _ _ h)
 
 pub finishes-on-bytes : QuestionsFinish (replicate 983 0) Exports
 finishes-on-bytes =
-    finish-of Exports Does Held exported-refines (replicate 983 0) freshRecord fresh-held (questions-finish layers)
+    finish-of Exports Does Encodes exported-refines (replicate 983 0) freshRecord fresh-held (questions-finish layers)
 
 -- ---- the links of one advance
 

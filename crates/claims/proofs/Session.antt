@@ -1,6 +1,6 @@
 -- Further statements about the session's calls, in the three forms of the calls where they are about lists of calls.
 --     start-place, advance-place, read-places     a refused call leaves every output parameter as it was
---     load-leaves, load-leaves-in-place, load-leaves-bytes     the record after a Load; after a Cancel: Kept
+--     load-leaves, load-leaves-in-place, load-leaves-bytes     the record after a Load; after a Cancel: LastAnswer
 --     load-leaves-inputs, load-then-start, starts-by-value, starts-in-place, starts-on-bytes    a Start right after a
 --                                                 Load is accepted
 --     reordered-.., order-.., permuted-superseded, refused-reordered, order    the order of a list makes no difference
@@ -76,7 +76,7 @@ read-places : (b : List ℕ) (r : ℕ) (before after : Places) → ReadExported 
 read-places = read-kept
 
 -- ---- "Load and Cancel end in loaded with the record exactly as after a first Load of that plan.": for any record
--- before. For Cancel, "in all but that answer": cancel-leaves (Kept)
+-- before. For Cancel, "in all but that answer": cancel-leaves (LastAnswer)
 
 load-leaves : (s s′ : Session) (x : Inputs) (a : Answer) → CallByValue s (load x) a s′ → a ≡ Answer.accepted
     → s′ ≡ sessionOf (loadedRecord (sizesIn x))

@@ -1,7 +1,7 @@
 pub mod Refusals
 pub mod Lent
 pub mod Histories
-pub mod ProvedToo
+pub mod FurtherStatements
 pub mod CallAnswers
 pub mod BranchAnswers
 pub mod PlannerFiles

@@ -1,3 +1,3 @@
-pub mod Ups
+pub mod StatesAbove
 pub mod Down
 pub mod SetPass

@@ -13,7 +13,7 @@ use Rattle.formats.specs.Inputs.{Inputs, inputsOf}
 use Rattle.model.specs.Calls.{Call, load, start, advance, read, Answer, parts, more, finished, outcomeAnswer}
 use Rattle.reference.specs.Reference.{newReference}
 use Rattle.reference.specs.AgreementTest.{agreed}
-use Rattle.reference.specs.Sample.{computing, tableA, seen}
+use Rattle.reference.specs.Sample.{computing, tableA, sampleRun}
 use Rattle.reference.proofs.Controls.{all}
 
 -- N 13, labels 0 0 0 0 1 1 1 1 0 1 1 1 0, kinds 0 0 0 0 1 1 0 1 0 1 0 1 1
@@ -33,9 +33,9 @@ gapCalls =
     load (inputsOf planGap tableA (replicate 52 9) (replicate 39 9)) ∷ start inputsGap (1 ∷ 3 ∷ []) (0 ∷ 1 ∷ []) ∷ advance inputsGap
     ∷ advance inputsGap ∷ read ∷ []
 
-pub gap-told : seen gapCalls
+pub gap-told : sampleRun gapCalls
     ≡ all (some Answer.accepted ∷ some (parts 2) ∷ some more ∷ some finished ∷ some (outcomeAnswer 0 false 2 3 5) ∷ [])
-unfolding seen gapCalls
+unfolding sampleRun gapCalls
 gap-told = refl
 
 unfoldable pub judgedGap : ℕ → ℕ → Bool

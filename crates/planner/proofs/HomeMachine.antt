@@ -10,7 +10,7 @@ use mathlib.Core.List.{List, [], _∷_, _++_, append-assoc, append-nil}
 use mathlib.Core.Option.{Option, none, some}
 use native.Mathlib.Omega.{arith}
 use Rattle.planner.specs.Siblings.{Siblings, empty, sibling, count, width, preLabels, preCounts}
-use Rattle.planner.specs.inner.HomeMachine.{Held, held, HomeState, homeState, released, withCount, homeward}
+use Rattle.planner.specs.inner.HomeMachine.{Waiting, waiting, HomeState, homeState, released, withCount, homeward}
 
 abbrev pub fromRight : Siblings → List (Option ℕ)
 fromRight empty = none ∷ []
@@ -20,14 +20,14 @@ abbrev homed : List (Option ℕ) → HomeState → HomeState
 homed xs T = homeward xs 0 (T .stack) (T .labels) (T .counts)
 
 abbrev Later : Siblings → Type 0
-Later f = (xs : List (Option ℕ)) (k : ℕ) (st : List Held) (ls cs : List ℕ)
+Later f = (xs : List (Option ℕ)) (k : ℕ) (st : List Waiting) (ls cs : List ℕ)
     → homeward (fromRight f ++ xs) (suc k) st ls cs
     ≡ homeward xs 0 (withCount (suc k) (suc k + width f) st) (preLabels f ++ ls) (preCounts f ++ cs)
 
 abbrev Children : Siblings → Type 0
-Children f = (xs : List (Option ℕ)) (a : ℕ) (b : Bool) (st : List Held) (ls cs : List ℕ)
-    → homeward (fromRight f ++ xs) 0 (held a 0 b ∷ st) ls cs
-    ≡ homed xs (released (held a (width f) b ∷ st) (preLabels f ++ ls) (preCounts f ++ cs))
+Children f = (xs : List (Option ℕ)) (a : ℕ) (b : Bool) (st : List Waiting) (ls cs : List ℕ)
+    → homeward (fromRight f ++ xs) 0 (waiting a 0 b ∷ st) ls cs
+    ≡ homed xs (released (waiting a (width f) b ∷ st) (preLabels f ++ ls) (preCounts f ++ cs))
 
 mutual
   pub homeward-rest : (f : Siblings) → Later f
@@ -36,9 +36,9 @@ mutual
       ap (λ (n : ℕ). homeward xs 0 (withCount (suc k) n st) ls cs) e
   homeward-rest (sibling a c r) xs k st ls cs =
       let e : suc (suc k) + width r ≡ suc k + suc (width r) = omega arith in
-      ap (λ (l : List (Option ℕ)). homeward l (suc (suc k)) (held a 0 false ∷ st) ls cs)
+      ap (λ (l : List (Option ℕ)). homeward l (suc (suc k)) (waiting a 0 false ∷ st) ls cs)
       (append-assoc (fromRight r) (fromRight c) xs)
-      ∙ homeward-rest r (fromRight c ++ xs) (suc k) (held a 0 false ∷ st) ls cs
+      ∙ homeward-rest r (fromRight c ++ xs) (suc k) (waiting a 0 false ∷ st) ls cs
       ∙ homeward-children c xs a false (withCount (suc k) (suc (suc k) + width r) st) (preLabels r ++ ls)
       (preCounts r ++ cs)
       ∙ ap (λ (n : ℕ). homeward xs 0 (withCount (suc k) n st) (a ∷ (preLabels c ++ (preLabels r ++ ls)))
@@ -50,19 +50,19 @@ mutual
   homeward-children empty xs a b st ls cs = refl
   homeward-children (sibling d c r) xs a b st ls cs =
       let e : 1 + width r ≡ suc (width r) = omega arith in
-      ap (λ (l : List (Option ℕ)). homeward l 1 (held d 0 true ∷ held a 0 b ∷ st) ls cs)
+      ap (λ (l : List (Option ℕ)). homeward l 1 (waiting d 0 true ∷ waiting a 0 b ∷ st) ls cs)
       (append-assoc (fromRight r) (fromRight c) xs)
-      ∙ homeward-rest r (fromRight c ++ xs) 0 (held d 0 true ∷ held a 0 b ∷ st) ls cs
-      ∙ homeward-children c xs d true (held a (1 + width r) b ∷ st) (preLabels r ++ ls) (preCounts r ++ cs)
+      ∙ homeward-rest r (fromRight c ++ xs) 0 (waiting d 0 true ∷ waiting a 0 b ∷ st) ls cs
+      ∙ homeward-children c xs d true (waiting a (1 + width r) b ∷ st) (preLabels r ++ ls) (preCounts r ++ cs)
       ∙ ap (λ (n : ℕ). homed xs
-      (released (held a n b ∷ st) (d ∷ (preLabels c ++ (preLabels r ++ ls)))
+      (released (waiting a n b ∷ st) (d ∷ (preLabels c ++ (preLabels r ++ ls)))
       (width c ∷ (preCounts c ++ (preCounts r ++ cs))))) e
-      ∙ ap₂ (λ (l m : List ℕ). homed xs (released (held a (suc (width r)) b ∷ st) (d ∷ l) (width c ∷ m)))
+      ∙ ap₂ (λ (l m : List ℕ). homed xs (released (waiting a (suc (width r)) b ∷ st) (d ∷ l) (width c ∷ m)))
       (sym (append-assoc (preLabels c) (preLabels r) ls)) (sym (append-assoc (preCounts c) (preCounts r) cs))
 
 pub homeward-tree : (a : ℕ) (c : Siblings)
     → homeward (fromRight (sibling a c empty)) 0 [] [] []
     ≡ homeState [] (preLabels (sibling a c empty)) (preCounts (sibling a c empty))
 homeward-tree a c =
-    ap (λ (l : List (Option ℕ)). homeward l 0 (held a 0 true ∷ []) [] []) (sym (append-nil (fromRight c)))
+    ap (λ (l : List (Option ℕ)). homeward l 0 (waiting a 0 true ∷ []) [] []) (sym (append-nil (fromRight c)))
     ∙ homeward-children c [] a true [] [] []

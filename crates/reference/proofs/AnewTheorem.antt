@@ -154,7 +154,7 @@ as-anew L cs xs x ds ys zs same sizes h k =
     (subst (λ (z : Sizes). History Does (withLast (r .last) (loadedRecord z)) ds ys) (R .1 .sizes ∙ sym sizes) (from-cancel r ds ys (R .2)))
     (from-load freshRecord x ds zs k)
 
-module _ {A B : Type 0} (StepA : A → Call → Answer → A → Type 0) (StepB : B → Call → Answer → B → Type 0) (Seen : A → B → Type 0) where
-  pub anew-of : Refines StepA StepB Seen → (a : A) (b : B) → Seen a b → AsAnew b StepB → AsAnew a StepA
+module _ {A B : Type 0} (StepA : A → Call → Answer → A → Type 0) (StepB : B → Call → Answer → B → Type 0) (SampleRun : A → B → Type 0) where
+  pub anew-of : Refines StepA StepB SampleRun → (a : A) (b : B) → SampleRun a b → AsAnew b StepB → AsAnew a StepA
   anew-of f a b i q cs xs x ds ys zs l s h k =
-      q cs xs x ds ys zs l s (refines StepA StepB Seen f a b _ _ i h) (refines StepA StepB Seen f a b _ _ i k)
+      q cs xs x ds ys zs l s (refines StepA StepB SampleRun f a b _ _ i h) (refines StepA StepB SampleRun f a b _ _ i k)

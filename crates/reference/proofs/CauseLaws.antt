@@ -24,7 +24,7 @@ use Rattle.questions.specs.Part.{labelOn}
 use Rattle.questions.specs.OutOfRange.{PartOutOfRange, links, children, run, map, leaf, rule, handled, label, changed}
 use Rattle.formats.specs.Inputs.{Inputs, Sizes}
 use Rattle.model.specs.Calls.{refused}
-use Rattle.reference.specs.Causes.{isChildless, isFlat, strays, isApart, nodeTableCause, nodeCause, rulesCause, cause}
+use Rattle.reference.specs.Causes.{isChildless, isFlat, linkFaulty, isApart, nodeTableCause, nodeCause, rulesCause, cause}
 use Rattle.reference.specs.Causes.{advanceCause}
 use Rattle.reference.specs.Reference.{mayAdvanceWith}
 use Rattle.questions.specs.PartInputs.{viewBy}
@@ -37,15 +37,15 @@ bare b x (inl e) = or-first (eqb x 0) _ (eq-eqb x 0 e)
 bare b x (inr h) = or-second (eqb x 0) _ (lt-ltb (x - 1) (sizeCell b (x - 1)) h)
 
 module _ (n : ℕ) (b : List ℕ) where
-  at-node : (v : ℕ) → v < n → (strays n b v || isApart n b v) ≡ true → nodeTableCause n b ≡ true
+  at-node : (v : ℕ) → v < n → (linkFaulty n b v || isApart n b v) ≡ true → nodeTableCause n b ≡ true
   unfolding nodeTableCause
-  at-node v h e = in-some (λ u. strays n b u || isApart n b u) n 0 v (omega arith) (omega arith) e
+  at-node v h e = in-some (λ u. linkFaulty n b u || isApart n b u) n 0 v (omega arith) (omega arith) e
 
-  out-of-range-at : (v : ℕ) → v < n → strays n b v ≡ true → nodeTableCause n b ≡ true
-  out-of-range-at v h e = at-node v h (or-first (strays n b v) (isApart n b v) e)
+  out-of-range-at : (v : ℕ) → v < n → linkFaulty n b v ≡ true → nodeTableCause n b ≡ true
+  out-of-range-at v h e = at-node v h (or-first (linkFaulty n b v) (isApart n b v) e)
 
   flat-at : (v : ℕ) → v < n → 0 < depthCell b v → isFlat b v ≡ true → nodeTableCause n b ≡ true
-  unfolding strays
+  unfolding linkFaulty
   flat-at v h d e =
       out-of-range-at v h (or-second (leb n (jumpCell b v)) _ (or-second (leb n (parentCell b v)) _
       (and-both (ltb 0 (depthCell b v)) (isFlat b v) (lt-ltb 0 (depthCell b v) d) e)))
@@ -68,7 +68,7 @@ module _ (n : ℕ) (b : List ℕ) where
       (subst (λ (y : ℕ). isChildless b y ≡ true) e (bare b x c)))))
 
   pub links-cause : NodeTableOutOfRange n b → nodeTableCause n b ≡ true
-  unfolding strays isFlat isApart
+  unfolding linkFaulty isFlat isApart
   links-cause (link (jump-outside v h o)) = out-of-range-at v h (or-first (leb n (jumpCell b v)) _ (le-leb n (jumpCell b v) o))
   links-cause (link (jump-flat v h d e)) =
       flat-at v h d (or-first (jumpFlat v) _ (le-leb (depthCell b v) (depthCell b (jumpCell b v)) e))
@@ -79,7 +79,7 @@ module _ (n : ℕ) (b : List ℕ) where
       (le-leb (depthCell b v) (depthCell b (parentCell b v)) e)))
   links-cause (childless v x h d l c) = led v x h d l c
   links-cause (apart v u h i d e) =
-      at-node v h (or-second (strays n b v) _ (and-both (eqb (depthCell b v) 0) _ (eq-eqb (depthCell b v) 0 d)
+      at-node v h (or-second (linkFaulty n b v) _ (and-both (eqb (depthCell b v) 0) _ (eq-eqb (depthCell b v) 0 d)
       (in-some (λ w. not (isInSubtreeOn b v w)) n 0 u (omega arith) (omega arith) (ap not e))))
 
 -- ---- all that an advance reads

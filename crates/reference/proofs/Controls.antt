@@ -19,10 +19,10 @@ use Rattle.formats.specs.Plan.{planTree}
 use Rattle.questions.specs.ready.Members.{roots}
 use Rattle.questions.specs.ready.Parts.{questionLinks}
 use Rattle.reference.specs.AgreementTest.{agreed}
-use Rattle.reference.specs.Sample.{computing, planA, tableA, loadA, inputsA, Seen, seen, asking, row}
+use Rattle.reference.specs.Sample.{computing, planA, tableA, loadA, inputsA, SampleRun, sampleRun, asking, row}
 
 -- what the reference model settles of a list of calls, all of whose answers agree
-abbrev pub all : List (Option Answer) → Seen
+abbrev pub all : List (Option Answer) → SampleRun
 all says = record { says = says; agrees = true }
 
 -- another plan of 7 nodes, which leans left
@@ -69,64 +69,64 @@ onNode0 x y w = load loadA ∷ onNode x ∷ advance y ∷ advance w ∷ read ∷
 
 -- ---- settled
 
-pub clean-list : seen (asking [] [] 1)
+pub clean-list : sampleRun (asking [] [] 1)
     ≡ all (some Answer.accepted ∷ some (parts 1) ∷ some finished ∷ some (outcomeAnswer 1 true 1 0 0) ∷ [])
-unfolding seen asking
+unfolding sampleRun asking
 clean-list = refl
 
 -- "Plan, rules and tables are the panel's to alter or exchange": plan A was loaded and plan B is
 -- asked on its own tables, with a changing excess. Start's 18 is not tied to Load's plan
 pub exchanged-plan :
-    seen (load loadA ∷ start (longerBy inputsB (5 ∷ [])) (0 ∷ []) (1 ∷ []) ∷ advance (longerBy inputsB (7 ∷ 8 ∷ 9 ∷ [])) ∷ advance inputsB
+    sampleRun (load loadA ∷ start (longerBy inputsB (5 ∷ [])) (0 ∷ []) (1 ∷ []) ∷ advance (longerBy inputsB (7 ∷ 8 ∷ 9 ∷ [])) ∷ advance inputsB
     ∷ read ∷ [])
     ≡ all (some Answer.accepted ∷ some (parts 2) ∷ some more ∷ some finished ∷ some (outcomeAnswer 1 true 2 2 2) ∷ [])
-unfolding seen loadA inputsA inputsB
+unfolding sampleRun loadA inputsA inputsB
 exchanged-plan = refl
 
 -- Start's plan decides which label is no change: 0 is node 0's label in plan B, not in plan A, which was loaded
-pub own-label-at-start : seen (onNode0 inputsB inputsB inputsB)
+pub own-label-at-start : sampleRun (onNode0 inputsB inputsB inputsB)
     ≡ all (some Answer.accepted ∷ some (parts 1) ∷ some finished ∷ some (refused 1) ∷ some (outcomeAnswer 1 true 1 0 0) ∷ [])
-unfolding seen onNode0 inputsA inputsB
+unfolding sampleRun onNode0 inputsA inputsB
 own-label-at-start = refl
 
 -- "lent the same, excess aside"
-pub changed-excess : seen (onNode0 (longerBy inputsA (5 ∷ [])) (longerBy inputsA (7 ∷ 8 ∷ 9 ∷ [])) inputsA)
+pub changed-excess : sampleRun (onNode0 (longerBy inputsA (5 ∷ [])) (longerBy inputsA (7 ∷ 8 ∷ 9 ∷ [])) inputsA)
     ≡ all (some Answer.accepted ∷ some (parts 2) ∷ some more ∷ some finished ∷ some (outcomeAnswer 0 false 2 1 1) ∷ [])
-unfolding seen onNode0 inputsA
+unfolding sampleRun onNode0 inputsA
 changed-excess = refl
 
 -- 17 and 18 on other inputs, then the tables restored: "18 leaves the book as it is", and so does every refusal.
 -- Number 1 is node 0's jump
-pub restored : seen (load loadA ∷ start inputsA (0 ∷ []) (0 ∷ []) ∷ advance inputsA ∷ advance (otherNumber 1 60000)
+pub restored : sampleRun (load loadA ∷ start inputsA (0 ∷ []) (0 ∷ []) ∷ advance inputsA ∷ advance (otherNumber 1 60000)
     ∷ advance nothing
     ∷ advance inputsA ∷ read ∷ [])
     ≡ all (some Answer.accepted ∷ some (parts 2) ∷ some more ∷ none ∷ some (refused 17) ∷ some finished
     ∷ some (outcomeAnswer 0 false 2 1 1) ∷ [])
-unfolding seen otherNumber loadA inputsA
+unfolding sampleRun otherNumber loadA inputsA
 restored = refl
 
 -- other bytes below S: settled by the rule, on those bytes. Byte 1 is node 0's map at state 0; a fresh run has 0 no
-pub other-states : seen (onNode0 inputsA inputsA (otherState 1 1))
+pub other-states : sampleRun (onNode0 inputsA inputsA (otherState 1 1))
     ≡ all (some Answer.accepted ∷ some (parts 2) ∷ some more ∷ some finished ∷ some (outcomeAnswer 1 true 2 1 1) ∷ [])
-unfolding seen onNode0 inputsA otherState
+unfolding sampleRun onNode0 inputsA otherState
 other-states = refl
 
 -- Start's 18: bytes below S and not, numbers in range and out of range, another label; then the tables as built
 pub other-at-start :
-    seen (load loadA ∷ onNode (otherState 1 1) ∷ onNode (otherState 1 2) ∷ onNode (otherState 20 0) ∷ onNode (otherNumber 1 6)
+    sampleRun (load loadA ∷ onNode (otherState 1 1) ∷ onNode (otherState 1 2) ∷ onNode (otherState 20 0) ∷ onNode (otherNumber 1 6)
     ∷ onNode (otherNumber 1 60000) ∷ onNode otherLabel ∷ advance inputsA ∷ onNode inputsA ∷ [])
     ≡ all (some Answer.accepted ∷ some (refused 18) ∷ some (refused 18) ∷ some (refused 18) ∷ some (refused 18)
     ∷ some (refused 18) ∷ some (refused 18) ∷ some (refused 1) ∷ some (parts 2) ∷ [])
-unfolding seen loadA inputsA onNode otherState otherNumber otherLabel
+unfolding sampleRun loadA inputsA onNode otherState otherNumber otherLabel
 other-at-start = refl
 
 -- 18 is the last of Start's checks: 17 and 12 to 14 come before it; a node listed twice fails none of them
 pub eighteen-last :
-    seen (load loadA ∷ start nothing [] [] ∷ start (otherState 1 1) (0 ∷ []) [] ∷ start (otherState 1 1) (7 ∷ []) (0 ∷ [])
+    sampleRun (load loadA ∷ start nothing [] [] ∷ start (otherState 1 1) (0 ∷ []) [] ∷ start (otherState 1 1) (7 ∷ []) (0 ∷ [])
     ∷ start (otherState 1 1) (0 ∷ []) (2 ∷ []) ∷ start (otherState 1 1) (0 ∷ 0 ∷ []) (0 ∷ 1 ∷ []) ∷ start (otherState 1 1) [] [] ∷ [])
     ≡ all (some Answer.accepted ∷ some (refused 17) ∷ some (refused 12) ∷ some (refused 13) ∷ some (refused 14)
     ∷ some (refused 18) ∷ some (refused 18) ∷ [])
-unfolding seen loadA inputsA otherState
+unfolding sampleRun loadA inputsA otherState
 eighteen-last = refl
 
 -- rules of equal length, 27 bytes, that name another S and K: S 1 and K 3 for a record of S 2 and K 1. They are sound
@@ -150,54 +150,54 @@ unfolding planOne computing
 ofOne rules = inputsOf planOne rules (builtNodeTable planOne) (builtStateTable planOne rules ++ (0 ∷ []))
 
 pub other-counts :
-    (seen (load (ofOne rulesOf21) ∷ start (ofOne rulesOf13) [] [] ∷ start (ofOne rulesOf21) [] [] ∷ [])
+    (sampleRun (load (ofOne rulesOf21) ∷ start (ofOne rulesOf13) [] [] ∷ start (ofOne rulesOf21) [] [] ∷ [])
     ≡ all (some Answer.accepted ∷ some (refused 18) ∷ some (parts 1) ∷ []))
     × (sound (record { n = 1; s = 1; k = 3 }) (ofOne rulesOf13) ≡ true)
-unfolding seen ofOne rulesOf21 rulesOf13
+unfolding sampleRun ofOne rulesOf21 rulesOf13
 other-counts = (refl, refl)
 
 -- a call in the wrong state, a Cancel, and a Start from answered
-pub wrong-state : seen (read ∷ cancel ∷ load loadA ∷ advance inputsA ∷ start inputsA [] [] ∷ load loadA
+pub wrong-state : sampleRun (read ∷ cancel ∷ load loadA ∷ advance inputsA ∷ start inputsA [] [] ∷ load loadA
     ∷ start inputsA [] [] ∷ cancel
     ∷ start inputsA [] [] ∷ advance inputsA ∷ read ∷ start inputsA (6 ∷ []) (0 ∷ []) ∷ read ∷ [])
     ≡ all (some (refused 1) ∷ some (refused 1) ∷ some Answer.accepted ∷ some (refused 1) ∷ some (parts 1)
     ∷ some (refused 1)
     ∷ some (refused 1) ∷ some Answer.accepted ∷ some (parts 1) ∷ some finished ∷ some (outcomeAnswer 1 true 1 0 0)
     ∷ some (parts 1) ∷ some (outcomeAnswer 1 true 1 0 0) ∷ [])
-unfolding seen loadA inputsA
+unfolding sampleRun loadA inputsA
 wrong-state = refl
 
 -- two faults at once: the first failing check in the text's order, 17 before 12, all of 13 before 14
-pub first-no : seen (load loadA ∷ start loadA (7 ∷ []) (2 ∷ []) ∷ start nothing (7 ∷ []) [] ∷ start inputsA (7 ∷ []) []
+pub first-no : sampleRun (load loadA ∷ start loadA (7 ∷ []) (2 ∷ []) ∷ start nothing (7 ∷ []) [] ∷ start inputsA (7 ∷ []) []
     ∷ start inputsA (0 ∷ 7 ∷ []) (2 ∷ 0 ∷ []) ∷ start inputsA (0 ∷ 0 ∷ []) (0 ∷ 2 ∷ []) ∷ start inputsA (replicate 65 0)
     (replicate 65 0) ∷ [])
     ≡ all (some Answer.accepted ∷ some (refused 13) ∷ some (refused 17) ∷ some (refused 12)
     ∷ some (refused 13) ∷ some (refused 14) ∷ some (refused 12) ∷ [])
-unfolding seen loadA inputsA
+unfolding sampleRun loadA inputsA
 first-no = refl
 
 -- a Start refused with 18 leaves the old question, still clean. Number 13 is node 3's jump
-pub refused-start : seen (asking [] [] 1 ++ (start (otherNumber 13 60000) (0 ∷ 3 ∷ []) (0 ∷ 0 ∷ []) ∷ read ∷ []))
+pub refused-start : sampleRun (asking [] [] 1 ++ (start (otherNumber 13 60000) (0 ∷ 3 ∷ []) (0 ∷ 0 ∷ []) ∷ read ∷ []))
     ≡ all (some Answer.accepted ∷ some (parts 1) ∷ some finished ∷ some (outcomeAnswer 1 true 1 0 0)
     ∷ some (refused 18) ∷ some (outcomeAnswer 1 true 1 0 0) ∷ [])
-unfolding seen asking otherNumber loadA inputsA
+unfolding sampleRun asking otherNumber loadA inputsA
 refused-start = refl
 
 -- ---- left to the program, and agreed
 
 -- an accepted advance on other numbers, or on another plan: unclean from then on, its Read too
 pub unsettled-advance :
-    (seen (onNode0 inputsA (otherNumber 1 6) inputsA)
+    (sampleRun (onNode0 inputsA (otherNumber 1 6) inputsA)
     ≡ all (some Answer.accepted ∷ some (parts 2) ∷ none ∷ none ∷ none ∷ []))
-    × (seen (onNode0 inputsA inputsA otherLabel)
+    × (sampleRun (onNode0 inputsA inputsA otherLabel)
     ≡ all (some Answer.accepted ∷ some (parts 2) ∷ some more ∷ none ∷ none ∷ []))
-unfolding seen onNode0 inputsA otherNumber otherLabel
+unfolding sampleRun onNode0 inputsA otherNumber otherLabel
 unsettled-advance = (refl, refl)
 
 -- a byte of S or above in an advance
-pub unsettled-byte : seen (onNode0 inputsA inputsA (otherState 1 2))
+pub unsettled-byte : sampleRun (onNode0 inputsA inputsA (otherState 1 2))
     ≡ all (some Answer.accepted ∷ some (parts 2) ∷ some more ∷ none ∷ some (refused 1) ∷ [])
-unfolding seen onNode0 inputsA otherState
+unfolding sampleRun onNode0 inputsA otherState
 unsettled-byte = refl
 
 -- ---- answers that the reference model turns down

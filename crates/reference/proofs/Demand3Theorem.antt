@@ -38,7 +38,7 @@ demand-3 L cs xs h = agrees-from L freshRecord newReference cs xs at-first h
 
 -- ---- other forms of the calls
 
-module _ {A B : Type 0} (StepA : A → Call → Answer → A → Type 0) (StepB : B → Call → Answer → B → Type 0) (Seen : A
+module _ {A B : Type 0} (StepA : A → Call → Answer → A → Type 0) (StepB : B → Call → Answer → B → Type 0) (SampleRun : A
     → B → Type 0) where
-  pub demand-3-of : Refines StepA StepB Seen → (a : A) (b : B) → Seen a b → Demand3 b StepB → Demand3 a StepA
-  demand-3-of f a b i d cs xs h = d cs xs (refines StepA StepB Seen f a b cs xs i h)
+  pub demand-3-of : Refines StepA StepB SampleRun → (a : A) (b : B) → SampleRun a b → Demand3 b StepB → Demand3 a StepA
+  demand-3-of f a b i d cs xs h = d cs xs (refines StepA StepB SampleRun f a b cs xs i h)

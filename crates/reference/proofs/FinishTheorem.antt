@@ -174,6 +174,6 @@ questions-finish L cs xs x vs bs n ws ys same count alike h =
     ∙ ap (λ (m : ℕ). toTheEnd m (freshAnswer (asked x vs bs))) count
 
 -- it passes on to every form of the calls that refines this one
-module _ {A B : Type 0} (StepA : A → Call → Answer → A → Type 0) (StepB : B → Call → Answer → B → Type 0) (Seen : A → B → Type 0) where
-  pub finish-of : Refines StepA StepB Seen → (a : A) (b : B) → Seen a b → QuestionsFinish b StepB → QuestionsFinish a StepA
-  finish-of f a b i q cs xs x vs bs n ws ys l c s h = q cs xs x vs bs n ws ys l c s (refines StepA StepB Seen f a b _ _ i h)
+module _ {A B : Type 0} (StepA : A → Call → Answer → A → Type 0) (StepB : B → Call → Answer → B → Type 0) (SampleRun : A → B → Type 0) where
+  pub finish-of : Refines StepA StepB SampleRun → (a : A) (b : B) → SampleRun a b → QuestionsFinish b StepB → QuestionsFinish a StepA
+  finish-of f a b i q cs xs x vs bs n ws ys l c s h = q cs xs x vs bs n ws ys l c s (refines StepA StepB SampleRun f a b _ _ i h)

@@ -272,13 +272,13 @@ no-answer-yet L = (
 )
 
 -- they pass on to every form of the calls that refines this one
-module _ {A B : Type 0} (StepA : A → Call → Answer → A → Type 0) (StepB : B → Call → Answer → B → Type 0) (Seen : A → B → Type 0) where
-  pub lasts-of : Refines StepA StepB Seen → (a : A) (b : B) → Seen a b → AnswersLast b StepB → AnswersLast a StepA
+module _ {A B : Type 0} (StepA : A → Call → Answer → A → Type 0) (StepB : B → Call → Answer → B → Type 0) (SampleRun : A → B → Type 0) where
+  pub lasts-of : Refines StepA StepB SampleRun → (a : A) (b : B) → SampleRun a b → AnswersLast b StepB → AnswersLast a StepA
   lasts-of f a b i q cs xs x vs bs n ds ys w es zs l c u h =
-      q cs xs x vs bs n ds ys w es zs l c u (refines StepA StepB Seen f a b _ _ i h)
+      q cs xs x vs bs n ds ys w es zs l c u (refines StepA StepB SampleRun f a b _ _ i h)
 
-  pub none-of : Refines StepA StepB Seen → (a : A) (b : B) → Seen a b → NoAnswersYet b StepB → NoAnswersYet a StepA
+  pub none-of : Refines StepA StepB SampleRun → (a : A) (b : B) → SampleRun a b → NoAnswersYet b StepB → NoAnswersYet a StepA
   none-of f a b i q = (
-    λ cs xs h. q .0 cs xs (refines StepA StepB Seen f a b _ _ i h),
-    λ cs xs x ds ys l h. q .1 cs xs x ds ys l (refines StepA StepB Seen f a b _ _ i h),
+    λ cs xs h. q .0 cs xs (refines StepA StepB SampleRun f a b _ _ i h),
+    λ cs xs x ds ys l h. q .1 cs xs x ds ys l (refines StepA StepB SampleRun f a b _ _ i h),
   )

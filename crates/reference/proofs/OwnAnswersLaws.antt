@@ -19,7 +19,7 @@ use Rattle.reference.specs.Reference.{inState, goesOn, longer, advanced,
 use Rattle.reference.specs.Reference.{advancingByRule, advancing, partCount, asked, starting}
 use Rattle.reference.specs.Reference.{readingLast, finishedWith, proceed, decided, step}
 use Rattle.reference.specs.Demand3.{Conforms}
-use Rattle.reference.specs.OwnAnswers.{Own, refuses, loads, starts, goes-on, finishes, cancels, reads}
+use Rattle.reference.specs.OwnAnswers.{OwnAnswer, refuses, loads, starts, goes-on, finishes, cancels, reads}
 use Rattle.reference.proofs.ReadingLaws.{reading-outcome}
 use Rattle.reference.proofs.Simulation.{referenceOf}
 use Rattle.reference.specs.Sample.{inputsA}
@@ -34,7 +34,7 @@ read-outcome s z q a e = reading-outcome (referenceOf s z (some q)) q (q .settle
 
 -- ---- an advance
 
-pub advance-only : (x : Inputs) (usable caused : Bool) (a : Answer) → mayAdvanceWith usable caused a ≡ true → Own (advance x) a
+pub advance-only : (x : Inputs) (usable caused : Bool) (a : Answer) → mayAdvanceWith usable caused a ≡ true → OwnAnswer (advance x) a
 unfolding mayAdvanceWith
 advance-only x u c (refused n) e = refuses n
 advance-only x u c Answer.accepted e = absurd (true-false (sym e))
@@ -44,30 +44,30 @@ advance-only x u c finished e = finishes
 advance-only x u c (outcome o) e = absurd (true-false (sym e))
 
 -- a settled answer
-is : (c : Call) (a d : Answer) → a ≡ d → Own c d → Own c a
-is c a d e o = subst (Own c) (sym e) o
+is : (c : Call) (a d : Answer) → a ≡ d → OwnAnswer c d → OwnAnswer c a
+is c a d e o = subst (OwnAnswer c) (sym e) o
 
-either : (c : Call) (a : Answer) (b : Bool) (r s : Reply) → (Conforms r a → Own c a) → (Conforms s a → Own c a)
-    → Conforms (cond b r s) a → Own c a
+either : (c : Call) (a : Answer) (b : Bool) (r s : Reply) → (Conforms r a → OwnAnswer c a) → (Conforms s a → OwnAnswer c a)
+    → Conforms (cond b r s) a → OwnAnswer c a
 either c a true r s f g e = f e
 either c a false r s f g e = g e
 
 module _ (b : Reference) (x : Inputs) (q : Question) (a : Answer) where
-  onward : (k : Question) → Conforms (goesOn b k) a → Own (advance x) a
+  onward : (k : Question) → Conforms (goesOn b k) a → OwnAnswer (advance x) a
   unfolding goesOn
   onward k = either (advance x) a (eqb (k .count) (partCount k)) (settled finished (finishedWith b k)) (settled more (inState b (State.running k)))
       (λ e. is (advance x) a finished e finishes) (λ e. is (advance x) a more e goes-on)
 
-  by-program : Conforms (advancingByProgram b x q) a → Own (advance x) a
+  by-program : Conforms (advancingByProgram b x q) a → OwnAnswer (advance x) a
   unfolding advancingByProgram
   by-program e = advance-only x _ _ a e
 
-  by-rule : Conforms (advancingByRule b x q) a → Own (advance x) a
+  by-rule : Conforms (advancingByRule b x q) a → OwnAnswer (advance x) a
   unfolding advancingByRule
   by-rule = either (advance x) a (otherStates (b .sizes) q x) (goesOn b (advanced q byRule (longer (b .sizes) q x))) (advancingByProgram b x q)
       (onward _) by-program
 
-  advance-own : (k : Settlement) → Conforms (advancing b x q k) a → Own (advance x) a
+  advance-own : (k : Settlement) → Conforms (advancing b x q k) a → OwnAnswer (advance x) a
   unfolding advancing
   advance-own clean = either (advance x) a (sameInputs (b .sizes) (q .inputs) x) (goesOn b (advanced q clean (longer (b .sizes) q x)))
       (advancingByRule b x q) (onward _) by-rule
@@ -77,15 +77,15 @@ module _ (b : Reference) (x : Inputs) (q : Question) (a : Answer) where
 -- ---- every call
 
 module _ (b : Reference) (a : Answer) where
-  no : (c : Call) (n : ℕ) → a ≡ refused n → Own c a
+  no : (c : Call) (n : ℕ) → a ≡ refused n → OwnAnswer c a
   no c n e = is c a (refused n) e (refuses n)
 
-  last-own : (l : Option Question) → Conforms (readingLast b l) a → Own read a
+  last-own : (l : Option Question) → Conforms (readingLast b l) a → OwnAnswer read a
   unfolding readingLast
   last-own none e = no read 1 e
   last-own (some q) e = let o = reading-outcome b q (q .settlement) a e in is read a (outcome (o .0)) (o .1) (reads (o .0))
 
-  proceed-own : (s : State) (c : Call) → Conforms (proceed b s c) a → Own c a
+  proceed-own : (s : State) (c : Call) → Conforms (proceed b s c) a → OwnAnswer c a
   unfolding proceed starting
   proceed-own s (load x) e = is (load x) a Answer.accepted e loads
   proceed-own s (start x vs bs) e = is (start x vs bs) a (parts (partCount (asked x vs bs))) e (starts _)
@@ -96,11 +96,11 @@ module _ (b : Reference) (a : Answer) where
   proceed-own s cancel e = is cancel a Answer.accepted e cancels
   proceed-own s read e = last-own (b .last) e
 
-  pub own-answers : (c : Call) → Conforms (step b c) a → Own c a
+  pub own-answers : (c : Call) → Conforms (step b c) a → OwnAnswer c a
   unfolding step decided
   own-answers c = go (refusal (stageOf b) c)
     where
-      go : (n : ℕ) → Conforms (decided n b c) a → Own c a
+      go : (n : ℕ) → Conforms (decided n b c) a → OwnAnswer c a
       go zero e = proceed-own (b .state) c e
       go (suc n) e = no c (suc n) e
 

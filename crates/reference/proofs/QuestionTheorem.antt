@@ -165,6 +165,6 @@ outcome-order x vs bs ws cs g h d u n ys T = record {
 }
 
 -- it passes on to every form of the calls that refines this one
-module _ {A B : Type 0} (StepA : A → Call → Answer → A → Type 0) (StepB : B → Call → Answer → B → Type 0) (Seen : A → B → Type 0) where
-  pub questions-of : Refines StepA StepB Seen → (a : A) (b : B) → Seen a b → QuestionsAnswered b StepB → QuestionsAnswered a StepA
-  questions-of f a b i q cs xs x vs bs n ds ys l h = q cs xs x vs bs n ds ys l (refines StepA StepB Seen f a b _ _ i h)
+module _ {A B : Type 0} (StepA : A → Call → Answer → A → Type 0) (StepB : B → Call → Answer → B → Type 0) (SampleRun : A → B → Type 0) where
+  pub questions-of : Refines StepA StepB SampleRun → (a : A) (b : B) → SampleRun a b → QuestionsAnswered b StepB → QuestionsAnswered a StepA
+  questions-of f a b i q cs xs x vs bs n ds ys l h = q cs xs x vs bs n ds ys l (refines StepA StepB SampleRun f a b _ _ i h)

@@ -3,7 +3,7 @@
 -- "18 means that a value read leads outside the plan, the states or the labels, or a climb doesn't rise."
 --
 -- isChildless b x == by the node table b, a child of node x would lie outside the plan
--- strays n b v == a link of node v leads outside the plan, does not rise, or leads to a node without children
+-- linkFaulty n b v == a link of node v leads outside the plan, does not rise, or leads to a node without children
 -- isApart n b v == node v has depth 0, and some node is not in its subtree
 -- nodeTableCause n b == one of these two holds of one of the n nodes
 -- nodeCause X vs bs v == a state, a label or the kind of node v is out of range, with the labels as the list changes
@@ -36,14 +36,14 @@ isFlat b v =
     || (leb (depthCell b v) (depthCell b (parentCell b v))
     || (isChildless b (parentCell b v) || isChildless b (jumpCell b v)))
 
-unfoldable pub strays : ℕ → List ℕ → ℕ → Bool
-strays n b v = leb n (jumpCell b v) || (leb n (parentCell b v) || (ltb 0 (depthCell b v) && isFlat b v))
+unfoldable pub linkFaulty : ℕ → List ℕ → ℕ → Bool
+linkFaulty n b v = leb n (jumpCell b v) || (leb n (parentCell b v) || (ltb 0 (depthCell b v) && isFlat b v))
 
 unfoldable pub isApart : ℕ → List ℕ → ℕ → Bool
 isApart n b v = eqb (depthCell b v) 0 && someIn (λ u. not (isInSubtreeOn b v u)) 0 n
 
 unfoldable pub nodeTableCause : ℕ → List ℕ → Bool
-nodeTableCause n b = someIn (λ v. strays n b v || isApart n b v) 0 n
+nodeTableCause n b = someIn (λ v. linkFaulty n b v || isApart n b v) 0 n
 
 unfoldable pub nodeCause : View → List ℕ → List ℕ → ℕ → Bool
 nodeCause X vs bs v =

@@ -7,11 +7,11 @@ use mathlib.Core.List.{List}
 use Rattle.formats.specs.Inputs.{Inputs}
 use Rattle.model.specs.Calls.{Call, load, start, advance, cancel, read, Answer, refused, parts, more, finished, Outcome, outcome}
 
-pub data Own : Call → Answer → Type 0 where
-  refuses : {c : Call} (n : ℕ) → Own c (refused n)
-  loads : {x : Inputs} → Own (load x) Answer.accepted
-  starts : {x : Inputs} {vs bs : List ℕ} (p : ℕ) → Own (start x vs bs) (parts p)
-  goes-on : {x : Inputs} → Own (advance x) more
-  finishes : {x : Inputs} → Own (advance x) finished
-  cancels : Own cancel Answer.accepted
-  reads : (o : Outcome) → Own read (outcome o)
+pub data OwnAnswer : Call → Answer → Type 0 where
+  refuses : {c : Call} (n : ℕ) → OwnAnswer c (refused n)
+  loads : {x : Inputs} → OwnAnswer (load x) Answer.accepted
+  starts : {x : Inputs} {vs bs : List ℕ} (p : ℕ) → OwnAnswer (start x vs bs) (parts p)
+  goes-on : {x : Inputs} → OwnAnswer (advance x) more
+  finishes : {x : Inputs} → OwnAnswer (advance x) finished
+  cancels : OwnAnswer cancel Answer.accepted
+  reads : (o : Outcome) → OwnAnswer read (outcome o)

@@ -37,7 +37,7 @@ use Rattle.reference.specs.Reference.{phase, newReference, inState, long
 use Rattle.reference.specs.Reference.{starting, advanced, goesOn, otherStates}
 use Rattle.reference.specs.Reference.{mayAdvanceWith, byAnswer, advancingByProgram, advancingByRule, advancing}
 use Rattle.reference.specs.Reference.{isOutcome, reading, readingLast, finishedWith, proceed, decided, step}
-use Rattle.reference.specs.Causes.{isChildless, isFlat, strays, isApart, nodeTableCause, nodeCause, rulesCause, cause}
+use Rattle.reference.specs.Causes.{isChildless, isFlat, linkFaulty, isApart, nodeTableCause, nodeCause, rulesCause, cause}
 use Rattle.reference.specs.Causes.{advanceCause}
 use Rattle.model.specs.Model.{idle, freshRecord, started, stepped, advanceWith, proceeds, unless}
 use Rattle.model.specs.Model.{act}
@@ -55,7 +55,7 @@ unfolding split sub parent depth isPostorder treeOf changed jumpIn jump nextMove
     innerState partState partOf partsFrom partsOf lastState allLinks below runOn ruleOn siblingOn parentOn moveOn
     climbOn lastFound labelOn climbFrom runReached ownReached joinOn innerOn leafOn forkOn partOn fits sameNodeInputs
     sameInputs namesSizes nodeTableBuilt stateTableBuilt sound statesBelow mayLoad mayStart isRunning refusal phase
-    isChildless isFlat strays isApart nodeTableCause nodeCause rulesCause cause advanceCause
+    isChildless isFlat linkFaulty isApart nodeTableCause nodeCause rulesCause cause advanceCause
     newReference inState givenOf longer freshAnswer ruleAnswer starting
     advanced goesOn otherStates mayAdvanceWith byAnswer advancingByProgram advancingByRule advancing isOutcome reading
     readingLast finishedWith proceed decided step
@@ -90,13 +90,13 @@ unfoldable pub asking : List ℕ → List ℕ → ℕ → List Call
 unfolding advancesOn loadA inputsA
 asking vs bs p = load loadA ∷ start inputsA vs bs ∷ (advancesOn p inputsA ++ (read ∷ []))
 
-pub record Seen : Type 0 where
+pub record SampleRun : Type 0 where
   pub says : List (Option Answer)
   pub agrees : Bool
 
-unfoldable pub seen : List Call → Seen
+unfoldable pub sampleRun : List Call → SampleRun
 unfolding computing
-seen cs = record {
+sampleRun cs = record {
   says = settledAnswers newReference cs (answersOf freshRecord cs);
   agrees =
       agreed newReference cs (answersOf freshRecord cs);
@@ -109,9 +109,9 @@ closing (a ∷ []) = a
 closing (a ∷ b ∷ l) = closing (b ∷ l)
 
 unfoldable pub row : List ℕ → List ℕ → ℕ → Option Answer
-unfolding asking seen closing
-row vs bs p = closing (seen (asking vs bs p) .says)
+unfolding asking sampleRun closing
+row vs bs p = closing (sampleRun (asking vs bs p) .says)
 
 unfoldable pub startRow : List ℕ → List ℕ → Option Answer
-unfolding seen loadA inputsA closing
-startRow vs bs = closing (seen (load loadA ∷ start inputsA vs bs ∷ []) .says)
+unfolding sampleRun loadA inputsA closing
+startRow vs bs = closing (sampleRun (load loadA ∷ start inputsA vs bs ∷ []) .says)

@@ -23,7 +23,7 @@ use Rattle.model.specs.Refusals.{refusal}
 use Rattle.model.specs.Model.{Record, stageOf, acted, lastAnswer, idle, loadedRecord, started, stepped, advanceWith}
 use Rattle.model.specs.Model.{partNext, proceeds, unless, act, Does}
 use Rattle.model.proofs.LeftOpenLaws.{refused-unchanged}
-use Rattle.reference.specs.OwnAnswers.{Own, refuses, loads, starts, goes-on, finishes, cancels, reads}
+use Rattle.reference.specs.OwnAnswers.{OwnAnswer, refuses, loads, starts, goes-on, finishes, cancels, reads}
 use Rattle.screens.specs.Projection.{stillRuns}
 
 pub act-runs : (r : Record) (c : Call)
@@ -55,23 +55,23 @@ act-runs r c = go (refusal (stageOf r) c) c
     go zero cancel = refl
     go zero read = sym (told (isRunning (r .phase)) (r .last))
 
-pub act-own : (r : Record) (c : Call) → Own c (act r c .answer)
+pub act-own : (r : Record) (c : Call) → OwnAnswer c (act r c .answer)
 unfolding act unless proceeds advanceWith
 act-own r c = go (refusal (stageOf r) c) c
   where
-    either : (x : Inputs) (b : Bool) (f g : Record) → Own (advance x) (cond b (acted finished f) (acted more g) .answer)
+    either : (x : Inputs) (b : Bool) (f g : Record) → OwnAnswer (advance x) (cond b (acted finished f) (acted more g) .answer)
     either x true f g = finishes
     either x false f g = goes-on
 
-    advanced : (x : Inputs) (o : Option Reached) → Own (advance x) (advanceWith r x o .answer)
+    advanced : (x : Inputs) (o : Option Reached) → OwnAnswer (advance x) (advanceWith r x o .answer)
     advanced x none = refuses 18
     advanced x (some y) = either x (eqb (suc (length (r .states))) (length (r .roots))) _ _
 
-    told : (o : Option Outcome) → Own read (lastAnswer o)
+    told : (o : Option Outcome) → OwnAnswer read (lastAnswer o)
     told none = refuses 1
     told (some o) = reads o
 
-    go : (n : ℕ) (d : Call) → Own d (unless n r d .answer)
+    go : (n : ℕ) (d : Call) → OwnAnswer d (unless n r d .answer)
     go (suc n) d = refuses (suc n)
     go zero (load x) = loads
     go zero (start x vs bs) = starts _

@@ -11,7 +11,7 @@ use lib.ListN.{length}
 use Rattle.model.specs.Calls.{advance, Answer, refused}
 use Rattle.model.specs.History.{History, done, call}
 use Rattle.model.specs.Model.{Record, act}
-use Rattle.reference.specs.OwnAnswers.{Own}
+use Rattle.reference.specs.OwnAnswers.{OwnAnswer}
 use Rattle.screens.specs.ScreenCalls.{ScreenCall, ScreenAnswer, one, loads, answerIn, Running, nobodyRuns, Target}
 use Rattle.screens.specs.ScreenCalls.{nobody, everyScreen}
 use Rattle.screens.specs.ScreenCalls.{screen, turn, target, turnAnswer}
@@ -25,8 +25,8 @@ use Rattle.screens.proofs.ProjectionTheorem.{fresh-idle}
 abbrev pub ShapedBy : Target → ScreenAnswer → Type 0
 ShapedBy (nobody n) a = a ≡ one (refused n)
 ShapedBy (everyScreen x) a = a ≡ loads 0
-ShapedBy (screen i c) a = (a ≡ one (answerIn a)) × Own c (answerIn a)
-ShapedBy (turn i x) a = (a ≡ turnAnswer i (answerIn a)) × Own (advance x) (answerIn a)
+ShapedBy (screen i c) a = (a ≡ one (answerIn a)) × OwnAnswer c (answerIn a)
+ShapedBy (turn i x) a = (a ≡ turnAnswer i (answerIn a)) × OwnAnswer (advance x) (answerIn a)
 
 abbrev pub Shaped : Running → List ScreenCall → List ScreenAnswer → Type 0
 Shaped run [] [] = Unit {0}
@@ -42,7 +42,7 @@ target-shaped rs (screen i c) = (refl, act-own (at rs i) c)
 target-shaped rs (turn i x) =
     let a : Answer = act (at rs i) (advance x) .answer in
     let e : answerIn (turnAnswer i a) ≡ a = answer-turn i a in
-    (ap (turnAnswer i) (sym e), subst (Own (advance x)) (sym e) (act-own (at rs i) (advance x)))
+    (ap (turnAnswer i) (sym e), subst (OwnAnswer (advance x)) (sym e) (act-own (at rs i) (advance x)))
 
 pub history-shaped : (rs : List Record) (run : Running) → length rs ≡ 8 → SameRunning run (runs rs)
     → (cs : List ScreenCall) (xs : List ScreenAnswer) → History DoesAll rs cs xs → Shaped run cs xs

@@ -90,23 +90,23 @@ screens-hold = record {
 
 module _ {A B : Type 0} (StepA : A → ScreenCall → ScreenAnswer → A → Type 0)
     (StepB : B → ScreenCall → ScreenAnswer → B → Type 0)
-    (Seen : A → B → Type 0) where
-  pub screens-hold-of : Refines StepA StepB Seen → (a : A) (b : B) → Seen a b → say.Screens b StepB
+    (Represents : A → B → Type 0) where
+  pub screens-hold-of : Refines StepA StepB Represents → (a : A) (b : B) → Represents a b → say.Screens b StepB
       → say.Screens a StepA
   screens-hold-of f a b i S = record {
-    demand-3 = λ cs xs h. S .demand-3 cs xs (refines StepA StepB Seen f a b _ _ i h);
-    references = λ j l cs xs h. S .references j l cs xs (refines StepA StepB Seen f a b _ _ i h);
-    isolation = λ j l cs ds xs ys h k. S .isolation j l cs ds xs ys (refines StepA StepB Seen f a b _ _ i h)
-        (refines StepA StepB Seen f a b _ _ i k);
+    demand-3 = λ cs xs h. S .demand-3 cs xs (refines StepA StepB Represents f a b _ _ i h);
+    references = λ j l cs xs h. S .references j l cs xs (refines StepA StepB Represents f a b _ _ i h);
+    isolation = λ j l cs ds xs ys h k. S .isolation j l cs ds xs ys (refines StepA StepB Represents f a b _ _ i h)
+        (refines StepA StepB Represents f a b _ _ i k);
     isolation-since-load = λ j l x y z before cs before′ ds told xs told′ ys m n d e h k.
         S .isolation-since-load j l x y z before cs before′ ds told xs told′ ys m n d e
-        (refines StepA StepB Seen f a b _ _ i h) (refines StepA StepB Seen f a b _ _ i k);
+        (refines StepA StepB Represents f a b _ _ i h) (refines StepA StepB Represents f a b _ _ i k);
     served-soon = λ j k before cs told xs l m e h. S .served-soon j k before cs told xs l m e
-        (refines StepA StepB Seen f a b _ _ i h);
+        (refines StepA StepB Represents f a b _ _ i h);
     turns-apart = λ j k before cs told xs l m e h. S .turns-apart j k before cs told xs l m e
-        (refines StepA StepB Seen f a b _ _ i h);
+        (refines StepA StepB Represents f a b _ _ i h);
     between-turns = λ j k n x before cs told xs e h. S .between-turns j k n x before cs told xs e
-        (refines StepA StepB Seen f a b _ _ i h);
+        (refines StepA StepB Represents f a b _ _ i h);
     deal-taken = λ x before cs told xs k e h. S .deal-taken x before cs told xs k e
-        (refines StepA StepB Seen f a b _ _ i h);
+        (refines StepA StepB Represents f a b _ _ i h);
   }

@@ -19,7 +19,7 @@ use Rattle.formats.specs.Checks.{firstNo}
 use Rattle.formats.specs.Inputs.{Inputs}
 use Rattle.model.specs.Calls.{Call, start, advance, cancel, read, Answer, refused, parts, more, finished, outcome}
 use Rattle.model.specs.Calls.{isRefused}
-use Rattle.reference.specs.OwnAnswers.{Own, refuses, starts, cancels, reads}
+use Rattle.reference.specs.OwnAnswers.{OwnAnswer, refuses, starts, cancels, reads}
 use Rattle.screens.specs.ScreenCalls.{ScreenCall, loadAll, startOn, cancelOn, readOn, deal, ScreenAnswer, one}
 use Rattle.screens.specs.ScreenCalls.{loads, deals, answerIn}
 use Rattle.screens.specs.ScreenCalls.{Running, nobodyRuns, onePast, servedBy, nextRunningIn, nextRunning, Target}
@@ -47,12 +47,12 @@ refused-stays b more e = absurd (true-false (sym e))
 refused-stays b finished e = absurd (true-false (sym e))
 refused-stays b (outcome o) e = refl
 
-start-stays : (x : Inputs) (vs bs : List ℕ) (a : Answer) → Own (start x vs bs) a → stillRuns true a ≡ true
+start-stays : (x : Inputs) (vs bs : List ℕ) (a : Answer) → OwnAnswer (start x vs bs) a → stillRuns true a ≡ true
 unfolding stillRuns
 start-stays x vs bs (refused m) (refuses n) = refl
 start-stays x vs bs (parts q) (starts p) = refl
 
-read-stays : (a : Answer) → Own read a → stillRuns true a ≡ true
+read-stays : (a : Answer) → OwnAnswer read a → stillRuns true a ≡ true
 unfolding stillRuns
 read-stays (refused m) (refuses n) = refl
 read-stays (outcome q) (reads o) = refl
@@ -78,7 +78,7 @@ module _ (i o D : ℕ) (W : Steps o i D) (run run′ : Running) (k lo : ℕ) (a 
   -- a call on screen m
   screened : (m : ℕ) (d : Call) (b : Bool)
       → run′ i ≡ stillRunsBy (run i) (fedBy i (cond b (screen m d) (nobody 25)) (answerIn a))
-      → ShapedBy (cond b (screen m d) (nobody 25)) a → (i ≡ m → Own d (answerIn a) → stillRuns true (answerIn a) ≡ true)
+      → ShapedBy (cond b (screen m d) (nobody 25)) a → (i ≡ m → OwnAnswer d (answerIn a) → stillRuns true (answerIn a) ≡ true)
       → Nearing o lo D (until i (turnsOf (a ∷ xs)))
   unfolding stillRunsBy fedBy
   screened m d false now h f = quietly (refused 25) h (now ∙ runs)

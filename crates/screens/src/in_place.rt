@@ -72,7 +72,7 @@ fn next_running(
 }
 
 // The answer of a deal, from that of the advance of screen i.
-fn told_of(answer: AdvanceAnswer, i: usize) -> DealAnswer
+fn deal_answer(answer: AdvanceAnswer, i: usize) -> DealAnswer
     ensures { λ r. ⌜ dealAnswer r ≡ turnAnswer i (advanceAnswer answer) ⌝ }
 {
     let next = one_past(i) as u8;
@@ -121,7 +121,7 @@ pub fn deal(
     let old = all[at];
     let out = old.advance(plan, rules, node_table, state_table);
     all[at] = out.session;
-    told_of(out.answer, at)
+    deal_answer(out.answer, at)
 }
 
 // Asks a question on one screen.

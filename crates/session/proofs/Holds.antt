@@ -28,7 +28,7 @@ use Rattle.session.specs.Records.{phaseOf, sizesOf, recordOf, sessionOf,
 use Rattle.session.specs.Records.{sizesFit, noQuestion, listFits, partsFit, questionFits, validIn, valid}
 use Rattle.session.specs.Records.{lastIn, lastTo, noLast, isNone, lastFits}
 use Rattle.session.specs.inner.Shapes.{Shaped}
-use Rattle.session.proofs.LastLaws.{LastFits, Own, last-below, none-is, none-back, present-back, last-of, last-back, own-of, own-last}
+use Rattle.session.proofs.LastLaws.{LastFits, OwnAnswer, last-below, none-is, none-back, present-back, last-of, last-back, own-of, own-last}
 use Rattle.session.proofs.RecordLaws.{Tails, struct-of-record}
 
 pub record Sized (z : Sizes) : Type 0 where
@@ -272,7 +272,7 @@ module _ (s : Session) where
       let b = both _ _ (c .1) in
       (questions-of (a .0), ltb-true (s .head .handled) (s .head .parts) (b .0), not-true (s .head .yes) (b .1), c .0)
 
-  answered-of : validIn Answered s ≡ true → Questions × (s .head .handled ≡ s .head .parts) × Own s
+  answered-of : validIn Answered s ≡ true → Questions × (s .head .handled ≡ s .head .parts) × OwnAnswer s
   unfolding validIn
   answered-of e =
       let a = both _ _ e in

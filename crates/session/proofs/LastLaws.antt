@@ -2,7 +2,7 @@
 --     last-in-to, last-back      the one from the other, and back
 --     some-last                  whether there is one
 --     AnswerFits s o, LastFits s o   what is true of an answer on S states; last-of, last-yes: and the test of it
---     Own s, own-of, own-yes     an answered struct's own
+--     OwnAnswer s, own-of, own-yes     an answered struct's own
 --     last-is, last-append, last-below   the last of a list of states
 use Prim.Native.Nat.{ℕ, zero, suc, _+_, _-_, _*_, _≤_, _<_}
 use mathlib.Core.Path.{_≡_, refl, sym, ap, _∙_}
@@ -146,7 +146,7 @@ last-yes s (some o) F =
 
 -- ---- an answered struct's own
 
-pub record Own (s : Session) : Type 0 where
+pub record OwnAnswer (s : Session) : Type 0 where
   pub some-handled : 1 ≤ s .head .handled
   pub few-handled : s .head .handled ≤ 254
   pub present : s .head .last .present ≡ true
@@ -166,7 +166,7 @@ unfolding sameFlag
 flag-yes true = refl
 flag-yes false = refl
 
-pub own-of : (s : Session) → lastIsOwn s ≡ true → Own s
+pub own-of : (s : Session) → lastIsOwn s ≡ true → OwnAnswer s
 unfolding lastIsOwn
 own-of s e =
     let l = s .head .last in
@@ -193,7 +193,7 @@ outcome-fields : (q q′ : ℕ) (y y′ : Bool) (n n′ l l′ d d′ : ℕ) →
 outcome-fields q q′ y y′ n n′ l l′ d d′ e f g h i = cc
 
 -- as a record has it
-pub own-last : (s : Session) → Own s → length (take (s .head .handled) (s .states)) ≡ s .head .handled
+pub own-last : (s : Session) → OwnAnswer s → length (take (s .head .handled) (s .states)) ≡ s .head .handled
     → length (take (s .head .parts) (s .roots)) ≡ s .head .parts
     → lastIn (s .head .last)
     ≡ some (record {

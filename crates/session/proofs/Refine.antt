@@ -1,5 +1,5 @@
 -- The calls' promises refine the model of the session (crate model, Model).
---     Seen s r         struct s passes its conditions and holds record r
+--     Represents s r         struct s passes its conditions and holds record r
 --     fresh-seen       the fresh session holds the fresh record
 --     seen-answer      a call on such a struct is answered as the model's
 --     call-refines     and is the model's step, to again such a struct, if that keeps its conditions; every promise says so (stays)
@@ -21,7 +21,7 @@ use Rattle.session.specs.CallsByValue.{CallByValue, loads, starts, advan
 use Rattle.session.proofs.RecordLaws.{record-of-struct, struct-shaped}
 use Rattle.session.proofs.ActLaws.{Narrow, holds-valid, listed-of, act-valid, act-shaped, act-record}
 
-pub record Seen (s : Session) (r : Record) : Type 0 where
+pub record Represents (s : Session) (r : Record) : Type 0 where
   pub shaped : Shaped s
   pub passes : valid s ≡ true
   pub holds : recordOf s ≡ r
@@ -31,17 +31,17 @@ fresh-is : sessionOf freshRecord ≡ freshSession
 unfolding sessionOf freshRecord idle phaseTo
 fresh-is = refl
 
-pub fresh-seen : Seen freshSession freshRecord
+pub fresh-seen : Represents freshSession freshRecord
 unfolding freshRecord idle
 fresh-seen =
-    subst (λ (s : Session). Seen s freshRecord) fresh-is
+    subst (λ (s : Session). Represents s freshRecord) fresh-is
     (record {
       shaped = struct-shaped freshRecord (listed-of freshRecord refl);
       passes = holds-valid freshRecord refl;
       holds = record-of-struct freshRecord (listed-of freshRecord refl);
     })
 
-module _ (s : Session) (r : Record) (i : Seen s r) (c : Call) where
+module _ (s : Session) (r : Record) (i : Represents s r) (c : Call) where
   pub seen-answer : answerOn s c ≡ act r c .answer
   unfolding answerOn
   seen-answer = rw (i .passes) (ap (λ (t : Record). act t c .answer) (i .holds))
@@ -50,7 +50,7 @@ module _ (s : Session) (r : Record) (i : Seen s r) (c : Call) where
   unfolding recordOn
   record-is = rw (i .passes)
 
-  after-seen : valid (sessionOf (act (recordOf s) c .record′)) ≡ true → Seen (sessionOf (act (recordOf s) c .record′)) (act r c .record′)
+  after-seen : valid (sessionOf (act (recordOf s) c .record′)) ≡ true → Represents (sessionOf (act (recordOf s) c .record′)) (act r c .record′)
   after-seen v = record {
     shaped = act-shaped s (i .shaped) (i .passes) c;
     passes = v;
@@ -58,21 +58,21 @@ module _ (s : Session) (r : Record) (i : Seen s r) (c : Call) where
   }
 
   pub call-refines : (a : Answer) (s′ : Session) → a ≡ answerOn s c → s′ ≡ recordOn s c → valid s′ ≡ true
-      → (r′ : Record) × Does r c a r′ × Seen s′ r′
+      → (r′ : Record) × Does r c a r′ × Represents s′ r′
   call-refines a s′ f g v = (
     act r c .record′,
     record { tells = f ∙ seen-answer; leaves = refl },
-    subst (λ (t : Session). Seen t (act r c .record′)) (sym (g ∙ record-is))
+    subst (λ (t : Session). Represents t (act r c .record′)) (sym (g ∙ record-is))
         (after-seen (subst (λ (t : Session). valid t ≡ true) (g ∙ record-is) v)),
   )
 
   -- a call that finds few nodes passed over leaves such a struct, whatever form it has
-  pub narrow-seen : Narrow r c → Seen (recordOn s c) (act r c .record′)
+  pub narrow-seen : Narrow r c → Represents (recordOn s c) (act r c .record′)
   narrow-seen w =
-      subst (λ (t : Session). Seen t (act r c .record′)) (sym record-is)
+      subst (λ (t : Session). Represents t (act r c .record′)) (sym record-is)
       (after-seen (act-valid s (i .shaped) (i .passes) c (subst (λ (t : Record). Narrow t c) (sym (i .holds)) w)))
 
-  done-refines : (a : Answer) (s′ : Session) → CallDone s c a s′ → (r′ : Record) × Does r c a r′ × Seen s′ r′
+  done-refines : (a : Answer) (s′ : Session) → CallDone s c a s′ → (r′ : Record) × Does r c a r′ × Represents s′ r′
   done-refines a s′ d = call-refines a s′ (d .tells) (d .leaves) (d .stays (i .passes))
 
 -- Read alters nothing
@@ -84,7 +84,7 @@ read-keeps r = go (refusal (stageOf r) read)
     go zero = refl
     go (suc n) = refl
 
-pub by-value-refines : Refines CallByValue Does Seen
+pub by-value-refines : Refines CallByValue Does Represents
 by-value-refines s s′ r c a i (loads o nodeTable stateTable d) = done-refines s r i _ _ _ (d .call)
 by-value-refines s s′ r c a i (starts o d) = done-refines s r i _ _ _ d
 by-value-refines s s′ r c a i (advances o d) = done-refines s r i _ _ _ d

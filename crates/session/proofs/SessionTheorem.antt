@@ -16,13 +16,13 @@ use Rattle.reference.proofs.QuestionTheorem.{question-answered, questions-of}
 use Rattle.reference.specs.Outcomes.{QuestionsAnswered}
 use Rattle.session.specs.Records.{freshSession}
 use Rattle.session.specs.CallsByValue.{CallByValue}
-use Rattle.session.proofs.Refine.{Seen, fresh-seen, by-value-refines}
+use Rattle.session.proofs.Refine.{Represents, fresh-seen, by-value-refines}
 
 pub by-value-history : (cs : List Call) (xs : List Answer) → History CallByValue freshSession cs xs → History Does freshRecord cs xs
-by-value-history cs xs h = refines CallByValue Does Seen by-value-refines freshSession freshRecord cs xs fresh-seen h
+by-value-history cs xs h = refines CallByValue Does Represents by-value-refines freshSession freshRecord cs xs fresh-seen h
 
 pub by-value-demand-3 : Demand3 freshSession CallByValue
-by-value-demand-3 = demand-3-of CallByValue Does Seen by-value-refines freshSession freshRecord fresh-seen (demand-3 layers)
+by-value-demand-3 = demand-3-of CallByValue Does Represents by-value-refines freshSession freshRecord fresh-seen (demand-3 layers)
 
 pub by-value-questions : QuestionsAnswered freshSession CallByValue
-by-value-questions = questions-of CallByValue Does Seen by-value-refines freshSession freshRecord fresh-seen (question-answered layers)
+by-value-questions = questions-of CallByValue Does Represents by-value-refines freshSession freshRecord fresh-seen (question-answered layers)

@@ -28,7 +28,7 @@ use Rattle.tables.specs.node_tables.inner.InnerNodes.{ListArgs}
 use Rattle.tables.proofs.node_tables.InnerNodeLaws.{kind-most}
 use Rattle.tables.specs.node_tables.Cells.{sizeCell}
 use Rattle.tables.specs.StateCells.{stateCell}
-use Rattle.tables.specs.inner.States.{RuleRuns, Runs, RanTo, RunsTo, Leaves, StateArgs, LeafArgs, innerState}
+use Rattle.tables.specs.inner.States.{RuleRuns, Runs, RunWrittenTo, RunsTo, Leaves, StateArgs, LeafArgs, innerState}
 use Rattle.tables.specs.inner.States.{InnerArgs}
 
 -- ---- rules
@@ -67,8 +67,8 @@ leaves-step s lv ls b v st₀ st order room L =
           ∙ L .kept j (λ u g h. a u g (omega arith));
     }
 
-module _ (A : Automaton) (t : Tree) (i e : ℕ) (b₀ b : List ℕ) (ran : RanTo A t i e b₀ b) (h : i < size t) where
-  state-iteration : (x : ℕ) → size t * (A .states + 1) ≤ length b → x ≡ state A (sub t i) → RanTo A t (i + 1) e b₀
+module _ (A : Automaton) (t : Tree) (i e : ℕ) (b₀ b : List ℕ) (ran : RunWrittenTo A t i e b₀ b) (h : i < size t) where
+  state-iteration : (x : ℕ) → size t * (A .states + 1) ≤ length b → x ≡ state A (sub t i) → RunWrittenTo A t (i + 1) e b₀
       (set b (i * (A .states + 1)) x)
   state-iteration x room z = record {
     states = λ v l g. elim (ℕ-discrete v i) [
@@ -126,7 +126,7 @@ pub states-raise : (s k : ℕ) (lv inn ks ls : List ℕ) (lo hi e : ℕ) (b₀ b
     → ((p : ℕ) → lo ≤ p → p < hi → getD ks p 0 ≡ 0) → RunsTo s k lv inn ks ls lo e b₀ b
     → RunsTo s k lv inn ks ls hi e b₀ b
 states-raise s k lv inn ks ls lo hi e b₀ b leaves all mk t x y =
-    let R : RanTo (treeAutomaton s k lv inn mk) t lo e b₀ b = all mk t x y in
+    let R : RunWrittenTo (treeAutomaton s k lv inn mk) t lo e b₀ b = all mk t x y in
     record {
       states = λ v l g. R .states v l (λ c. le-or lo v
           (λ n. absurd (c (kind-of t ks v x ∙ leaves v n (g c)))) (λ n. n));
@@ -136,7 +136,7 @@ states-raise s k lv inn ks ls lo hi e b₀ b leaves all mk t x y =
 pub states-end : (s k : ℕ) (lv inn ks ls : List ℕ) (e : ℕ) (b₀ b : List ℕ) → RunsTo s k lv inn ks ls e e b₀ b
     → Runs s k lv inn ks ls e b₀ b
 states-end s k lv inn ks ls e b₀ b all mk t x y =
-    let R : RanTo (treeAutomaton s k lv inn mk) t e e b₀ b = all mk t x y in
+    let R : RunWrittenTo (treeAutomaton s k lv inn mk) t e e b₀ b = all mk t x y in
     record { states = λ v l. R .states v l (λ c. l); kept = R .kept }
 
 pub states-none : (s k : ℕ) (lv inn ks ls b : List ℕ) → Runs s k lv inn ks ls 0 b b
@@ -153,7 +153,7 @@ module _ (s k : ℕ) (lv inn ks ls : List ℕ) (i e : ℕ) (nodeTable b₀ b : L
   inner-states mk t x y =
       let n : length ks ≡ size t = size-of t ks x in
       let l : i < size t = omega arith in
-      let R : RanTo (treeAutomaton s k lv inn mk) t i e b₀ b = all mk t x y in
+      let R : RunWrittenTo (treeAutomaton s k lv inn mk) t i e b₀ b = all mk t x y in
       let p : stateCell s b (leftOf nodeTable i) ≡ state (treeAutomaton s k lv inn mk)
       (sub t (i - 1 - size (sub t (i - 1)))) =
       left-state (treeAutomaton s k lv inn mk) t i e b₀ b R l nodeTable (args .sizes t x) (kind-is t x) h in
@@ -171,7 +171,7 @@ module _ (s k : ℕ) (lv inn ks ls : List ℕ) (i e : ℕ) (nodeTable b₀ b : L
           let t : Tree = T .0 in
           let l : i < size t = omega (arith, size-of t ks (T .1)) in
           let z : kindAt t i ≡ 0 → ⊥ = kind-is t (T .1) in
-          let R : RanTo (treeAutomaton s k lv inn []) t i e b₀ b = all [] t (T .1) (T .2) in
+          let R : RunWrittenTo (treeAutomaton s k lv inn []) t i e b₀ b = all [] t (T .1) (T .2) in
           let K : Children t i = children t i l z in
           let r : sizeCell nodeTable (i - 1) ≡ size (sub t (i - 1)) = args .sizes t (T .1) (i - 1)
           (omega (arith, K .pos)) in

@@ -17,7 +17,7 @@ use Rattle.trees.proofs.TableRows.{length-stateRow}
 use Rattle.trees.proofs.PostorderLaws.{size-of}
 use Rattle.formats.specs.Rules.{treeAutomaton}
 use Rattle.tables.specs.node_tables.NodeCells.{NodeCells}
-use Rattle.tables.specs.inner.States.{Ran, Runs}
+use Rattle.tables.specs.inner.States.{RunWritten, Runs}
 use Rattle.tables.specs.inner.Maps.{Prepared, MapArgs, Maps}
 use Rattle.tables.specs.inner.Written.{TableArgs, StatesOver}
 use Rattle.tables.proofs.MapTableLaws.{passes-written}
@@ -63,7 +63,7 @@ module _ (ks ls b lv inn : List ℕ) (s k : ℕ) (e st : List ℕ) (args : Table
   states-over after same M mk t x y =
       let A : Automaton = treeAutomaton s k lv inn mk in
       let z : length ks ≡ size t = size-of t ks x in
-      let ran : Ran A t (length ks) e st = R mk t x y in
+      let ran : RunWritten A t (length ks) e st = R mk t x y in
       rw z (passes-written s (size t) (stateMap A t) (λ v. state A (sub t v)) e st after same
       (rw (← z) (args .run .room))
       (λ v h. ran .states v (omega arith)) (ran .kept) (M lv mk t (prepared mk t x y)))

@@ -50,14 +50,14 @@ use Rattle.session.specs.Answers.{callAnswer}
 use Rattle.session.specs.Promises.{LoadDone, answerOn, recordOn, refusalOn}
 use Rattle.session.proofs.ActLaws.{Narrow}
 use Rattle.session.proofs.NarrowLaws.{built-narrow}
-use Rattle.session.proofs.Refine.{Seen, fresh-seen, seen-answer, narrow-seen}
+use Rattle.session.proofs.Refine.{Represents, fresh-seen, seen-answer, narrow-seen}
 use Rattle.whatif.specs.Asked.{afterAdvance, finishedIn, mostParts, afterStart, askedOn}
 use Rattle.whatif.specs.Cleared.{answerBy, answerTo, Cleared}
 
 -- the session holds a record that the reference model follows
 record Follows (s : Session) (b : Reference) : Type 0 where
   pub holds : Record
-  pub seen : Seen s holds
+  pub seen : Represents s holds
   pub related : Rel holds b
 
 fresh-follows : Follows freshSession newReference

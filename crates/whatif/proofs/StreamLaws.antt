@@ -24,12 +24,12 @@ use Rattle.whatif.specs.Cleared.{answerBy, answerTo}
 use Rattle.whatif.specs.Question.{changeCount, questionLength, nodesIn, labelsIn}
 use Rattle.whatif.proofs.TripleLaws.{nodes-count}
 use Rattle.whatif.proofs.TextLaws.{put-nothing, put-then}
-use Rattle.whatif.specs.Stream.{keptList, isWhole, openAfter, openBy, lineAfter, linesBy, Held, Advances, keptLine, questionLine}
+use Rattle.whatif.specs.Stream.{keptList, isWhole, openAfter, openBy, lineAfter, linesBy, Buffered, Advances, keptLine, questionLine}
 
-pub held-empty : (kept : List ℕ) → length kept ≡ 197 → Held [] kept 0
+pub held-empty : (kept : List ℕ) → length kept ≡ 197 → Buffered [] kept 0
 held-empty kept e = record { counted = refl; room = e; first = refl }
 
-module _ (q kept : List ℕ) (have b : ℕ) (h : Held q kept have) where
+module _ (q kept : List ℕ) (have b : ℕ) (h : Buffered q kept have) where
   longer : List ℕ
   longer = q ++ (b ∷ [])
 
@@ -51,14 +51,14 @@ module _ (q kept : List ℕ) (have b : ℕ) (h : Held q kept have) where
   first-more true e = full (leb-true 197 have e)
   first-more false e = room-left (leb-false 197 have e)
 
-  pub held-more : Held (q ++ (b ∷ [])) (set kept have b) (have + 1)
+  pub held-more : Buffered (q ++ (b ∷ [])) (set kept have b) (have + 1)
   held-more = record {
     counted = sym length-longer;
     room = length-set kept have b ∙ h .room;
     first = first-more (leb 197 have) refl;
   }
 
-module _ (q kept : List ℕ) (have : ℕ) (h : Held q kept have) where
+module _ (q kept : List ℕ) (have : ℕ) (h : Buffered q kept have) where
   byte-kept : (i : ℕ) → i < have → i < 197 → getD kept i 0 ≡ getD q i 0
   byte-kept i k l =
       sym (getD-take have kept i 0 k) ∙ (ap (λ (s : List ℕ). getD s i 0) (h .first) ∙ getD-take 197 q i 0 l)
@@ -183,7 +183,7 @@ byte-kept-open f kept have b out end e = record {
 }
 
 -- the line of what the buffer holds of a whole question is the question's
-line-kept : (p r q kept : List ℕ) (have : ℕ) → Held q kept have → isWhole q ≡ true → keptLine p r kept ≡ questionLine p r q
+line-kept : (p r q kept : List ℕ) (have : ℕ) → Buffered q kept have → isWhole q ≡ true → keptLine p r kept ≡ questionLine p r q
 unfolding keptLine questionLine
 line-kept p r q kept have h w =
     ap (λ (t : List ℕ). lineOf (answerTo p r (nodesIn t) (labelsIn t))) (list-kept q kept have h w) ∙ ap lineOf (same-answer p r q w)

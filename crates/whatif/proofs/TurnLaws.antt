@@ -8,14 +8,14 @@ use mathlib.Core.Path.{_≡_, refl, sym, ap, _∙_, subst}
 use mathlib.Core.List.{List, [], _++_}
 use native.Mathlib.Omega.{arith}
 use lib.ListN.{length, take, length-append}
-use Rattle.whatif.specs.Stream.{openBy, linesBy, Held, Advances}
+use Rattle.whatif.specs.Stream.{openBy, linesBy, Buffered, Advances}
 use Rattle.whatif.specs.Turns.{Progress, Lines}
 use Rattle.whatif.proofs.StreamLaws.{held-empty, open-chunks, lines-chunks}
 
 pub record Going (f : List ℕ → List ℕ) (stated : ℕ) (kept : List ℕ) (have left sent : ℕ) : Type 0 where
   pub questions : List ℕ
   pub count : length questions + left ≡ stated
-  pub held : Held (openBy [] questions) kept have
+  pub held : Buffered (openBy [] questions) kept have
   pub lines : sent ≡ length (linesBy f [] questions)
   pub have-most : have + left ≤ 4294967295
   pub sent-most : sent + 48 * left ≤ 206158430160
@@ -62,6 +62,6 @@ going-progress G = (
 pub lines-sent : {f : List ℕ → List ℕ} {c before kept kept′ out out′ : List ℕ} {have have′ end : ℕ} → before ≡ kept
     → Advances f c kept have kept′ have′ out 0 out′ end → Lines f c before have kept′ have′ (take end out′)
 lines-sent {have} e A = record {
-  held = λ q h. A .held q (subst (λ (b : List ℕ). Held q b have) e h);
-  text = λ q h. A .text q (subst (λ (b : List ℕ). Held q b have) e h) .text;
+  held = λ q h. A .held q (subst (λ (b : List ℕ). Buffered q b have) e h);
+  text = λ q h. A .text q (subst (λ (b : List ℕ). Buffered q b have) e h) .text;
 }

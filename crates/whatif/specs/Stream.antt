@@ -48,15 +48,15 @@ unfoldable pub linesBy : (List ℕ → List ℕ) → List ℕ → List ℕ → L
 linesBy f q [] = []
 linesBy f q (b ∷ c) = lineAfter f q b ++ linesBy f (openAfter q b) c
 
-pub record Held (q kept : List ℕ) (have : ℕ) : Type 0 where
+pub record Buffered (q kept : List ℕ) (have : ℕ) : Type 0 where
   pub counted : have ≡ length q
   pub room : length kept ≡ 197
   pub first : take have kept ≡ take 197 q
 
 abbrev pub Keeps : List ℕ → ℕ → Type 0
-Keeps kept have = (q : List ℕ) × Held q kept have
+Keeps kept have = (q : List ℕ) × Buffered q kept have
 
 pub record Advances (f : List ℕ → List ℕ) (c kept : List ℕ) (have : ℕ) (kept′ : List ℕ) (have′ : ℕ) (out : List ℕ) (end : ℕ)
     (out′ : List ℕ) (end′ : ℕ) : Type 0 where
-  pub held : (q : List ℕ) → Held q kept have → Held (openBy q c) kept′ have′
-  pub text : (q : List ℕ) → Held q kept have → Put out end (linesBy f q c) out′ end′
+  pub held : (q : List ℕ) → Buffered q kept have → Buffered (openBy q c) kept′ have′
+  pub text : (q : List ℕ) → Buffered q kept have → Put out end (linesBy f q c) out′ end′

@@ -21,7 +21,7 @@ use mathlib.Core.Bool.{cond}
 use mathlib.Core.List.{List, [], _∷_, _++_}
 use lib.ListN.{length, take}
 use Rattle.whatif.specs.Input.{tooLarge}
-use Rattle.whatif.specs.Stream.{openBy, linesBy, Held}
+use Rattle.whatif.specs.Stream.{openBy, linesBy, Buffered}
 use Rattle.whatif.specs.Said.{statedPlan, statedRules, statedQuestions, planOf, rulesOf, saidOn, saidTo}
 
 pub record Came (w h p r : List ℕ) : Type 0 where
@@ -53,8 +53,8 @@ pub record Progress (f : List ℕ → List ℕ) (came have sent : ℕ) : Type 0 
   pub lines : sent ≡ length (linesBy f [] questions)
 
 pub record Lines (f : List ℕ → List ℕ) (c kept : List ℕ) (had : ℕ) (kept′ : List ℕ) (have : ℕ) (t : List ℕ) : Type 0 where
-  pub held : (q : List ℕ) → Held q kept had → Held (openBy q c) kept′ have
-  pub text : (q : List ℕ) → Held q kept had → t ≡ linesBy f q c
+  pub held : (q : List ℕ) → Buffered q kept had → Buffered (openBy q c) kept′ have
+  pub text : (q : List ℕ) → Buffered q kept had → t ≡ linesBy f q c
 
 unfoldable pub joined : List (List ℕ) → List ℕ
 joined [] = []

@@ -110,18 +110,18 @@ pub fn read_some(most: usize, chunk: &mut [u8]) -> usize
 }
 
 // How many bytes were asked for, and how many came.
-pub struct Got {
+pub struct ReadCount {
     pub asked: usize,
     pub count: usize,
 }
 
 // As many reads as it takes for `most` bytes; fewer come where the input ends.
-pub fn read_whole(most: usize, space: &mut [u8]) -> Got
+pub fn read_whole(most: usize, space: &mut [u8]) -> ReadCount
     ensures { λ r. ⌜ r .asked ≡ min most (length (now (space .entry))) ⌝ }
     ensures { λ r. ⌜ r .count ≤ r .asked ⌝ }
     ensures { λ r. ⌜ Counts (r .count) (now (space .exit)) ⌝ }
 {
     let n = least(most, space.len());
     let count = io::read_full(STDIN_FILENO, &mut space[..n]);
-    Got { asked: n, count }
+    ReadCount { asked: n, count }
 }

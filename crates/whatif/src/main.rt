@@ -18,7 +18,7 @@ mod send;
 mod text;
 
 use asking::put_questions;
-use input::Got;
+use input::ReadCount;
 use input::head_space;
 use input::is_too_large;
 use input::length_at;
@@ -41,21 +41,21 @@ ghost use Rattle.whatif.specs.Said.{saidOn};
 ghost use Rattle.whatif.specs.Turns.{Answered, AnsweredOn, AskedFor};
 
 // How many bytes came of the questions, and how many were handed to the system.
-struct Heard {
+struct QuestionBytes {
     came: usize,
     sent: usize,
 }
 
 // What came of the plan and the rules, how many bytes of the questions, and how many were handed to the system.
-struct Ran {
-    plan: Got,
-    rules: Got,
+struct ProgramRun {
+    plan: ReadCount,
+    rules: ReadCount,
     came: usize,
     sent: usize,
 }
 
 // Tells Load's refusal.
-fn say_refused(plan: &[u8], rules: &[u8], n: u8) -> usize
+fn send_load_refusal(plan: &[u8], rules: &[u8], n: u8) -> usize
     requires { ⌜ ((qs : List ℕ) → saidOn (now plan) (now rules) qs ≡ refusedLine n) ⌝ }
     ensures { λ r. ⌜ r ≡ length (refusedLine n) ⌝ }
 {
@@ -65,7 +65,7 @@ fn say_refused(plan: &[u8], rules: &[u8], n: u8) -> usize
 }
 
 // Loads the plan and the rules that came, and puts the questions.
-fn clear(plan: &[u8], rules: &[u8], stated: usize) -> Heard
+fn clear(plan: &[u8], rules: &[u8], stated: usize) -> QuestionBytes
     requires { ⌜ length (now plan) ≤ 2014 ⌝ }
     requires { ⌜ stated ≤ 4294967295 ⌝ }
     ensures { λ r. ⌜ AnsweredOn (now (plan .entry)) (now (rules .entry)) (r .came) (r .sent) ⌝ }
@@ -80,20 +80,20 @@ fn clear(plan: &[u8], rules: &[u8], stated: usize) -> Heard
         CallAnswer::Accepted => {
             let loaded = done.session;
             let turn = put_questions(loaded, plan, rules, &node_table, &state_table, stated);
-            return Heard {
+            return QuestionBytes {
                 came: stated - turn.left,
                 sent: turn.sent,
             };
         }
         CallAnswer::Refused(n) => {
-            let sent = say_refused(plan, rules, n);
-            return Heard { came: 0, sent };
+            let sent = send_load_refusal(plan, rules, n);
+            return QuestionBytes { came: 0, sent };
         }
     }
 }
 
 // Reads the plan and the rules, the bytes that come, and clears them. None are read where a stated length is too large.
-fn answer(head: &[u8], plan: &mut [u8], rules: &mut [u8]) -> Ran
+fn answer(head: &[u8], plan: &mut [u8], rules: &mut [u8]) -> ProgramRun
     requires { ⌜ (length (now plan) ≡ 2014) × (length (now rules) ≡ 16484) ⌝ }
     ensures { λ r. ⌜
         Answered (now (head .entry)) (take (r .plan .count) (now (plan .exit)))
@@ -104,9 +104,9 @@ fn answer(head: &[u8], plan: &mut [u8], rules: &mut [u8]) -> Ran
     let rules_length = length_at(head, 4);
     if is_too_large(plan_length, rules_length) {
         let sent = send_too_large(head, b"too large\n");
-        return Ran {
-            plan: Got { asked: 0, count: 0 },
-            rules: Got { asked: 0, count: 0 },
+        return ProgramRun {
+            plan: ReadCount { asked: 0, count: 0 },
+            rules: ReadCount { asked: 0, count: 0 },
             came: 0,
             sent,
         };
@@ -116,7 +116,7 @@ fn answer(head: &[u8], plan: &mut [u8], rules: &mut [u8]) -> Ran
     let p = plan_got.count;
     let r = rules_got.count;
     let heard = clear(&plan[..p], &rules[..r], length_at(head, 8));
-    Ran {
+    ProgramRun {
         plan: plan_got,
         rules: rules_got,
         came: heard.came,
@@ -126,8 +126,8 @@ fn answer(head: &[u8], plan: &mut [u8], rules: &mut [u8]) -> Ran
 
 // What came of the twelve length bytes, and then of the rest.
 struct Whole {
-    head: Got,
-    rest: Ran,
+    head: ReadCount,
+    rest: ProgramRun,
 }
 
 // Reads the lengths, those of the twelve bytes that come, and answers.

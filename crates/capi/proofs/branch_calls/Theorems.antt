@@ -6,7 +6,7 @@
 --     full-checks        yes exactly when the tables passed in are what the build writes: local equations leave one
 --                        table only
 --     climbs             a climb carries what the walk by parents does, for any value (where it ends, its moves:
---                        claims/proofs/ProvedToo)
+--                        claims/proofs/FurtherStatements)
 --     branch-answers     on tables as built a branch answer is the word automaton's, in each reading on its own word
 --     two-words, empty-word   the two words differ by the upper node's label; the same node twice, from below it: state
 --                             0, its mark, no links, no node passed over

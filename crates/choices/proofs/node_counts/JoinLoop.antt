@@ -8,7 +8,7 @@ use native.Mathlib.Numerals.{add-one}
 use lib.ListN.{length, getD}
 use Rattle.choices.specs.assignments.Sums.{sumTo, one}
 use Rattle.choices.specs.node_counts.Capped.{countLimit, capped}
-use Rattle.choices.specs.node_counts.Join.{waysTo, TableArgs, Kept, PourArgs, Poured, RowArgs, RowJoined, JoinArgs, Joined}
+use Rattle.choices.specs.node_counts.Join.{waysTo, TableArgs, Kept, AccumulateArgs, Accumulated, RowArgs, RowJoined, JoinArgs, Joined}
 use Rattle.choices.proofs.node_counts.CappedLaws.{capped-add, capped-ways}
 
 -- ---- one row
@@ -34,7 +34,7 @@ module _ (f : List ℕ) (s k i e p x : ℕ) (cr l₀ : List ℕ) where
   }
 
   module _ (l : List ℕ) (q : ℕ) (L : RowJoining l q) (h : q < s) (y : ℕ) (is : y ≡ capped (getD cr q 0 * x)) where
-    pub row-args : PourArgs f s k i e p q y l
+    pub row-args : AccumulateArgs f s k i e p q y l
     row-args = record {
       table = L .args .table;
       left = L .args .left;
@@ -60,8 +60,8 @@ module _ (f : List ℕ) (s k i e p x : ℕ) (cr l₀ : List ℕ) where
         ∙ (let d = mul-add x (sumTo q (term c)) (term c q) in
         let t = ap (λ (z : ℕ). x * z) v in omega (arith, d, t, u))
 
-    pub row-poured : (m : List ℕ) → Poured f s k i e p q y l m → RowJoining m (q + 1)
-    row-poured m P = record {
+    pub row-accumulated : (m : List ℕ) → Accumulated f s k i e p q y l m → RowJoining m (q + 1)
+    row-accumulated m P = record {
       args = L .args;
       upto = omega arith;
       kept = P .kept;

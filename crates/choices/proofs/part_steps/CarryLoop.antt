@@ -21,7 +21,7 @@ use Rattle.list_laws.proofs.BoolLaws.{and-both, and-no-left, and-no-right}
 use Rattle.choices.specs.node_counts.Capped.{countLimit, capped}
 use Rattle.choices.specs.node_counts.Join.{Kept}
 use Rattle.choices.proofs.node_counts.CappedLaws.{capped-add}
-use Rattle.choices.proofs.node_counts.PourLoop.{added-count, added-kept}
+use Rattle.choices.proofs.node_counts.AccumulateLoop.{added-count, added-kept}
 use Rattle.choices.specs.declared.part_steps.carry.Carried.{Carried}
 use Rattle.choices.specs.part_steps.Carry.{stateIn, linksIn, isReached, arrivesAt, allArrive, CarryArgs, CarriedUp}
 

@@ -10,7 +10,7 @@ use Rattle.tables.specs.node_tables.Cells.{depthCell}
 use Rattle.tables.specs.Climbs.{View}
 use Rattle.tables.specs.inner.PathViews.{pathView}
 use Rattle.choices.specs.node_counts.Capped.{countLimit, capped}
-use Rattle.choices.specs.node_counts.Join.{waysTo, Kept, PourArgs, Poured}
+use Rattle.choices.specs.node_counts.Join.{waysTo, Kept, AccumulateArgs, Accumulated}
 use Rattle.choices.specs.declared.part_steps.carry.Carried.{Carried}
 use Rattle.choices.specs.part_steps.Fork.{ForkDone}
 use Rattle.choices.specs.part_steps.Root.{rootOk, rootLinks, rootCount, RootArgs, RootDone}
@@ -20,7 +20,7 @@ module _ (n s k : ℕ) (ls ks lv inn nodeTable stateTable es cs : List ℕ) (v l
   abbrev X : View
   X = pathView n s k ls inn nodeTable stateTable
 
-  pub leaf-args : PourArgs lv 1 k b e 0 0 1 m
+  pub leaf-args : AccumulateArgs lv 1 k b e 0 0 1 m
   leaf-args = record {
     table = A .leaves;
     left = omega arith;
@@ -29,7 +29,7 @@ module _ (n s k : ℕ) (ls ks lv inn nodeTable stateTable es cs : List ℕ) (v l
     kept = record { sixteen = A .sixteen; most = λ a. omega (arith, A .empty a) };
   }
 
-  pub leaf-done : getD ks v 0 ≡ 0 → (o : List ℕ) → Poured lv 1 k b e 0 0 1 m o
+  pub leaf-done : getD ks v 0 ≡ 0 → (o : List ℕ) → Accumulated lv 1 k b e 0 0 1 m o
       → RootDone X ks lv es cs v l i j b e (record { ok = true; links = 0 }) o
   unfolding rootOk rootLinks rootCount
   leaf-done z o P =

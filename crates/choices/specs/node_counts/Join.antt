@@ -2,8 +2,8 @@
 --
 -- ledTo f s k p q b == the state for left state p, label b and right state q in the inner states f
 -- waysTo f s k i e p q c == how many of the labels from i to before e lead from p and q to state c
--- PourArgs, RowArgs, JoinArgs == every read is inside, every value read is below 16, every count at most the limit
--- Poured, RowJoined, Joined == each state's count
+-- AccumulateArgs, RowArgs, JoinArgs == every read is inside, every value read is below 16, every count at most the limit
+-- Accumulated, RowJoined, Joined == each state's count
 --
 -- Counts are lists of 16; those from S on are not read.
 use Prim.Native.Nat.{ℕ, _+_, _-_, _*_, _≤_, _<_}
@@ -33,7 +33,7 @@ pub record Kept (l : List ℕ) : Type 0 where
   pub sixteen : length l ≡ 16
   pub most : (c : ℕ) → getD l c 0 ≤ countLimit
 
-pub record PourArgs (f : List ℕ) (s k i e p q x : ℕ) (l : List ℕ) : Type 0 where
+pub record AccumulateArgs (f : List ℕ) (s k i e p q x : ℕ) (l : List ℕ) : Type 0 where
   pub table : TableArgs f s k i e
   pub left : p < s
   pub right : q < s
@@ -41,7 +41,7 @@ pub record PourArgs (f : List ℕ) (s k i e p q x : ℕ) (l : List ℕ) : Type 0
   pub kept : Kept l
 
 -- x for each label that leads to the state
-pub record Poured (f : List ℕ) (s k i e p q x : ℕ) (l r : List ℕ) : Type 0 where
+pub record Accumulated (f : List ℕ) (s k i e p q x : ℕ) (l r : List ℕ) : Type 0 where
   pub kept : Kept r
   pub counts : (c : ℕ) → c < 16 → getD r c 0 ≡ capped (getD l c 0 + waysTo f s k i e p q c * x)
 

@@ -2,11 +2,11 @@
 use crate::node_counts::sums::capped_add;
 use crate::node_counts::sums::capped_times;
 ghost use mathlib.Core.Path.{_≡_};
-ghost use Rattle.choices.specs.node_counts.Join.{PourArgs, Poured, RowArgs, RowJoined, JoinArgs, Joined};
+ghost use Rattle.choices.specs.node_counts.Join.{AccumulateArgs, Accumulated, RowArgs, RowJoined, JoinArgs, Joined};
 
 // x assignments below end in states p at the left and q at the right: for every label b from `from` to before `to` they
 // end in the state that p, b and q lead to.
-pub fn pour(
+pub fn accumulate(
     inner: &[u8],
     s: usize,
     k: usize,
@@ -17,8 +17,8 @@ pub fn pour(
     x: u64,
     out: &mut [u64; 16],
 )
-    requires { ⌜ PourArgs (now inner) s k from to p q x (now out) ⌝ }
-    ensures { λ r. ⌜ Poured (now (inner .entry)) s k from to p q x (now (out .entry)) (now (out .exit)) ⌝ }
+    requires { ⌜ AccumulateArgs (now inner) s k from to p q x (now out) ⌝ }
+    ensures { λ r. ⌜ Accumulated (now (inner .entry)) s k from to p q x (now (out .entry)) (now (out .exit)) ⌝ }
 {
     if x == 0 {
         return;
@@ -50,7 +50,7 @@ pub fn join_row(
     let mut q = 0;
     while q < s {
         let y = capped_times(right[q], x);
-        pour(inner, s, k, from, to, p, q, y, out);
+        accumulate(inner, s, k, from, to, p, q, y, out);
         q += 1;
     }
 }

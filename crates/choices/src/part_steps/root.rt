@@ -1,5 +1,5 @@
 // The counts of a part's root, leaf or inner node.
-use crate::node_counts::join::pour;
+use crate::node_counts::join::accumulate;
 use crate::part_steps::carry::Carried;
 use crate::part_steps::fork::fork_counts;
 use tables::node_tables::moves::depth_at;
@@ -36,7 +36,7 @@ pub fn root_counts(
         (now (table .entry)) v l i j first end a (now (out .exit)) ⌝ }
 {
     if kinds[v] == 0 {
-        pour(leaves, 1, k, first, end, 0, 0, 1, out);
+        accumulate(leaves, 1, k, first, end, 0, 0, 1, out);
         return Carried { ok: true, links: 0 };
     }
     let to = depth_at(node_table, v) + 1;

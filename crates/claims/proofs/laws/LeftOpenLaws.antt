@@ -20,7 +20,7 @@ use Rattle.records.proofs.Theorems.{decode-encode, encode-decode, decoded-valid
 use Rattle.records.proofs.ValidTypes.{valid-types}
 use Rattle.capi_session.specs.DecodedAnswers as exported
 use Rattle.capi_session.proofs.SessionExportedLaws.{laid-length}
-use Rattle.capi_session.proofs.ExportedRefines.{Held, exported-refines}
+use Rattle.capi_session.proofs.ExportedRefines.{Encodes, exported-refines}
 use Rattle.claims.proofs.laws.RefusalLaws.{as-by-value}
 use Rattle.claims.proofs.laws.ByteAnswers.{bytes-answer}
 
@@ -48,7 +48,7 @@ left-open-in-place s s′ c a shaped v d = left-open-by-value s s′ c a shaped 
 
 -- ---- record bytes
 
-pub held : (b : List ℕ) → validBytes b ≡ true → Bytes b → Held b (recordOf (decoded b))
+pub held : (b : List ℕ) → validBytes b ≡ true → Bytes b → Encodes b (recordOf (decoded b))
 unfolding validBytes
 held b v fits =
     let T = decoded-types b (laid-length b (and-left (laidOut b) (valid (decoded b)) v)) fits in

@@ -20,7 +20,7 @@ use Rattle.session.specs.Records.{recordOf}
 use Rattle.records.specs.Layout.{decoded, validBytes, Bytes}
 use Rattle.capi_session.specs.SessionExported.{answerFor, answerNumber, LoadExported}
 use Rattle.capi_session.specs.DecodedAnswers.{decodedDone, Exports, loads}
-use Rattle.capi_session.proofs.ExportedRefines.{Held, held-answer, held-after}
+use Rattle.capi_session.proofs.ExportedRefines.{Encodes, held-answer, held-after}
 use Rattle.screens.specs.Statements.{leftBy}
 use Rattle.claims.proofs.BrokenBytes.{broken-refused}
 use Rattle.claims.proofs.laws.ByteAnswers.{bytes-answer}
@@ -73,11 +73,11 @@ pub load-then-start : (b b′ b″ : List ℕ) (x : Inputs) (nodeTable′ stateT
 unfolding act
 load-then-start b b′ b″ x nt st vs bs a fit L l e =
     let r : Record = recordOf (decoded b) in
-    let H : Held b r = held b (was-record b b′ x nt st L) fit in
+    let H : Encodes b r = held b (was-record b b′ x nt st L) fit in
     let P = loaded-record r x (refusal (stageOf r) (load x)) refl
     (sym (L .call .number ∙ ap answerNumber (held-answer b r H (load x)))) in
-    let H′ : Held b′ (loadedRecord (sizesIn x)) =
-    subst (λ (t : Record). Held b′ t) (P .1) (held-after b b′ r H (load x) 0 (L .call)) in
+    let H′ : Encodes b′ (loadedRecord (sizesIn x)) =
+    subst (λ (t : Record). Encodes b′ t) (P .1) (held-after b b′ r H (load x) 0 (L .call)) in
     bytes-answer b′ b″ (start (inputsOf (x .plan) (x .rules) nt st) vs bs) a e
     ∙ ap (λ (y : Inputs). answerFor b′ (start y vs bs)) (left-is x nt st (tables-on-bytes b b′ x 0 nt st L .written refl))
     ∙ held-answer b′ (loadedRecord (sizesIn x)) H′ (start (leftBy x) vs bs)

@@ -15,9 +15,9 @@ use Rattle.screens.specs.EightRecords.{DoesAll, eightFresh}
 use Rattle.screens.specs.Projection.{ownAnswers}
 use Rattle.screens.proofs.ProjectionTheorem.{fresh-alone}
 use Rattle.screens.specs.in_place.ScreensInPlace.{ScreenInPlace, eightSessions}
-use Rattle.screens.proofs.in_place.RunTheorem.{SeenAll, run-refines, eight-seen}
+use Rattle.screens.proofs.in_place.RunTheorem.{RepresentsAll, run-refines, eight-seen}
 use Rattle.capi_screens.specs.DecodedScreens.{ScreensExports, freshRun}
-use Rattle.capi_screens.proofs.HeldRun.{HeldAll}
+use Rattle.capi_screens.proofs.EncodedRun.{EncodesAll}
 use Rattle.capi_screens.proofs.ScreensTheorem.{screens-refine, fresh-run-held}
 use Rattle.claims.specs.Histories.{ScreenHistory, ScreenFinishes}
 
@@ -27,12 +27,12 @@ of-records = fresh-alone
 pub screen-on-structs : ScreenHistory eightSessions ScreenInPlace
 screen-on-structs i h cs xs k =
     of-records i h cs xs
-    (refines ScreenInPlace DoesAll SeenAll run-refines eightSessions eightFresh cs xs eight-seen k)
+    (refines ScreenInPlace DoesAll RepresentsAll run-refines eightSessions eightFresh cs xs eight-seen k)
 
 pub screen-on-bytes : ScreenHistory freshRun ScreensExports
 screen-on-bytes i h cs xs k =
     of-records i h cs xs
-    (refines ScreensExports DoesAll HeldAll screens-refine freshRun eightFresh cs xs fresh-run-held k)
+    (refines ScreensExports DoesAll EncodesAll screens-refine freshRun eightFresh cs xs fresh-run-held k)
 
 pub screen-finishes : {Run : Type 0} (fresh : Run) (Step : Run → ScreenCall → ScreenAnswer → Run → Type 0)
     → ScreenHistory fresh Step → ScreenFinishes fresh Step

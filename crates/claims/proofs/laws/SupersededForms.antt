@@ -26,7 +26,7 @@ use Rattle.session.proofs.SessionTheorem.{by-value-history}
 use Rattle.session.specs.in_place.CallsInPlace.{CallInPlace}
 use Rattle.session.proofs.in_place.InPlaceTheorem.{in-place-history}
 use Rattle.capi_session.specs.DecodedAnswers.{Exports}
-use Rattle.capi_session.proofs.ExportedRefines.{Held, exported-refines, fresh-held}
+use Rattle.capi_session.proofs.ExportedRefines.{Encodes, exported-refines, fresh-held}
 use Rattle.claims.specs.Histories.{Superseded, AnyOrder}
 
 pub history-answers : (r : Record) (cs : List Call) (xs : List Answer) → History Does r cs xs → xs ≡ answersOf r cs
@@ -39,7 +39,7 @@ history-answers r (c ∷ cs) (x ∷ xs) (call {r′ = s} d h) =
 pub bytes-history : (cs : List Call) (xs : List Answer) → History Exports (replicate 983 0) cs xs
     → History Does freshRecord cs xs
 bytes-history cs xs h =
-    refines Exports Does Held exported-refines (replicate 983 0) freshRecord cs xs fresh-held h
+    refines Exports Does Encodes exported-refines (replicate 983 0) freshRecord cs xs fresh-held h
 
 -- ---- as listed, and superseded
 

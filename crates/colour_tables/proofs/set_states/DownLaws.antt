@@ -1,5 +1,5 @@
 -- One step down over sets of states.
---     down-root, down-led   the row itself at the root, and the preimages below it
+--     down-root, down-successors   the row itself at the root, and the preimages below it
 --     image-args            what the preimages need
 --     setOf-ext             a set by its members
 use Prim.Native.Nat.{ℕ, zero, suc, _+_, _≤_, _<_}
@@ -14,8 +14,8 @@ use Rattle.list_laws.proofs.Choice.{le-or}
 use Rattle.tables.specs.inner.Maps.{nearValue}
 use Rattle.colours.specs.StateSets.{setOf, member}
 use Rattle.colour_tables.specs.states.inner.Rows.{RowOf}
-use Rattle.colour_tables.specs.sets.Sets.{ImageArgs, LedBy}
-use Rattle.colour_tables.specs.set_states.Ups.{UpsTo}
+use Rattle.colour_tables.specs.sets.Sets.{ImageArgs, SuccessorsBy}
+use Rattle.colour_tables.specs.set_states.StatesAbove.{StatesAboveTo}
 use Rattle.colour_tables.specs.set_states.Down.{downSet, DownArgs}
 
 pub setOf-ext : (n : ℕ) (p q : ℕ → Bool) → ((x : ℕ) → x < n → p x ≡ q x) → setOf n p ≡ setOf n q
@@ -34,39 +34,39 @@ module _ (row ls b inn st : List ℕ) (n s k count v : ℕ) (A : DownArgs row ls
   unfolding downSet
   down-root e = record { long = A .long; cells = λ c h. sym (rw (eq-eqb (v + 1) n e)) }
 
-  module _ (e : v + 1 ≡ n → ⊥) (ups : List ℕ) (U : UpsTo s (nearValue ls b inn s k st v) ups) where
+  module _ (e : v + 1 ≡ n → ⊥) (above : List ℕ) (U : StatesAboveTo s (nearValue ls b inn s k st v) above) where
     few : s ≤ 4
-    few = A .ups e .few
+    few = A .above e .few
 
-    pub count-is : length (take s ups) ≡ s
-    count-is = length-take-le s ups (omega (arith, U .long, few))
+    pub count-is : length (take s above) ≡ s
+    count-is = length-take-le s above (omega (arith, U .long, few))
 
-    up-is : (x : ℕ) → x < s → getD (take s ups) x 0 ≡ nearValue ls b inn s k st v x
-    up-is x h = getD-take s ups x 0 h ∙ U .cells x h
+    up-is : (x : ℕ) → x < s → getD (take s above) x 0 ≡ nearValue ls b inn s k st v x
+    up-is x h = getD-take s above x 0 h ∙ U .cells x h
 
     near-below : (x : ℕ) → nearValue ls b inn s k st v x < s
     unfolding nearValue
     near-below x = A .inner-below _
 
-    pub image-args : ImageArgs (take s ups) × (count ≤ 16)
+    pub image-args : ImageArgs (take s above) × (count ≤ 16)
     image-args = (
       record {
         few = omega (arith, count-is, few);
         below = λ x. le-or s x
-            (λ h. (let z : getD (take s ups) x 0 ≡ 0 = past (take s ups) x (omega (arith, count-is)) in omega arith))
+            (λ h. (let z : getD (take s above) x 0 ≡ 0 = past (take s above) x (omega (arith, count-is)) in omega arith))
             (λ h. omega (arith, up-is x h, near-below x, few));
       },
       A .few,
     )
 
-    pub down-led : (led : List ℕ) → LedBy (take s ups) row count led
-        → RowOf count (λ c. downSet ls b inn st n s k v (getD row c 0)) led
+    pub down-successors : (successors : List ℕ) → SuccessorsBy (take s above) row count successors
+        → RowOf count (λ c. downSet ls b inn st n s k v (getD row c 0)) successors
     unfolding downSet
-    down-led led L = record {
+    down-successors successors L = record {
       long = L .long;
       cells = λ c h. L .cells c h
-          ∙ ap (λ (m : ℕ). setOf m (λ x. member (getD row c 0) (getD (take s ups) x 0))) count-is
-          ∙ setOf-ext s (λ x. member (getD row c 0) (getD (take s ups) x 0))
+          ∙ ap (λ (m : ℕ). setOf m (λ x. member (getD row c 0) (getD (take s above) x 0))) count-is
+          ∙ setOf-ext s (λ x. member (getD row c 0) (getD (take s above) x 0))
           (λ x. member (getD row c 0) (nearValue ls b inn s k st v x)) (λ x i. ap (member (getD row c 0)) (up-is x i))
           ∙ sym
           (ap (λ (t : Bool). cond t (getD row c 0)

@@ -20,10 +20,10 @@ use Rattle.tables.specs.inner.Maps.{Prepared}
 use Rattle.tables.proofs.StateLoop.{rules-below}
 use Rattle.colours.specs.StateSets.{setStep}
 use Rattle.colours.proofs.SetLaws.{setStep-below}
-use Rattle.colour_tables.specs.states.inner.Rows.{RowOf, aboveCell, AboveArgs, TurnArgs, Turned}
+use Rattle.colour_tables.specs.states.inner.Rows.{RowOf, aboveCell, AboveArgs, TurnArgs, Recoloured}
 use Rattle.colour_tables.proofs.states.CopyLoop.{first-elsewhere, copies-start, copies-next, above-is, above-in, place-in}
-use Rattle.colour_tables.proofs.states.CopyLoop.{above-below, led-is}
-use Rattle.colour_tables.specs.set_states.Ups.{UpArgs}
+use Rattle.colour_tables.proofs.states.CopyLoop.{above-below, successors-is}
+use Rattle.colour_tables.specs.set_states.StatesAbove.{UpArgs}
 use Rattle.colour_tables.specs.set_states.Down.{downSet, DownArgs}
 use Rattle.colour_tables.specs.set_states.SetPass.{SetsFrom, SetArgs}
 use Rattle.colour_tables.proofs.set_states.StepLaws.{down-is}
@@ -107,8 +107,8 @@ module _ (ls inn : List ℕ) (s k count base : ℕ) (e₀ m₀ : List ℕ) (A : 
         (omega (arith, is₀, q, A .most)) room space)
 
     -- below the root
-    ups : (v + 1 ≡ n → ⊥) → UpArgs ls m inn b s k v
-    ups c =
+    above : (v + 1 ≡ n → ⊥) → UpArgs ls m inn b s k v
+    above c =
         let l : v + 1 < size t₀ = omega (arith, is₀) in
         let U : Up t₀ v (parent t₀ v) = up t₀ v l in
         let p : parentCell m v ≡ parent t₀ v = parent-is lv₀ mk₀ t₀ (A .given) l in
@@ -141,10 +141,10 @@ module _ (ls inn : List ℕ) (s k count base : ℕ) (e₀ m₀ : List ℕ) (A : 
         few = count-few .1;
         small = omega (arith, q, A .most);
         inner-below = A .rules .inner-below;
-        ups = ups;
+        above = above;
       }
 
-      module _ (led : List ℕ) (L : RowOf count (λ c. downSet ls m inn b n s k v (getD row c 0)) led) where
+      module _ (successors : List ℕ) (L : RowOf count (λ c. downSet ls m inn b n s k v (getD row c 0)) successors) where
         module _ (lv mk : List ℕ) (t : Tree) (P : Prepared s k lv inn mk t (kindsOf t) ls m₀ e₀) where
           abbrev step : ℕ → ℕ → ℕ
           step = setStep (treeAutomaton s k lv inn mk) t
@@ -155,8 +155,8 @@ module _ (ls inn : List ℕ) (s k count base : ℕ) (e₀ m₀ : List ℕ) (A : 
           row-of : RowOf count (aboveCell b m (size t) base count v) row
           row-of = rw (is lv mk t P) R
 
-          pub led-here : (c : ℕ) → c < count → getD led c 0 ≡ step v (getD row c 0)
-          led-here c i =
+          pub successors-here : (c : ℕ) → c < count → getD successors c 0 ≡ step v (getD row c 0)
+          successors-here c i =
               L .cells c i
               ∙ ap (λ (x : ℕ). downSet ls m inn b x s k v (getD row c 0)) (sym (is lv mk t P))
               ∙ down-is s k lv inn mk t ls m b v (P .labels) (parent-is lv mk t P) (size-is lv mk t P)
@@ -164,30 +164,30 @@ module _ (ls inn : List ℕ) (s k count base : ℕ) (e₀ m₀ : List ℕ) (A : 
               (getD row c 0)
 
         -- a set led to is one of the sets
-        led-below : (c : ℕ) → c < count → getD led c 0 < count
-        led-below c i =
-            rw (led-here lv₀ mk₀ t₀ (A .given) c i) (keeps lv₀ mk₀ t₀ v (getD row c 0)
+        successors-below : (c : ℕ) → c < count → getD successors c 0 < count
+        successors-below c i =
+            rw (successors-here lv₀ mk₀ t₀ (A .given) c i) (keeps lv₀ mk₀ t₀ v (getD row c 0)
             (above-below count (setStep (treeAutomaton s k lv₀ inn mk₀) t₀) t₀ base (keeps lv₀ mk₀ t₀) e₀ m₀
             (parents lv₀ mk₀ t₀ (A .given)) v b m (from lv₀ mk₀ t₀ (A .given)) (omega (arith, is₀)) row
             (row-of lv₀ mk₀ t₀ (A .given)) c i))
 
-        pub sets-place : TurnArgs led b m n base count v
+        pub sets-place : TurnArgs successors b m n base count v
         sets-place =
             rw (← is₀) (place-in count (setStep (treeAutomaton s k lv₀ inn mk₀) t₀) t₀ base (keeps lv₀ mk₀ t₀) e₀ m₀
-            (parents lv₀ mk₀ t₀ (A .given)) v b m (from lv₀ mk₀ t₀ (A .given)) (omega (arith, is₀)) led (L .long)
-            led-below (count-few .1)
+            (parents lv₀ mk₀ t₀ (A .given)) v b m (from lv₀ mk₀ t₀ (A .given)) (omega (arith, is₀)) successors (L .long)
+            successors-below (count-few .1)
             (omega (arith, is₀, q, A .most)) room space)
 
-        pub sets-next : (b′ m′ : List ℕ) → Turned led n base count v b m b′ m′
+        pub sets-next : (b′ m′ : List ℕ) → Recoloured successors n base count v b m b′ m′
             → Sets ls inn s k count base e₀ m₀ v b′ m′
         sets-next b′ m′ T lv mk t P =
             let f : ℕ → ℕ → ℕ = setStep (treeAutomaton s k lv inn mk) t in
             let d : size t ≡ n = is lv mk t P in
-            let T′ : Turned led (size t) base count v b m b′ m′ = rw d T in
+            let T′ : Recoloured successors (size t) base count v b m b′ m′ = rw d T in
             copies-next count f t base (keeps lv mk t) e₀ m₀ (parents lv mk t P) v b m (from lv mk t P)
-            (here lv mk t P) led b′ m′
+            (here lv mk t P) successors b′ m′
             T′
-            (led-is count f t base (keeps lv mk t) v led (L .long) (count-few .1)
-            (λ c i. led-here lv mk t P c i
+            (successors-is count f t base (keeps lv mk t) v successors (L .long) (count-few .1)
+            (λ c i. successors-here lv mk t P c i
             ∙ ap (f v) (above-is count f t base (keeps lv mk t) e₀ m₀ (parents lv mk t P) v b m (from lv mk t P)
             (here lv mk t P) row (row-of lv mk t P) c i)))

@@ -1,7 +1,7 @@
 -- The states at a node's parent.
---     ups-start, ups-next, ups-all   the loop over the states
+--     above-start, above-next, above-all   the loop over the states
 --     right-in, left-in              the places of a right child's and of a left child's
---     ups-right, ups-left            they are the values of the definition
+--     above-right, above-left            they are the values of the definition
 --     place-.., sums, right-args, left-args   what the code reads of the sibling is inside, and small
 use Prim.Native.Nat.{ℕ, _+_, _-_, _*_, _≤_, _<_}
 use mathlib.Core.Path.{_≡_, _∙_}
@@ -16,23 +16,23 @@ use Rattle.list_laws.proofs.RowLaws.{stride}
 use Rattle.tables.specs.node_tables.Cells.{parentCell, sizeCell}
 use Rattle.tables.specs.StateCells.{stateCell}
 use Rattle.tables.specs.inner.Maps.{nearValue}
-use Rattle.colour_tables.specs.set_states.Ups.{UpsTo, FromArgs, UpArgs}
+use Rattle.colour_tables.specs.set_states.StatesAbove.{StatesAboveTo, FromArgs, UpArgs}
 
 module _ (f : ℕ → ℕ) where
-  pub ups-start : (ups : List ℕ) → length ups ≡ 4 → UpsTo 0 f ups
-  ups-start ups l = record { long = l; cells = λ q h. absurd (omega arith) }
+  pub above-start : (above : List ℕ) → length above ≡ 4 → StatesAboveTo 0 f above
+  above-start above l = record { long = l; cells = λ q h. absurd (omega arith) }
 
-  pub ups-next : (c x : ℕ) (ups : List ℕ) → UpsTo c f ups → c < 4 → x ≡ f c → UpsTo (c + 1) f (set ups c x)
-  ups-next c x ups U h e = record {
-    long = length-set ups c x ∙ U .long;
+  pub above-next : (c x : ℕ) (above : List ℕ) → StatesAboveTo c f above → c < 4 → x ≡ f c → StatesAboveTo (c + 1) f (set above c x)
+  above-next c x above U h e = record {
+    long = length-set above c x ∙ U .long;
     cells = λ j l. elim (ℕ-discrete j c) [
-      | yes q ↦ rw q (getD-set-same ups c x 0 (omega (arith, U .long)) ∙ e)
-      | no q ↦ getD-set-other ups c j x 0 q ∙ U .cells j (omega arith)
+      | yes q ↦ rw q (getD-set-same above c x 0 (omega (arith, U .long)) ∙ e)
+      | no q ↦ getD-set-other above c j x 0 q ∙ U .cells j (omega arith)
     ];
   }
 
-  pub ups-all : (c s : ℕ) (ups : List ℕ) → UpsTo c f ups → s ≤ c → UpsTo s f ups
-  ups-all c s ups U h = record { long = U .long; cells = λ j l. U .cells j (omega arith) }
+  pub above-all : (c s : ℕ) (above : List ℕ) → StatesAboveTo c f above → s ≤ c → StatesAboveTo s f above
+  above-all c s above U h = record { long = U .long; cells = λ j l. U .cells j (omega arith) }
 
 pub right-in : (s k x a q m : ℕ) → x < s → a < k → q < s → s * k * s ≤ m → (x * k + a) * s + q * 1 < m
 right-in s k x a q m hx ha hq r =
@@ -44,21 +44,21 @@ left-in s k x a q m hx ha hq r =
     let i : q * k + a < s * k = omega (arith, stride k q s hq) in
     omega (arith, stride s (q * k + a) (s * k) i)
 
-module _ (ls b inn st : List ℕ) (s k v p a : ℕ) (ep : p ≡ parentCell b v) (ea : a ≡ getD ls p 0) (ups : List ℕ) where
-  pub ups-right : v + 1 ≡ p → (z : ℕ) → z ≡ sizeCell b v
-      → UpsTo s (λ q. getD inn ((stateCell s st (v - z) * k + a) * s + q * 1) 0) ups
-      → UpsTo s (nearValue ls b inn s k st v) ups
+module _ (ls b inn st : List ℕ) (s k v p a : ℕ) (ep : p ≡ parentCell b v) (ea : a ≡ getD ls p 0) (above : List ℕ) where
+  pub above-right : v + 1 ≡ p → (z : ℕ) → z ≡ sizeCell b v
+      → StatesAboveTo s (λ q. getD inn ((stateCell s st (v - z) * k + a) * s + q * 1) 0) above
+      → StatesAboveTo s (nearValue ls b inn s k st v) above
   unfolding nearValue
-  ups-right h z e U = record {
+  above-right h z e U = record {
     long = U .long;
     cells = λ q l. rw (← ep, ← ea, ← e, eq-eqb (v + 1) p h) (U .cells q l);
   }
 
-  pub ups-left : (v + 1 ≡ p → ⊥)
-      → UpsTo s (λ q. getD inn (a * s + stateCell s st (p - 1) + q * (k * s)) 0) ups
-      → UpsTo s (nearValue ls b inn s k st v) ups
+  pub above-left : (v + 1 ≡ p → ⊥)
+      → StatesAboveTo s (λ q. getD inn (a * s + stateCell s st (p - 1) + q * (k * s)) 0) above
+      → StatesAboveTo s (nearValue ls b inn s k st v) above
   unfolding nearValue
-  ups-left h U = record { long = U .long; cells = λ q l. rw (← ep, ← ea, ne-eqb (v + 1) p h) (U .cells q l) }
+  above-left h U = record { long = U .long; cells = λ q l. rw (← ep, ← ea, ne-eqb (v + 1) p h) (U .cells q l) }
 
 -- ---- what is read of the sibling u, a node below p
 

@@ -2,7 +2,7 @@
 --     bit-is             a shift and a mask give membership
 --     joined, bound      a union with one member past all others is a sum
 --     image-next         one state more of a preimage
---     led-start, -next, -all   the loop over a row
+--     successors-start, -next, -all   the loop over a row
 use Prim.Native.Nat.{ℕ, _+_, _*_, _/_, _%_, _^_, _≤_, _<_}
 use mathlib.Core.Path.{_≡_, refl, _∙_}
 use mathlib.Core.Bool.{Bool}
@@ -19,7 +19,7 @@ use lib.Seq.{getD-set-same, getD-set-other}
 use borrow.Author.Tests.{eq-eqb, ne-eqb}
 use Rattle.colours.specs.marks.Marks.{bit}
 use Rattle.colours.specs.StateSets.{setOf, member}
-use Rattle.colour_tables.specs.sets.Sets.{LedBy}
+use Rattle.colour_tables.specs.sets.Sets.{SuccessorsBy}
 
 bit-of-eqb : (x : ℕ) → x < 2 → x ≡ bit (eqb x 1)
 bit-of-eqb x h = elim (ℕ-discrete x 1) [
@@ -58,19 +58,19 @@ image-next p i r b e f = rw (add-one i, e, f)
 
 -- ---- the loop over a row
 
-module _ (ups row : List ℕ) where
-  pub led-start : (led : List ℕ) → length led ≡ 16 → LedBy ups row 0 led
-  led-start led l = record { long = l; cells = λ c h. absurd (omega arith) }
+module _ (above row : List ℕ) where
+  pub successors-start : (successors : List ℕ) → length successors ≡ 16 → SuccessorsBy above row 0 successors
+  successors-start successors l = record { long = l; cells = λ c h. absurd (omega arith) }
 
-  pub led-next : (c x : ℕ) (led : List ℕ) → LedBy ups row c led → c < 16
-      → x ≡ setOf (length ups) (λ y. member (getD row c 0) (getD ups y 0)) → LedBy ups row (c + 1) (set led c x)
-  led-next c x led L h e = record {
-    long = length-set led c x ∙ L .long;
+  pub successors-next : (c x : ℕ) (successors : List ℕ) → SuccessorsBy above row c successors → c < 16
+      → x ≡ setOf (length above) (λ y. member (getD row c 0) (getD above y 0)) → SuccessorsBy above row (c + 1) (set successors c x)
+  successors-next c x successors L h e = record {
+    long = length-set successors c x ∙ L .long;
     cells = λ j l. elim (ℕ-discrete j c) [
-      | yes q ↦ rw q (getD-set-same led c x 0 (omega (arith, L .long)) ∙ e)
-      | no q ↦ getD-set-other led c j x 0 q ∙ L .cells j (omega arith)
+      | yes q ↦ rw q (getD-set-same successors c x 0 (omega (arith, L .long)) ∙ e)
+      | no q ↦ getD-set-other successors c j x 0 q ∙ L .cells j (omega arith)
     ];
   }
 
-  pub led-all : (c k : ℕ) (led : List ℕ) → LedBy ups row c led → k ≤ c → LedBy ups row k led
-  led-all c k led L h = record { long = L .long; cells = λ j l. L .cells j (omega arith) }
+  pub successors-all : (c k : ℕ) (successors : List ℕ) → SuccessorsBy above row c successors → k ≤ c → SuccessorsBy above row k successors
+  successors-all c k successors L h = record { long = L .long; cells = λ j l. L .cells j (omega arith) }

@@ -1,7 +1,7 @@
 -- The loop over the nodes, from the root down: each node's copy from the one above it.
 --     first-elsewhere, past-elsewhere   where there is no landing
 --     above-is                   the row above a node is the copy above it
---     led-is                     the states led to, as a list
+--     successors-is                     the states led to, as a list
 --     copies-start, copies-next  before the root, and one node more
 --     above-in, place-in         what the functions of one node need
 -- Any count of states and any steps.
@@ -23,7 +23,7 @@ use Rattle.colours.specs.Copies.{copy, copyAbove, landsAt}
 use Rattle.colours.proofs.CopyLaws.{top-at, copy-recolour, copyAbove-root, copyAbove-down, copyAbove-colouring}
 use Rattle.colours.proofs.TurnLaws.{map-at, recolour-map, lands-map}
 use Rattle.colour_tables.specs.states.Written.{Elsewhere, CopiesFrom}
-use Rattle.colour_tables.specs.states.inner.Rows.{RowOf, aboveCell, AboveArgs, TurnArgs, Turned}
+use Rattle.colour_tables.specs.states.inner.Rows.{RowOf, aboveCell, AboveArgs, TurnArgs, Recoloured}
 
 -- no number of the first table is a landing, nor is any past the tables
 pub first-elsewhere : (n k j : ℕ) → j < n * 4 → Elsewhere n k j
@@ -42,17 +42,17 @@ module _ (k : ℕ) (step : ℕ → ℕ → ℕ) (t : Tree) (base : ℕ) (keeps :
     kept = λ j h. refl;
   }
 
-  pub led-is : (v : ℕ) (led : List ℕ) → length led ≡ 16 → k ≤ 16
-      → ((c : ℕ) → c < k → getD led c 0 ≡ step v (getD (copyAbove k step t v) c 0))
-      → take k led ≡ map (step v) (copyAbove k step t v)
-  led-is v led l few e =
+  pub successors-is : (v : ℕ) (successors : List ℕ) → length successors ≡ 16 → k ≤ 16
+      → ((c : ℕ) → c < k → getD successors c 0 ≡ step v (getD (copyAbove k step t v) c 0))
+      → take k successors ≡ map (step v) (copyAbove k step t v)
+  successors-is v successors l few e =
       let n : length (copyAbove k step t v) ≡ k = copyAbove-colouring k step t keeps v .count in
-      let a : length (take k led) ≡ k = length-take-le k led (omega arith) in
-      ext-getD 0 (take k led) (map (step v) (copyAbove k step t v))
+      let a : length (take k successors) ≡ k = length-take-le k successors (omega arith) in
+      ext-getD 0 (take k successors) (map (step v) (copyAbove k step t v))
       (a ∙ sym (length-map (copyAbove k step t v) (step v) ∙ n))
       (λ c h.
       let i : c < k = omega arith in
-      getD-take k led c 0 i ∙ e c i ∙ sym (map-at (step v) (copyAbove k step t v) c (omega arith)))
+      getD-take k successors c 0 i ∙ e c i ∙ sym (map-at (step v) (copyAbove k step t v) c (omega arith)))
 
   module _ (e₀ m₀ : List ℕ) (parents : (v : ℕ) → v + 1 < size t → parentCell m₀ v ≡ parent t v)
       (v : ℕ) (b m : List ℕ) (F : CopiesFrom k step t base (v + 1) e₀ m₀ b m) (h : v < size t) where
@@ -88,9 +88,9 @@ module _ (k : ℕ) (step : ℕ → ℕ → ℕ) (t : Tree) (base : ℕ) (keeps :
           rw (parent-is i) (omega (arith, stride k (parent t v) (size t) (up t v i .below))));
     }
 
-    pub place-in : (led : List ℕ) → length led ≡ 16 → ((c : ℕ) → c < k → getD led c 0 < k) → k ≤ 16 → size t ≤ 65535
-        → base + size t * k ≤ length b → k * (size t * 4) ≤ length m → TurnArgs led b m (size t) base k v
-    place-in led l under few most room space = record {
+    pub place-in : (successors : List ℕ) → length successors ≡ 16 → ((c : ℕ) → c < k → getD successors c 0 < k) → k ≤ 16 → size t ≤ 65535
+        → base + size t * k ≤ length b → k * (size t * 4) ≤ length m → TurnArgs successors b m (size t) base k v
+    place-in successors l under few most room space = record {
       long = l;
       small = λ c i. omega (arith, under c i);
       few = few;
@@ -102,8 +102,8 @@ module _ (k : ℕ) (step : ℕ → ℕ → ℕ) (t : Tree) (base : ℕ) (keeps :
 
     -- ---- one node more
 
-    module _ (led b′ m′ : List ℕ) (T : Turned led (size t) base k v b m b′ m′)
-        (is : take k led ≡ map (step v) (copyAbove k step t v)) where
+    module _ (successors b′ m′ : List ℕ) (T : Recoloured successors (size t) base k v b m b′ m′)
+        (is : take k successors ≡ map (step v) (copyAbove k step t v)) where
       row-here : (c : ℕ) → c < k → getD b′ (base + v * k + c) 0 ≡ getD (copy k step t v) c 0
       row-here c l =
           T .row c l

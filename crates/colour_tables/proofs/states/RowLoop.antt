@@ -16,9 +16,9 @@ use borrow.Author.Tests.{eq-eqb, ne-eqb}
 use Rattle.list_laws.specs.Rows.{tabulate}
 use Rattle.list_laws.proofs.RowLaws.{cells-apart, cell-in, getD-tabulate}
 use Rattle.tables.specs.node_tables.Cells.{parentCell}
-use Rattle.colour_tables.specs.declared.rows.turns.Turned.{Turned as Taken}
-use Rattle.colour_tables.specs.rows.Turns.{TurnedTo}
-use Rattle.colour_tables.specs.states.inner.Rows.{RowOf, aboveCell, PutTo, LandedTo, Turned}
+use Rattle.colour_tables.specs.declared.rows.turns.Recoloured.{Recoloured as Taken}
+use Rattle.colour_tables.specs.rows.Turns.{RecolouredTo}
+use Rattle.colour_tables.specs.states.inner.Rows.{RowOf, aboveCell, PutTo, LandedTo, Recoloured}
 
 -- ---- a row
 
@@ -114,13 +114,13 @@ module _ (bytes numbers : List ℕ) (n base k v : ℕ) where
 
 -- ---- the whole copy of a node
 
-module _ (led : List ℕ) (n base k v : ℕ) (r : Taken) (T : TurnedTo (take k led) r) (l : length led ≡ 16)
+module _ (successors : List ℕ) (n base k v : ℕ) (r : Taken) (T : RecolouredTo (take k successors) r) (l : length successors ≡ 16)
     (few : k ≤ 16) where
-  count : length (take k led) ≡ k
-  count = length-take-le k led (omega arith)
+  count : length (take k successors) ≡ k
+  count = length-take-le k successors (omega arith)
 
   pub turned-copy : (bytes numbers bytes′ numbers′ : List ℕ) → PutTo (r .row) (base + v * k) k bytes bytes′
-      → LandedTo (r .lands) n v k numbers numbers′ → Turned led n base k v bytes numbers bytes′ numbers′
+      → LandedTo (r .lands) n v k numbers numbers′ → Recoloured successors n base k v bytes numbers bytes′ numbers′
   turned-copy bytes numbers bytes′ numbers′ P L = record {
     row = λ c h. P .cells c h ∙ sym (getD-take k (r .row) c 0 h)
         ∙ ap (λ (xs : List ℕ). getD xs c 0) (ap (λ (j : ℕ). take j (r .row)) (sym count) ∙ T .row);

@@ -1,6 +1,6 @@
 -- One node of the pass for words, and what its functions need.
 --     words-start, words-next   before the root, and one node more, for every tree that was given
---     words-above, words-led, words-place   what the functions of one node need
+--     words-above, words-successors, words-place   what the functions of one node need
 use Prim.Native.Nat.{ℕ, _+_, _*_, _≤_, _<_}
 use mathlib.Core.Path.{_≡_, sym, ap, ap₂, _∙_, subst}
 use mathlib.Core.List.{List}
@@ -9,10 +9,10 @@ use lib.ListN.{length, getD}
 use Rattle.list_laws.proofs.RowLaws.{stride}
 use Rattle.trees.specs.Tree.{Tree, size, labelAt}
 use Rattle.trees.proofs.NodeLaws.{length-labels}
-use Rattle.colour_tables.specs.states.inner.Rows.{RowOf, aboveCell, AboveArgs, TurnArgs, Turned}
+use Rattle.colour_tables.specs.states.inner.Rows.{RowOf, aboveCell, AboveArgs, TurnArgs, Recoloured}
 use Rattle.colour_tables.specs.states.inner.WordPass.{LedArgs, stepBy, WordGiven, WordsFrom, WordArgs}
 use Rattle.colour_tables.proofs.states.CopyLoop.{copies-start, copies-next, above-is, above-below, above-in, place-in}
-use Rattle.colour_tables.proofs.states.CopyLoop.{led-is}
+use Rattle.colour_tables.proofs.states.CopyLoop.{successors-is}
 
 -- the nodes from v on are done, for every tree that was given
 abbrev pub Words : List ℕ → List ℕ → ℕ → ℕ → List ℕ → List ℕ → ℕ → List ℕ → List ℕ → Type 0
@@ -58,8 +58,8 @@ module _ (ls st : List ℕ) (s k : ℕ) (e₀ m₀ : List ℕ) (A : WordArgs ls 
       row-of : (t : Tree) → WordGiven ls m₀ t → RowOf s (aboveCell b m (size t) 0 s v) row
       row-of t G = rw (count t G ∙ sym q) R
 
-      pub words-led : (a : ℕ) → a < k → LedArgs row st s k a
-      words-led a l = record {
+      pub words-successors : (a : ℕ) → a < k → LedArgs row st s k a
+      words-successors a l = record {
         few = A .few;
         labels = A .label-most;
         label = l;
@@ -69,22 +69,22 @@ module _ (ls st : List ℕ) (s k : ℕ) (e₀ m₀ : List ℕ) (A : WordArgs ls 
             omega (arith, stride k (getD row c 0) s x, A .steps-room));
       }
 
-      module _ (led : List ℕ) (a : ℕ) (L : RowOf s (λ c. getD st (getD row c 0 * k + a) 0) led) where
-        pub words-place : TurnArgs led b m n 0 s v
+      module _ (successors : List ℕ) (a : ℕ) (L : RowOf s (λ c. getD st (getD row c 0 * k + a) 0) successors) where
+        pub words-place : TurnArgs successors b m n 0 s v
         words-place =
             rw (← is₀) (place-in s (stepBy st k t₀) t₀ 0 (keeps t₀) e₀ m₀ (A .given .parents) v b m (from t₀ (A .given))
-            (omega (arith, is₀)) led (L .long) (λ c i. rw (L .cells c i) (A .step-below (getD row c 0 * k + a)))
+            (omega (arith, is₀)) successors (L .long) (λ c i. rw (L .cells c i) (A .step-below (getD row c 0 * k + a)))
             (A .few) (omega (arith, is₀, A .most)) (omega (arith, room)) space)
 
-        pub words-next : (b′ m′ : List ℕ) → a ≡ getD ls v 0 → Turned led n 0 s v b m b′ m′
+        pub words-next : (b′ m′ : List ℕ) → a ≡ getD ls v 0 → Recoloured successors n 0 s v b m b′ m′
             → Words ls st s k e₀ m₀ v b′ m′
         words-next b′ m′ z T t G =
             let d : size t ≡ n = count t G ∙ sym q in
-            let T′ : Turned led (size t) 0 s v b m b′ m′ = rw d T in
+            let T′ : Recoloured successors (size t) 0 s v b m b′ m′ = rw d T in
             let label : a ≡ labelAt t v = z ∙ ap (λ (x : List ℕ). getD x v 0) (sym (G .labels)) in
             copies-next s (stepBy st k t) t 0 (keeps t) e₀ m₀ (G .parents) v b m (from t G)
-            (omega (arith, d)) led b′ m′ T′
-            (led-is s (stepBy st k t) t 0 (keeps t) v led (L .long) (A .few)
+            (omega (arith, d)) successors b′ m′ T′
+            (successors-is s (stepBy st k t) t 0 (keeps t) v successors (L .long) (A .few)
             (λ c i. L .cells c i
             ∙ ap₂ (λ (x y : ℕ). getD st (x * k + y) 0)
             (above-is s (stepBy st k t) t 0 (keeps t) e₀ m₀ (G .parents) v b m (from t G) (omega (arith, d)) row

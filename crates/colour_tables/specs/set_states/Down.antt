@@ -12,7 +12,7 @@ use lib.Dec.{eqb}
 use lib.ListN.{length, getD}
 use Rattle.tables.specs.inner.Maps.{nearValue}
 use Rattle.colours.specs.StateSets.{setOf, member}
-use Rattle.colour_tables.specs.set_states.Ups.{UpArgs}
+use Rattle.colour_tables.specs.set_states.StatesAbove.{UpArgs}
 
 unfoldable pub downSet : List ℕ → List ℕ → List ℕ → List ℕ → ℕ → ℕ → ℕ → ℕ → ℕ → ℕ
 downSet ls b inn st n s k v T =
@@ -23,4 +23,4 @@ pub record DownArgs (row ls b inn st : List ℕ) (n s k count v : ℕ) : Type 0 
   pub few : count ≤ 16
   pub small : v < 65536
   pub inner-below : (j : ℕ) → getD inn j 0 < s
-  pub ups : (v + 1 ≡ n → ⊥) → UpArgs ls b inn st s k v
+  pub above : (v + 1 ≡ n → ⊥) → UpArgs ls b inn st s k v

@@ -2,10 +2,10 @@
 // The states taken are bits of a number: bit s is set where a lower colour has state s.
 ghost use mathlib.Core.Path.{_≡_};
 ghost use Prim.Native.Nat.{ℕ, _^_, _<_};
-ghost use Rattle.colour_tables.specs.rows.Turns.{TurnArgs, TurnedTo};
+ghost use Rattle.colour_tables.specs.rows.Turns.{TurnArgs, RecolouredTo};
 
 // The states taken and the colours landed on; entries past the number of colours have no meaning.
-pub struct Turned {
+pub struct Recoloured {
     pub row: [u8; 16],
     pub lands: [u8; 16],
 }
@@ -22,18 +22,18 @@ fn place_of_bit(b: usize) -> u8
     PLACES[b * 2479 % 65536 / 4096]
 }
 
-// The colours in turn, where `led` has the states that their states above lead to.
-pub fn take_in_turn(led: &[u8]) -> Turned
-    requires { ⌜ TurnArgs (now led) ⌝ }
-    ensures { λ r. ⌜ TurnedTo (now (led .entry)) r ⌝ }
+// The colours in turn, where `successors` has the states that their states above lead to.
+pub fn take_in_turn(successors: &[u8]) -> Recoloured
+    requires { ⌜ TurnArgs (now successors) ⌝ }
+    ensures { λ r. ⌜ RecolouredTo (now (successors .entry)) r ⌝ }
 {
     let mut row = [0u8; 16];
     let mut lands = [0u8; 16];
     let mut owners = [0u8; 16];
     let mut taken: usize = 0;
     let mut c: usize = 0;
-    while c < led.len() {
-        let q = led[c] as usize;
+    while c < successors.len() {
+        let q = successors[c] as usize;
         let low = (taken + 1) & (131071 - taken);
         let bit = if (taken >> q) & 1 == 0 { 1 << q } else { low };
         taken += bit;
@@ -43,5 +43,5 @@ pub fn take_in_turn(led: &[u8]) -> Turned
         lands[c] = owners[q];
         c += 1;
     }
-    Turned { row, lands }
+    Recoloured { row, lands }
 }

@@ -1,12 +1,12 @@
 // One step down over sets of states, for a whole row.
-use crate::set_states::ups::ups_of;
-use crate::sets::led::led_by_set;
+use crate::set_states::above::states_above;
+use crate::sets::successors::successors_by_set;
 ghost use lib.ListN.{getD};
 ghost use Rattle.colour_tables.specs.states.inner.Rows.{RowOf};
 ghost use Rattle.colour_tables.specs.set_states.Down.{downSet, DownArgs};
 
 // The sets at node v of n that lead into the first `count` of the row above; into the root's copy nothing changes.
-pub fn led_down(
+pub fn successors_down(
     row: [u8; 16],
     labels: &[u8],
     numbers: &[u16],
@@ -25,6 +25,6 @@ pub fn led_down(
     if v + 1 == n {
         return row;
     }
-    let ups = ups_of(labels, numbers, inner, bytes, s, k, v);
-    led_by_set(row, &ups[..s], count)
+    let above = states_above(labels, numbers, inner, bytes, s, k, v);
+    successors_by_set(row, &above[..s], count)
 }

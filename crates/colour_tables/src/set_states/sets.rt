@@ -1,5 +1,5 @@
 // The pass for sets of states: a step takes a set to the states at the node that lead into it.
-use crate::set_states::down::led_down;
+use crate::set_states::down::successors_down;
 use crate::states::copies::put_copy;
 use crate::states::copies::row_above;
 ghost use mathlib.Core.Path.{_≡_};
@@ -41,7 +41,7 @@ pub fn write_sets(
     while 0 < v {
         v -= 1;
         let above = row_above(bytes, numbers, n, base, count, v);
-        let led = led_down(above, labels, numbers, inner, bytes, n, s, k, count, v);
-        put_copy(led, bytes, numbers, n, base, count, v);
+        let successors = successors_down(above, labels, numbers, inner, bytes, n, s, k, count, v);
+        put_copy(successors, bytes, numbers, n, base, count, v);
     }
 }

@@ -22,15 +22,15 @@ fn with_bit(r: u8, b: u8, i: usize) -> u8
     r | (b << i)
 }
 
-// The states that `ups` leads into the set t: "a step down takes a set to the states at the child that lead into it".
-pub fn preimage(ups: &[u8], t: u8) -> u8
-    requires { ⌜ ImageArgs (now ups) ⌝ }
-    ensures { λ r. ⌜ r ≡ setOf (length (now (ups .entry))) (λ x. member t (getD (now (ups .entry)) x 0)) ⌝ }
+// The states that `above` leads into the set t: "a step down takes a set to the states at the child that lead into it".
+pub fn preimage(above: &[u8], t: u8) -> u8
+    requires { ⌜ ImageArgs (now above) ⌝ }
+    ensures { λ r. ⌜ r ≡ setOf (length (now (above .entry))) (λ x. member t (getD (now (above .entry)) x 0)) ⌝ }
 {
     let mut r: u8 = 0;
     let mut i: usize = 0;
-    while i < ups.len() {
-        let b = bit_of(t, ups[i]);
+    while i < above.len() {
+        let b = bit_of(t, above[i]);
         r = with_bit(r, b, i);
         i += 1;
     }

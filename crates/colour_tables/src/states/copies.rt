@@ -6,7 +6,7 @@ use tables::node_tables::moves::parent_at;
 ghost use Prim.Native.Nat.{_+_};
 ghost use lib.ListN.{getD};
 ghost use Rattle.colour_tables.specs.states.inner.Rows.{RowOf, aboveCell, AboveArgs, PutArgs, LandArgs, TurnArgs};
-ghost use Rattle.colour_tables.specs.states.inner.Rows.{PutTo, LandedTo, Turned};
+ghost use Rattle.colour_tables.specs.states.inner.Rows.{PutTo, LandedTo, Recoloured};
 
 // "In the top copy .. state s has colour s+1."
 const TOP: [u8; 16] = [0, 1, 2, 3, 4, 5, 6, 7, 8, 9, 10, 11, 12, 13, 14, 15];
@@ -70,7 +70,7 @@ fn put_lands(lands: [u8; 16], numbers: &mut [u16], n: usize, k: usize, v: usize)
 
 // Node v's copy, from the states that those of the copy above lead to.
 pub fn put_copy(
-    led: [u8; 16],
+    successors: [u8; 16],
     bytes: &mut [u8],
     numbers: &mut [u16],
     n: usize,
@@ -78,11 +78,11 @@ pub fn put_copy(
     k: usize,
     v: usize,
 )
-    requires { ⌜ TurnArgs led (now bytes) (now numbers) n base k v ⌝ }
-    ensures { λ _. ⌜ Turned led n base k v (now (bytes .entry)) (now (numbers .entry)) (now (bytes .exit))
+    requires { ⌜ TurnArgs successors (now bytes) (now numbers) n base k v ⌝ }
+    ensures { λ _. ⌜ Recoloured successors n base k v (now (bytes .entry)) (now (numbers .entry)) (now (bytes .exit))
         (now (numbers .exit)) ⌝ }
 {
-    let turned = take_in_turn(&led[..k]);
+    let turned = take_in_turn(&successors[..k]);
     let row = turned.row;
     let lands = turned.lands;
     put_row(row, bytes, base + v * k, k);

@@ -8,18 +8,18 @@ ghost use Rattle.colour_tables.specs.states.inner.Rows.{RowOf};
 ghost use Rattle.colour_tables.specs.states.inner.WordPass.{LedArgs, WordArgs, WordGiven, WordsFrom};
 
 // The states after those of a row read label a.
-fn led_by_word(row: [u8; 16], steps: &[u8], s: usize, k: usize, a: usize) -> [u8; 16]
+fn successors_by_word(row: [u8; 16], steps: &[u8], s: usize, k: usize, a: usize) -> [u8; 16]
     requires { ⌜ LedArgs row (now steps) s k a ⌝ }
     ensures { λ r. ⌜ RowOf s (λ c. getD (now (steps .entry)) (getD row c 0 * k + a) 0) r ⌝ }
 {
-    let mut led = [0u8; 16];
+    let mut successors = [0u8; 16];
     let mut c = 0;
     while c < s {
         let q = row[c] as usize;
-        led[c] = steps[q * k + a];
+        successors[c] = steps[q * k + a];
         c += 1;
     }
-    led
+    successors
 }
 
 // Writes the copy of each of the n nodes, the root's first, and what its colours land on.
@@ -42,7 +42,7 @@ pub fn write_words(
         v -= 1;
         let above = row_above(bytes, numbers, n, 0, s, v);
         let a = labels[v] as usize;
-        let led = led_by_word(above, steps, s, k, a);
-        put_copy(led, bytes, numbers, n, 0, s, v);
+        let successors = successors_by_word(above, steps, s, k, a);
+        put_copy(successors, bytes, numbers, n, 0, s, v);
     }
 }

@@ -13,8 +13,8 @@ use lib.Dec.{leb}
 use lib.ListN.{length, getD, set, take, drop, length-set, length-take, length-drop}
 use lib.Seq.{getD-set-same, getD-set-other, ext-getD, getD-take, getD-drop, drop-cons}
 use borrow.Author.Tests.{le-leb, lt-leb}
-use Rattle.planner.specs.inner.HomeMachine.{Held, held, HomeState, homeState, released, withCount, homeward}
-use Rattle.planner.specs.home.inner.Cells.{heldAt, stackOf, cellsFrom, homeNow, marked, Kept, Fits, PushArgs}
+use Rattle.planner.specs.inner.HomeMachine.{Waiting, waiting, HomeState, homeState, released, withCount, homeward}
+use Rattle.planner.specs.home.inner.Cells.{waitingAt, stackOf, cellsFrom, homeNow, marked, Kept, Fits, PushArgs}
 use Rattle.planner.specs.home.inner.Cells.{PushDone, CountArgs, CountDone, ReleaseArgs, ReleaseDone}
 
 pub stack-same : (p q : List ℕ) (n d : ℕ) → ((j : ℕ) → j < d → getD q (12 + j) 0 ≡ getD p (12 + j) 0)
@@ -23,7 +23,7 @@ unfolding stackOf
 stack-same p q n zero h k = refl
 stack-same p q n (suc d) h k =
     rw (h d (omega arith), k d (omega arith))
-    (ap (λ (st : List Held). heldAt p n d ∷ st)
+    (ap (λ (st : List Waiting). waitingAt p n d ∷ st)
     (stack-same p q n d (λ j l. h j (omega arith)) (λ j l. k j (omega arith))))
 
 pub cells-same : (p q : List ℕ) (base n i : ℕ) → length q ≡ length p
@@ -106,11 +106,11 @@ module _ (n a d left : ℕ) (p : List ℕ) (A : PushArgs p n a d left) where
         getD-set-same (set p (12 + d) (marked a run)) (12 + n + d) 0 0
         (simp length-set (omega (arith, A .inside, A .some-left, A .fits .room)))
 
-    stack-is : stackOf pushed n (d + 1) ≡ held a 0 (leb 64 (marked a run)) ∷ stackOf p n d
+    stack-is : stackOf pushed n (d + 1) ≡ waiting a 0 (leb 64 (marked a run)) ∷ stackOf p n d
     unfolding stackOf
     stack-is =
         rw (add-one d) (rw (label-cell, count-cell, mark-label a run (A .small))
-        (ap (λ (st : List Held). held a 0 (leb 64 (marked a run)) ∷ st) (stack-same p pushed n d
+        (ap (λ (st : List Waiting). waiting a 0 (leb 64 (marked a run)) ∷ st) (stack-same p pushed n d
         (λ j h. other (12 + j) (λ e. omega arith) (λ e. omega (arith, A .inside)))
         (λ j h. other (12 + n + j) (λ e. omega (arith, A .inside, A .some-left)) (λ e. omega arith)))))
 
@@ -130,12 +130,12 @@ module _ (n a d left : ℕ) (p : List ℕ) (A : PushArgs p n a d left) where
         (λ j h l. other (12 + n + j) (λ e. omega (arith, A .inside, A .some-left)) (λ e. omega (arith, A .some-left)))
 
     moved : (xs : List (Option ℕ)) → homeNow xs (run + 1) pushed n (d + 1) (left - 1)
-        ≡ homeward xs (run + 1) (held a 0 (leb 64 (marked a run)) ∷ stackOf p n d) (cellsFrom p 12 n (d + left))
+        ≡ homeward xs (run + 1) (waiting a 0 (leb 64 (marked a run)) ∷ stackOf p n d) (cellsFrom p 12 n (d + left))
         (cellsFrom p (12 + n) n (d + left))
     moved xs =
-        ap₂ (λ (st : List Held) (l : List ℕ). homeward xs (run + 1) st l
+        ap₂ (λ (st : List Waiting) (l : List ℕ). homeward xs (run + 1) st l
         (cellsFrom pushed (12 + n) n (d + 1 + (left - 1)))) stack-is labels-kept
-        ∙ ap (homeward xs (run + 1) (held a 0 (leb 64 (marked a run)) ∷ stackOf p n d)
+        ∙ ap (homeward xs (run + 1) (waiting a 0 (leb 64 (marked a run)) ∷ stackOf p n d)
         (cellsFrom p 12 n (d + left))) counts-kept
 
   pub push-done : (run : ℕ) → PushDone n a d left run p (pushed run)
@@ -145,13 +145,13 @@ module _ (n a d left : ℕ) (p : List ℕ) (A : PushArgs p n a d left) where
           → homeNow xs (run + 1) (pushed run) n (d + 1) (left - 1) ≡ homeNow (some a ∷ xs) run p n d left
       go zero xs =
           moved 0 xs
-          ∙ ap (λ (b : Bool). homeward xs 1 (held a 0 b ∷ stackOf p n d) (cellsFrom p 12 n (d + left))
+          ∙ ap (λ (b : Bool). homeward xs 1 (waiting a 0 b ∷ stackOf p n d) (cellsFrom p 12 n (d + left))
           (cellsFrom p (12 + n) n (d + left))) (mark-first a)
       go (suc run) xs =
           moved (suc run) xs
-          ∙ ap (λ (b : Bool). homeward xs (suc run + 1) (held a 0 b ∷ stackOf p n d) (cellsFrom p 12 n (d + left))
+          ∙ ap (λ (b : Bool). homeward xs (suc run + 1) (waiting a 0 b ∷ stackOf p n d) (cellsFrom p 12 n (d + left))
           (cellsFrom p (12 + n) n (d + left))) (mark-later a run (A .small))
-          ∙ ap (λ (r : ℕ). homeward xs r (held a 0 false ∷ stackOf p n d) (cellsFrom p 12 n (d + left))
+          ∙ ap (λ (r : ℕ). homeward xs r (waiting a 0 false ∷ stackOf p n d) (cellsFrom p 12 n (d + left))
           (cellsFrom p (12 + n) n (d + left))) (add-one (suc run))
 
 -- ---- the count of a list
@@ -167,7 +167,7 @@ stack-count p n (suc d) zero k c e h room =
     let m : getD (set p (12 + n + k) c) (12 + n + d) 0 ≡ c =
     ap (λ (j : ℕ). getD (set p (12 + n + k) c) (12 + n + j) 0) (sym z)
     ∙ getD-set-same p (12 + n + k) c 0 (omega arith) in
-    rw (l, m) (ap (λ (st : List Held). held (getD p (12 + d) 0 % 64) c (leb 64 (getD p (12 + d) 0)) ∷ st)
+    rw (l, m) (ap (λ (st : List Waiting). waiting (getD p (12 + d) 0 % 64) c (leb 64 (getD p (12 + d) 0)) ∷ st)
     (stack-same p (set p (12 + n + k) c) n d (λ j q. getD-set-other p (12 + n + k) (12 + j) c 0 (λ r. omega arith))
     (λ j q. getD-set-other p (12 + n + k) (12 + n + j) c 0 (λ r. omega arith))))
 stack-count p n (suc d) (suc i) k c e h room =
@@ -175,16 +175,16 @@ stack-count p n (suc d) (suc i) k c e h room =
     getD-set-other p (12 + n + k) (12 + d) c 0 (λ q. omega arith) in
     let m : getD (set p (12 + n + k) c) (12 + n + d) 0 ≡ getD p (12 + n + d) 0 =
     getD-set-other p (12 + n + k) (12 + n + d) c 0 (λ q. omega arith) in
-    rw (l, m) (ap (λ (st : List Held). heldAt p n d ∷ st) (stack-count p n d i k c (omega arith) (omega arith) room))
+    rw (l, m) (ap (λ (st : List Waiting). waitingAt p n d ∷ st) (stack-count p n d i k c (omega arith) (omega arith) room))
 
 stack-short : (p : List ℕ) (n d i c : ℕ) → d ≤ i → withCount i c (stackOf p n d) ≡ stackOf p n d
 unfolding stackOf
 stack-short p n zero i c h = refl
 stack-short p n (suc d) zero c h = absurd (omega arith)
-stack-short p n (suc d) (suc i) c h = ap (λ (st : List Held). heldAt p n d ∷ st) (stack-short p n d i c (omega arith))
+stack-short p n (suc d) (suc i) c h = ap (λ (st : List Waiting). waitingAt p n d ∷ st) (stack-short p n d i c (omega arith))
 
 -- a leaf after `run` inner nodes
-leaf-after : (xs : List (Option ℕ)) (run : ℕ) (st : List Held) (ls cs : List ℕ) → 0 < run
+leaf-after : (xs : List (Option ℕ)) (run : ℕ) (st : List Waiting) (ls cs : List ℕ) → 0 < run
     → homeward (none ∷ xs) run st ls cs ≡ homeward xs 0 (withCount run run st) ls cs
 leaf-after xs zero st ls cs h = absurd (omega arith)
 leaf-after xs (suc run) st ls cs h = refl
@@ -194,7 +194,7 @@ module _ (n d left run : ℕ) (p : List ℕ) (A : CountArgs p n d left run) wher
   count-none h = record {
     rest = λ xs. sym (leaf-after xs run (stackOf p n d) (cellsFrom p 12 n (d + left))
         (cellsFrom p (12 + n) n (d + left)) (A .some-read)
-        ∙ ap (λ (st : List Held). homeward xs 0 st (cellsFrom p 12 n (d + left)) (cellsFrom p (12 + n) n (d + left)))
+        ∙ ap (λ (st : List Waiting). homeward xs 0 st (cellsFrom p 12 n (d + left)) (cellsFrom p (12 + n) n (d + left)))
         (stack-short p n d run run h));
     kept = record { same = refl; excess = λ j l. refl };
   }
@@ -209,7 +209,7 @@ module _ (n d left run : ℕ) (p : List ℕ) (A : CountArgs p n d left run) wher
     pub count-some : CountDone n d left run p counted
     count-some = record {
       rest = λ xs.
-          ap₂ (λ (st : List Held) (l : List ℕ). homeward xs 0 st l (cellsFrom counted (12 + n) n (d + left)))
+          ap₂ (λ (st : List Waiting) (l : List ℕ). homeward xs 0 st l (cellsFrom counted (12 + n) n (d + left)))
           (stack-count p n d run (d - 1 - run) run (omega arith) (omega (arith, A .inside)) (A .fits .room))
           (cells-same p counted 12 n (d + left) (length-set p (12 + n + (d - 1 - run)) run)
           (λ j l m. counted-other (12 + j) (λ e. omega arith)))

@@ -16,7 +16,7 @@ use Rattle.list_laws.proofs.BoolLaws.{and-left, and-right}
 use Rattle.trees.specs.Tree.{size, labelsOf, kindsOf}
 use Rattle.trees.proofs.NodeLaws.{length-labels, length-kinds}
 use Rattle.planner.specs.Siblings.{Siblings, empty, sibling, count, width, preLabels, preCounts, image, emptyLabel}
-use Rattle.planner.specs.inner.HomeMachine.{Held, HomeState, homeState, homeward, nodeItem, readBack}
+use Rattle.planner.specs.inner.HomeMachine.{Waiting, HomeState, homeState, homeward, nodeItem, readBack}
 use Rattle.planner.specs.inner.ImageTests.{labelFits, labelsFit, runsFit}
 use Rattle.planner.proofs.HomeMachine.{fromRight, homeward-tree}
 use Rattle.planner.proofs.ItemLaws.{readBack-image}

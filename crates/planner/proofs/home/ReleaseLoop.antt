@@ -12,17 +12,17 @@ use lib.ListN.{length, getD, set, length-set}
 use lib.Seq.{getD-set-same, getD-set-other}
 use borrow.Author.Tests.{lt-ltb}
 use Rattle.list_laws.proofs.BoolLaws.{true-false}
-use Rattle.planner.specs.inner.HomeMachine.{Held, held, HomeState, homeState, released, homeward}
-use Rattle.planner.specs.home.inner.Cells.{heldAt, stackOf, cellsFrom, homeNow, Kept, Fits, ReleaseArgs}
+use Rattle.planner.specs.inner.HomeMachine.{Waiting, waiting, HomeState, homeState, released, homeward}
+use Rattle.planner.specs.home.inner.Cells.{waitingAt, stackOf, cellsFrom, homeNow, Kept, Fits, ReleaseArgs}
 use Rattle.planner.specs.home.inner.Cells.{ReleaseDone}
 use Rattle.planner.proofs.home.CellLaws.{stack-same, cells-same, cells-cons}
 
 -- whether what is on top is still to be written
-abbrev resume : Bool → List Held → List ℕ → List ℕ → HomeState
+abbrev resume : Bool → List Waiting → List ℕ → List ℕ → HomeState
 resume true st ls cs = released st ls cs
 resume false st ls cs = homeState st ls cs
 
-resume-cond : (b : Bool) (st : List Held) (ls cs : List ℕ)
+resume-cond : (b : Bool) (st : List Waiting) (ls cs : List ℕ)
     → cond b (released st ls cs) (homeState st ls cs) ≡ resume b st ls cs
 resume-cond true st ls cs = refl
 resume-cond false st ls cs = refl
@@ -99,7 +99,7 @@ module _ (n d left : ℕ) (p : List ℕ) (A : ReleaseArgs p n d left) (i : ℕ) 
       ≡ released (stackOf q n (suc i)) (cellsFrom q 12 n (i + 1 + left)) (cellsFrom q (12 + n) n (i + 1 + left))
   unfolding stackOf
   released-is =
-      ap₂ (λ (st : List Held) (l : List ℕ). resume (leb 64 (getD q (12 + i) 0)) st l
+      ap₂ (λ (st : List Waiting) (l : List ℕ). resume (leb 64 (getD q (12 + i) 0)) st l
       (cellsFrom (written n left q i) (12 + n) n (i + left))) stack-rest labels-more
       ∙ ap (resume (leb 64 (getD q (12 + i) 0)) (stackOf q n i)
       (getD q (12 + i) 0 % 64 ∷ cellsFrom q 12 n (i + 1 + left))) counts-more

@@ -19,39 +19,39 @@ use mathlib.Core.List.{List, [], _∷_}
 use mathlib.Core.Option.{Option, none, some}
 use lib.ListN.{getD}
 
-pub record Held : Type 0 where
+pub record Waiting : Type 0 where
   pub label : ℕ
   pub children : ℕ
   pub isFirst : Bool
 
-abbrev pub held : ℕ → ℕ → Bool → Held
-held a c b = record { label = a; children = c; isFirst = b }
+abbrev pub waiting : ℕ → ℕ → Bool → Waiting
+waiting a c b = record { label = a; children = c; isFirst = b }
 
 pub record HomeState : Type 0 where
-  pub stack : List Held
+  pub stack : List Waiting
   pub labels : List ℕ
   pub counts : List ℕ
 
-abbrev pub homeState : List Held → List ℕ → List ℕ → HomeState
+abbrev pub homeState : List Waiting → List ℕ → List ℕ → HomeState
 homeState st ls cs = record { stack = st; labels = ls; counts = cs }
 
-abbrev pub released : List Held → List ℕ → List ℕ → HomeState
+abbrev pub released : List Waiting → List ℕ → List ℕ → HomeState
 released [] ls cs = homeState [] ls cs
 released (h ∷ st) ls cs =
     cond (h .isFirst) (released st (h .label ∷ ls) (h .children ∷ cs)) (homeState st (h .label ∷ ls) (h .children ∷ cs))
 
-abbrev pub withCount : ℕ → ℕ → List Held → List Held
+abbrev pub withCount : ℕ → ℕ → List Waiting → List Waiting
 withCount i c [] = []
-withCount zero c (h ∷ st) = held (h .label) c (h .isFirst) ∷ st
+withCount zero c (h ∷ st) = waiting (h .label) c (h .isFirst) ∷ st
 withCount (suc i) c (h ∷ st) = h ∷ withCount i c st
 
-abbrev pub homeward : List (Option ℕ) → ℕ → List Held → List ℕ → List ℕ → HomeState
+abbrev pub homeward : List (Option ℕ) → ℕ → List Waiting → List ℕ → List ℕ → HomeState
 homeward [] k st ls cs = homeState st ls cs
 homeward (none ∷ xs) zero st ls cs =
     let T = released st ls cs in homeward xs 0 (T .stack) (T .labels) (T .counts)
 homeward (none ∷ xs) (suc k) st ls cs = homeward xs 0 (withCount (suc k) (suc k) st) ls cs
-homeward (some a ∷ xs) zero st ls cs = homeward xs 1 (held a 0 true ∷ st) ls cs
-homeward (some a ∷ xs) (suc k) st ls cs = homeward xs (suc (suc k)) (held a 0 false ∷ st) ls cs
+homeward (some a ∷ xs) zero st ls cs = homeward xs 1 (waiting a 0 true ∷ st) ls cs
+homeward (some a ∷ xs) (suc k) st ls cs = homeward xs (suc (suc k)) (waiting a 0 false ∷ st) ls cs
 
 abbrev pub nodeItem : ℕ → ℕ → Option ℕ
 nodeItem a zero = none

@@ -1,6 +1,6 @@
 -- The calls on a run of eight structs refine the model of eight records, so what is proved of the screens holds of
 -- them.
---     SeenAll ss rs       eight structs that pass their conditions, and the records that they hold
+--     RepresentsAll ss rs       eight structs that pass their conditions, and the records that they hold
 --     run-refines         a call on the structs is one on the records
 --     structs-hold        all statements about every list of screen calls (crate screens), from eight fresh sessions
 use Prim.Native.Nat.{ℕ, zero, suc, _<_}
@@ -28,19 +28,19 @@ use Rattle.screens.proofs.Theorems.{screens-hold, screens-hold-of}
 use Rattle.session.specs.declared.state.Session.{Session}
 use Rattle.session.specs.Records.{phaseOf, freshSession, recordOf, sessionOf, valid}
 use Rattle.session.specs.Promises.{answerOn, recordOn}
-use Rattle.session.proofs.Refine.{Seen, fresh-seen, seen-answer, call-refines, narrow-seen, read-keeps}
+use Rattle.session.proofs.Refine.{Represents, fresh-seen, seen-answer, call-refines, narrow-seen, read-keeps}
 use Rattle.screens.specs.in_place.OnStructs as on
 use Rattle.screens.specs.in_place.OnStructs.{busy, targetIn, answerOf, structsOf, answerAll, structsAll, OwnDone, ScreenDone}
 use Rattle.screens.specs.in_place.ScreensInPlace.{ScreenInPlace, does, reads, eightSessions}
 
-pub record SeenAll (ss : List Session) (rs : List Record) : Type 0 where
+pub record RepresentsAll (ss : List Session) (rs : List Record) : Type 0 where
   pub structs : length ss ≡ 8
   pub records : length rs ≡ 8
-  pub each : (i : ℕ) → i < 8 → Seen (on.at ss i) (at rs i)
+  pub each : (i : ℕ) → i < 8 → Represents (on.at ss i) (at rs i)
 
 -- ---- one struct
 
-module _ (s : Session) (r : Record) (v : Seen s r) where
+module _ (s : Session) (r : Record) (v : Represents s r) where
   same-runs : isRunning (phaseOf (s .head .phase)) ≡ isRunning (r .phase)
   unfolding recordOf
   same-runs = ap (λ (t : Record). isRunning (t .phase)) (v .holds)
@@ -48,25 +48,25 @@ module _ (s : Session) (r : Record) (v : Seen s r) where
   same-answer : (c : Call) → answerOn s c ≡ act r c .answer
   same-answer c = seen-answer s r v c
 
-  next-seen : (c : Call) → valid (recordOn s c) ≡ true → Seen (recordOn s c) (act r c .record′)
+  next-seen : (c : Call) → valid (recordOn s c) ≡ true → Represents (recordOn s c) (act r c .record′)
   next-seen c w =
       let k = call-refines s r v c (answerOn s c) (recordOn s c) refl refl w in
-      subst (λ (t : Record). Seen (recordOn s c) t) (k .1 .leaves) (k .2)
+      subst (λ (t : Record). Represents (recordOn s c) t) (k .1 .leaves) (k .2)
 
   -- after a Load where no question runs
   loaded-seen : (x : Inputs) → act r (load x) .record′ ≡ loadedRecord (sizesIn x)
-      → Seen (sessionOf (loadedRecord (sizesIn x))) (loadedRecord (sizesIn x))
+      → Represents (sessionOf (loadedRecord (sizesIn x))) (loadedRecord (sizesIn x))
   unfolding recordOn
   loaded-seen x e =
       let q : recordOn s (load x) ≡ sessionOf (loadedRecord (sizesIn x)) =
       ap (λ (b : Bool). cond b (sessionOf (act (recordOf s) (load x) .record′)) s) (v .passes)
       ∙ ap (λ (t : Record). sessionOf (act t (load x) .record′)) (v .holds) ∙ ap sessionOf e in
-      subst (λ (t : Record). Seen (sessionOf (loadedRecord (sizesIn x))) t) e
-      (subst (λ (t : Session). Seen t (act r (load x) .record′)) q (narrow-seen s r v (load x) tt))
+      subst (λ (t : Record). Represents (sessionOf (loadedRecord (sizesIn x))) t) e
+      (subst (λ (t : Session). Represents t (act r (load x) .record′)) q (narrow-seen s r v (load x) tt))
 
 -- ---- eight of them
 
-module _ (ss : List Session) (rs : List Record) (Z : SeenAll ss rs) where
+module _ (ss : List Session) (rs : List Record) (Z : RepresentsAll ss rs) where
   runs-same : SameRunning (on.runs ss) (runs rs)
   runs-same i h = same-runs (on.at ss i) (at rs i) (Z .each i h)
 
@@ -90,22 +90,22 @@ module _ (ss : List Session) (rs : List Record) (Z : SeenAll ss rs) where
   answer-of (turn i x) h = ap (turnAnswer i) (same-answer (on.at ss i) (at rs i) (Z .each i (h .0)) (advance x))
 
   set-seen : (i : ℕ) (c : Call) → i < 8 → valid (recordOn (on.at ss i) c) ≡ true
-      → SeenAll (set ss i (recordOn (on.at ss i) c)) (set rs i (act (at rs i) c .record′))
+      → RepresentsAll (set ss i (recordOn (on.at ss i) c)) (set rs i (act (at rs i) c .record′))
   set-seen i c h w = record {
     structs = length-set ss i (recordOn (on.at ss i) c) ∙ Z .structs;
     records = length-set rs i (act (at rs i) c .record′) ∙ Z .records;
     each = λ j l. elim (ℕ-discrete j i) [
       | yes q ↦ (let S : List Session = set ss i (recordOn (on.at ss i) c) in
           let R : List Record = set rs i (act (at rs i) c .record′) in
-          subst (λ (m : ℕ). Seen (on.at S m) (at R m)) (sym q)
-          (subst (λ (s : Session). Seen s (at R i))
+          subst (λ (m : ℕ). Represents (on.at S m) (at R m)) (sym q)
+          (subst (λ (s : Session). Represents s (at R i))
           (sym (getD-set-same ss i (recordOn (on.at ss i) c) freshSession (omega (arith, Z .structs))))
-          (subst (λ (r : Record). Seen (recordOn (on.at ss i) c) r)
+          (subst (λ (r : Record). Represents (recordOn (on.at ss i) c) r)
           (sym (getD-set-same rs i (act (at rs i) c .record′) freshRecord (omega (arith, Z .records))))
           (next-seen (on.at ss i) (at rs i) (Z .each i h) c w))))
-      | no q ↦ subst (λ (s : Session). Seen s (at (set rs i (act (at rs i) c .record′)) j))
+      | no q ↦ subst (λ (s : Session). Represents s (at (set rs i (act (at rs i) c .record′)) j))
           (sym (getD-set-other ss i j (recordOn (on.at ss i) c) freshSession q))
-          (subst (λ (r : Record). Seen (on.at ss j) r)
+          (subst (λ (r : Record). Represents (on.at ss j) r)
           (sym (getD-set-other rs i j (act (at rs i) c .record′) freshRecord q)) (Z .each j l))
     ];
   }
@@ -124,16 +124,16 @@ module _ (ss : List Session) (rs : List Record) (Z : SeenAll ss rs) where
   stays-on ss′ a (turn i x) h o = subst (λ (s : Session). valid s ≡ true) (o .leaves)
       (o .stays (Z .each i (h .0) .passes))
 
-  structs-of : (t : Target) → Rightly (runs rs) t → StaysOn t → SeenAll (structsOf ss t) (actOn rs t .records′)
+  structs-of : (t : Target) → Rightly (runs rs) t → StaysOn t → RepresentsAll (structsOf ss t) (actOn rs t .records′)
   unfolding structsOf actOn
   structs-of (nobody n) h w = Z
   structs-of (everyScreen x) h w = record {
     structs = refl;
     records = refl;
     each = λ j l.
-        subst (λ (s : Session). Seen s (at (replicate 8 (loadedRecord (sizesIn x))) j))
+        subst (λ (s : Session). Represents s (at (replicate 8 (loadedRecord (sizesIn x))) j))
         (sym (getD-replicate 8 j (sessionOf (loadedRecord (sizesIn x))) freshSession l))
-        (subst (λ (r : Record). Seen (sessionOf (loadedRecord (sizesIn x))) r)
+        (subst (λ (r : Record). Represents (sessionOf (loadedRecord (sizesIn x))) r)
         (sym (getD-replicate 8 j (loadedRecord (sizesIn x)) freshRecord l))
         (loaded-seen (on.at ss j) (at rs j) (Z .each j l) x
         (sym (load-accepted (at rs j) x (h .0 j l) (h .1) .leaves))));
@@ -150,14 +150,14 @@ module _ (ss : List Session) (rs : List Record) (Z : SeenAll ss rs) where
       ∙ sym (ap (λ (k : ActedAll). k .answer) (on-target rs c (Z .records)))
 
   left-seen : (c : ScreenCall) (ss′ : List Session) (a : Answer) → OwnDone ss ss′ (targetIn ss c) a
-      → SeenAll (structsAll ss c) (actAll rs c .records′)
+      → RepresentsAll (structsAll ss c) (actAll rs c .records′)
   unfolding structsAll
   left-seen c ss′ a o =
       let e : structsAll ss c ≡ structsOf ss (target (runs rs) c) =
       ap (λ (b : Bool). cond b (structsOf ss (targetIn ss c)) ss) (eq-eqb (length ss) 8 (Z .structs))
       ∙ ap (structsOf ss) (target-is c) in
-      subst (λ (l : List Session). SeenAll l (actAll rs c .records′)) (sym e)
-      (subst (λ (l : List Record). SeenAll (structsOf ss (target (runs rs) c)) l)
+      subst (λ (l : List Session). RepresentsAll l (actAll rs c .records′)) (sym e)
+      (subst (λ (l : List Record). RepresentsAll (structsOf ss (target (runs rs) c)) l)
       (sym (ap (λ (k : ActedAll). k .records′) (on-target rs c (Z .records))))
       (structs-of (target (runs rs) c) (rightly (runs rs) c)
       (stays-on ss′ a (target (runs rs) c) (rightly (runs rs) c)
@@ -180,11 +180,11 @@ read-same rs i long = ap (λ (k : ActedAll). k .records′) (on-target rs (readO
 
 -- ---- the theorem
 
-pub run-refines : Refines ScreenInPlace DoesAll SeenAll
+pub run-refines : Refines ScreenInPlace DoesAll RepresentsAll
 run-refines ss ss′ rs c a Z (does d) = (
   actAll rs c .records′,
   record { tells = d .tells ∙ told-is ss rs Z c; leaves = refl },
-  subst (λ (l : List Session). SeenAll l (actAll rs c .records′)) (sym (d .leaves))
+  subst (λ (l : List Session). RepresentsAll l (actAll rs c .records′)) (sym (d .leaves))
       (left-seen ss rs Z c ss′ (answerIn a) (d .own (Z .structs))),
 )
 run-refines ss ss′ rs c a Z (reads i e) = (
@@ -193,15 +193,15 @@ run-refines ss ss′ rs c a Z (reads i e) = (
   Z,
 )
 
-pub eight-seen : SeenAll eightSessions eightFresh
+pub eight-seen : RepresentsAll eightSessions eightFresh
 eight-seen = record {
   structs = refl;
   records = refl;
   each = λ i h.
-      subst (λ (s : Session). Seen s (at eightFresh i)) (sym (getD-replicate 8 i freshSession freshSession h))
-      (subst (λ (r : Record). Seen freshSession r) (sym (getD-replicate 8 i freshRecord freshRecord h)) fresh-seen);
+      subst (λ (s : Session). Represents s (at eightFresh i)) (sym (getD-replicate 8 i freshSession freshSession h))
+      (subst (λ (r : Record). Represents freshSession r) (sym (getD-replicate 8 i freshRecord freshRecord h)) fresh-seen);
 }
 
 pub structs-hold : Screens eightSessions ScreenInPlace
-structs-hold = screens-hold-of ScreenInPlace DoesAll SeenAll run-refines eightSessions eightFresh eight-seen
+structs-hold = screens-hold-of ScreenInPlace DoesAll RepresentsAll run-refines eightSessions eightFresh eight-seen
     screens-hold

@@ -3,9 +3,9 @@
 -- RuleRuns s k lv inn == leaf states and inner states of s states and k labels, within the limits; past a run's end
 --   the state is 0
 -- Sizes ks b == the table of links b has the sizes of the tree with kinds ks
--- Ran A t i before after == the state bytes of the nodes below i are the run's, and no byte but a state byte is changed
+-- RunWritten A t i before after == the state bytes of the nodes below i are the run's, and no byte but a state byte is changed
 -- Runs s k lv inn ks ls i before after == that, for the tree with kinds ks and labels ls, for any marks
--- RanTo A t i e before after == the state bytes of the leaves below e are the run's, and of the inner nodes below e
+-- RunWrittenTo A t i e before after == the state bytes of the leaves below e are the run's, and of the inner nodes below e
 --   those
 --   below i; RunsTo == that, for the tree with kinds ks and labels ls
 -- Leaves s lv ls b e before after == the state bytes of b, .. e - 1 are those of leaves with their labels
@@ -39,13 +39,13 @@ pub record RuleRuns (s k : ℕ) (lv inn : List ℕ) : Type 0 where
 abbrev pub Sizes : List ℕ → List ℕ → Type 0
 Sizes ks b = (t : Tree) → kindsOf t ≡ ks → (v : ℕ) → v < size t → sizeCell b v ≡ size (sub t v)
 
-pub record Ran (A : Automaton) (t : Tree) (i : ℕ) (before after : List ℕ) : Type 0 where
+pub record RunWritten (A : Automaton) (t : Tree) (i : ℕ) (before after : List ℕ) : Type 0 where
   pub states : (v : ℕ) → v < i → stateCell (A .states) after v ≡ state A (sub t v)
   pub kept : (j : ℕ) → ((v : ℕ) → v < size t → j ≡ v * (A .states + 1) → ⊥) → getD after j 0 ≡ getD before j 0
 
 abbrev pub Runs : ℕ → ℕ → List ℕ → List ℕ → List ℕ → List ℕ → ℕ → List ℕ → List ℕ → Type 0
 Runs s k lv inn ks ls i before after =
-    (mk : List ℕ) (t : Tree) → kindsOf t ≡ ks → labelsOf t ≡ ls → Ran (treeAutomaton s k lv inn mk) t i before after
+    (mk : List ℕ) (t : Tree) → kindsOf t ≡ ks → labelsOf t ≡ ls → RunWritten (treeAutomaton s k lv inn mk) t i before after
 
 pub record StateArgs (ks ls b lv inn : List ℕ) (s k m : ℕ) : Type 0 where
   pub postorder : isPostorder ks ≡ true
@@ -59,7 +59,7 @@ pub record StateArgs (ks ls b lv inn : List ℕ) (s k m : ℕ) : Type 0 where
 
 -- ---- a block of nodes: all as leaves, then the inner ones
 
-pub record RanTo (A : Automaton) (t : Tree) (i e : ℕ) (before after : List ℕ) : Type 0 where
+pub record RunWrittenTo (A : Automaton) (t : Tree) (i e : ℕ) (before after : List ℕ) : Type 0 where
   pub states : (v : ℕ) → v < e → ((getD (kindsOf t) v 0 ≡ 0 → ⊥) → v < i)
       → stateCell (A .states) after v ≡ state A (sub t v)
   pub kept : (j : ℕ) → ((v : ℕ) → v < size t → j ≡ v * (A .states + 1) → ⊥) → getD after j 0 ≡ getD before j 0
@@ -67,7 +67,7 @@ pub record RanTo (A : Automaton) (t : Tree) (i e : ℕ) (before after : List ℕ
 abbrev pub RunsTo : ℕ → ℕ → List ℕ → List ℕ → List ℕ → List ℕ → ℕ → ℕ → List ℕ → List ℕ → Type 0
 RunsTo s k lv inn ks ls i e before after =
     (mk : List ℕ) (t : Tree) → kindsOf t ≡ ks → labelsOf t ≡ ls
-    → RanTo (treeAutomaton s k lv inn mk) t i e before after
+    → RunWrittenTo (treeAutomaton s k lv inn mk) t i e before after
 
 pub record Leaves (s : ℕ) (lv ls : List ℕ) (b e : ℕ) (before after : List ℕ) : Type 0 where
   pub cells : (v : ℕ) → b ≤ v → v < e → stateCell s after v ≡ getD lv (getD ls v 0) 0

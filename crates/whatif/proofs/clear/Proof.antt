@@ -17,7 +17,7 @@ use Rattle.session.proofs.state.Session.load.Reads as load-reads
 use Rattle.whatif.proofs.asking.put_questions.Reads as put-questions-reads
 use Rattle.whatif.proofs.input.node_table_space.Reads as node-table-space-reads
 use Rattle.whatif.proofs.input.state_table_space.Reads as state-table-space-reads
-use Rattle.whatif.proofs.say_refused.Reads as say-refused-reads
+use Rattle.whatif.proofs.send_load_refusal.Reads as send-load-refusal-reads
 
 abbrev freshly : tie.After-load → tie.After-fresh
 freshly d = d .before .before .before
@@ -77,30 +77,17 @@ refusal c =
     refused-said (s .args .plan .now) (s .args .rules .now) (n .result) (b .result) (f .result) (l .session) _ _ (l .answer)
     (f .ensures .0) (d .load .ensures) _ (c .before .answer .given .1) (s .pre .0) (n .ensures) (b .ensures)
 
-say-refused-requires : tie.Need-say-refused-requires
-say-refused-requires c κs = refusal c
+send-load-refusal-requires : tie.Need-send-load-refusal-requires
+send-load-refusal-requires c κs = refusal c
 
 returns-2 : tie.Need-returns-2
 returns-2 c =
-    let e = c .say-refused .ensures ∙ sym (ap length (refusal (c .before) [])) in
+    let e = c .send-load-refusal .ensures ∙ sym (ap length (refusal (c .before) [])) in
     (record { questions = []; count = refl; all = e }, omega arith)
 
 pub clear-spec : {M : Type 1} → statement M
 clear-spec =
     tie.close
-    (tie.spec
-    (λ c κs. search needs)
-    (λ c κs. search needs)
-    (λ c κs. search needs)
-    (λ c. search needs)
-    (λ c. search needs)
-    (λ c κs. search needs)
-    (λ c. search needs)
-    (λ c. search needs)
-    (λ c. search needs)
-    put-questions-requires
-    (λ c. search needs)
-    returns
-    (λ c. search needs)
-    say-refused-requires
-    returns-2)
+    (tie.spec (λ c κs. search needs) (λ c κs. search needs) (λ c κs. search needs) (λ c. search needs)
+    (λ c. search needs) (λ c κs. search needs) (λ c. search needs) (λ c. search needs) (λ c. search needs)
+    put-questions-requires (λ c. search needs) returns (λ c. search needs) send-load-refusal-requires returns-2)

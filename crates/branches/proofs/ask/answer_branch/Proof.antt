@@ -164,27 +164,8 @@ returns-2 c =
 pub answer-branch-spec : {M : Type 1} → statement M
 answer-branch-spec =
     tie.close
-    (tie.spec
-    read32-requires
-    read32-requires-2
-    read32-requires-3
-    add-labels
-    (λ c. search needs)
-    (λ c. search needs)
-    part-labels-end
-    (λ c. omega (arith, steps-end (c .before)))
-    (λ c. omega (arith, steps-end (c .before)))
-    (λ c. search needs)
-    (λ c. search needs)
-    part-steps-end
-    depth-at-requires
-    first-state-requires
-    returns
-    replay-climb-requires
-    mul-finish-answer
-    add-finish-answer
-    sub-finish-answer
-    part-finish-answer-start
-    (λ c. search needs)
-    finish-answer-requires
-    returns-2)
+    (tie.spec read32-requires read32-requires-2 read32-requires-3 add-labels (λ c. search needs) (λ c. search needs)
+    part-labels-end (λ c. omega (arith, steps-end (c .before))) (λ c. omega (arith, steps-end (c .before)))
+    (λ c. search needs) (λ c. search needs) part-steps-end depth-at-requires first-state-requires returns
+    replay-climb-requires mul-finish-answer add-finish-answer sub-finish-answer part-finish-answer-start
+    (λ c. search needs) finish-answer-requires returns-2)

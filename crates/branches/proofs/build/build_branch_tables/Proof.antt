@@ -48,13 +48,7 @@ returns-2 c =
 pub build-branch-tables-spec : {M : Type 1} → statement M
 build-branch-tables-spec =
     tie.close
-    (tie.spec
-    (λ c κs. search needs)
-    returns
-    (λ c κs. omega (arith, accepts c .0 .long))
+    (tie.spec (λ c κs. search needs) returns (λ c κs. omega (arith, accepts c .0 .long))
     (λ c κs. omega (arith, accepts (c .before) .1 .long))
-    (λ c κs. omega (arith, accepts (c .before .before) .1 .long))
-    write-branch-requires
-    (λ c. search needs)
-    (λ c. search needs)
-    returns-2)
+    (λ c κs. omega (arith, accepts (c .before .before) .1 .long)) write-branch-requires (λ c. search needs)
+    (λ c. search needs) returns-2)

@@ -59,12 +59,6 @@ returns-3 c =
 pub check-branch-tables-spec : {M : Type 1} → statement M
 check-branch-tables-spec =
     tie.close
-    (tie.spec
-    (λ c κs. search needs)
-    returns
-    (λ c κs. omega (arith, accepts c .0 .long))
+    (tie.spec (λ c κs. search needs) returns (λ c κs. omega (arith, accepts c .0 .long))
     (λ c κs. omega (arith, accepts (c .before) .1 .long))
-    (λ c κs. omega (arith, accepts (c .before .before) .1 .long))
-    branch-matches-requires
-    returns-2
-    returns-3)
+    (λ c κs. omega (arith, accepts (c .before .before) .1 .long)) branch-matches-requires returns-2 returns-3)

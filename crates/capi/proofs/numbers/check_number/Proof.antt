@@ -18,4 +18,5 @@ returns-3 c = not-checked _ _ _ (c .before .answer .given .1)
 pub check-number-spec : {M : Type 1} → statement M
 check-number-spec =
     tie.close
-    (tie.spec (λ c. search needs) (λ c. search needs) (λ c. search needs) (λ c. search needs) returns returns-2 returns-3)
+    (tie.spec (λ c. search needs) (λ c. search needs) (λ c. search needs) (λ c. search needs) returns returns-2
+    returns-3)

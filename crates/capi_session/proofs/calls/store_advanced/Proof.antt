@@ -38,15 +38,5 @@ returns-3 c = advance-refused _ _ _ _ _ (c .before .answer .given .1)
 pub store-advanced-spec : {M : Type 1} → statement M
 store-advanced-spec =
     tie.close
-    (tie.spec
-    (λ c. search needs)
-    encode-step-requires
-    (λ c. search needs)
-    returns
-    (λ c. search needs)
-    encode-step-requires-2
-    (λ c. search needs)
-    returns-2
-    (λ c. search needs)
-    (λ c. search needs)
-    returns-3)
+    (tie.spec (λ c. search needs) encode-step-requires (λ c. search needs) returns (λ c. search needs)
+    encode-step-requires-2 (λ c. search needs) returns-2 (λ c. search needs) (λ c. search needs) returns-3)

@@ -17,4 +17,5 @@ returns-2 c = done-refused _ _ _ (c .before .answer .given .1)
 pub store-done-spec : {M : Type 1} → statement M
 store-done-spec =
     tie.close
-    (tie.spec (λ c. search needs) (λ c κs. search needs) (λ c. search needs) returns (λ c. search needs) (λ c. search needs) returns-2)
+    (tie.spec (λ c. search needs) (λ c κs. search needs) (λ c. search needs) returns (λ c. search needs)
+    (λ c. search needs) returns-2)

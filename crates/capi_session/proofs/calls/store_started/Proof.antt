@@ -17,12 +17,5 @@ returns-2 c = start-refused _ _ _ _ (c .before .answer2 .given .1)
 pub store-started-spec : {M : Type 1} → statement M
 store-started-spec =
     tie.close
-    (tie.spec
-    (λ c. search needs)
-    (λ c κs. search needs)
-    (λ c. search needs)
-    (λ c. search needs)
-    returns
-    (λ c. search needs)
-    (λ c. search needs)
-    returns-2)
+    (tie.spec (λ c. search needs) (λ c κs. search needs) (λ c. search needs) (λ c. search needs) returns
+    (λ c. search needs) (λ c. search needs) returns-2)

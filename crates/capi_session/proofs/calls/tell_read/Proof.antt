@@ -18,12 +18,5 @@ returns-2 c = read-refused _ _ _ (c .before .answer2 .given .1)
 pub tell-read-spec : {M : Type 1} → statement M
 tell-read-spec =
     tie.close
-    (tie.spec
-    (λ c. search needs)
-    (λ c. search needs)
-    (λ c κs. search needs)
-    (λ c. search needs)
-    returns
-    (λ c. search needs)
-    (λ c. search needs)
-    returns-2)
+    (tie.spec (λ c. search needs) (λ c. search needs) (λ c κs. search needs) (λ c. search needs) returns
+    (λ c. search needs) (λ c. search needs) returns-2)

@@ -34,13 +34,5 @@ returns-2 c =
 pub whatif-advance-spec : {M : Type 1} → statement M
 whatif-advance-spec =
     tie.close
-    (tie.spec
-    (λ c κs. search needs)
-    (λ c. search needs)
-    returns
-    decode-requires
-    (λ c κs. search needs)
-    (λ c. search needs)
-    store-advanced-requires
-    (λ c. search needs)
-    returns-2)
+    (tie.spec (λ c κs. search needs) (λ c. search needs) returns decode-requires (λ c κs. search needs)
+    (λ c. search needs) store-advanced-requires (λ c. search needs) returns-2)

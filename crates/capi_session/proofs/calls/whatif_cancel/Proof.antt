@@ -32,12 +32,5 @@ returns-2 c =
 pub whatif-cancel-spec : {M : Type 1} → statement M
 whatif-cancel-spec =
     tie.close
-    (tie.spec
-    (λ c κs. search needs)
-    (λ c. search needs)
-    returns
-    decode-requires
-    (λ c κs. search needs)
-    store-done-requires
-    (λ c. search needs)
-    returns-2)
+    (tie.spec (λ c κs. search needs) (λ c. search needs) returns decode-requires (λ c κs. search needs)
+    store-done-requires (λ c. search needs) returns-2)

@@ -34,14 +34,5 @@ returns-2 c =
 pub whatif-load-spec : {M : Type 1} → statement M
 whatif-load-spec =
     tie.close
-    (tie.spec
-    (λ c κs. search needs)
-    (λ c. search needs)
-    returns
-    decode-requires
-    (λ c κs. search needs)
-    store-done-requires
-    (λ c. search needs)
-    (λ c. search needs)
-    (λ c. search needs)
-    returns-2)
+    (tie.spec (λ c κs. search needs) (λ c. search needs) returns decode-requires (λ c κs. search needs)
+    store-done-requires (λ c. search needs) (λ c. search needs) (λ c. search needs) returns-2)

@@ -32,12 +32,5 @@ returns-2 c =
 pub whatif-start-spec : {M : Type 1} → statement M
 whatif-start-spec =
     tie.close
-    (tie.spec
-    (λ c κs. search needs)
-    (λ c. search needs)
-    returns
-    decode-requires
-    (λ c κs. search needs)
-    store-started-requires
-    (λ c. search needs)
-    returns-2)
+    (tie.spec (λ c κs. search needs) (λ c. search needs) returns decode-requires (λ c κs. search needs)
+    store-started-requires (λ c. search needs) returns-2)

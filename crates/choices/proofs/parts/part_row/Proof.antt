@@ -29,4 +29,5 @@ returns c =
 pub part-row-spec : {M : Type 1} → statement M
 part-row-spec =
     tie.close
-    (tie.spec (λ c. search needs) (λ c κs. search needs) (λ c. search needs) slice-aggregate-part-counts part-counts-requires returns)
+    (tie.spec (λ c. search needs) (λ c κs. search needs) (λ c. search needs) slice-aggregate-part-counts
+    part-counts-requires returns)

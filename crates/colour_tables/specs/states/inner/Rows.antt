@@ -5,7 +5,7 @@
 -- PutTo row at k before after == the first k of a row are in `after` from `at` on, and no other byte is changed
 -- LandedTo lands n v k before after == the landings of colours 1, .. k - 1 at node v are those given, and no other
 --   number is changed
--- Turned led .. v == the copy of node v and its landings, where `led` has the states that those above lead to
+-- Recoloured successors .. v == the copy of node v and its landings, where `successors` has the states that those above lead to
 -- AboveArgs, PutArgs, LandArgs, TurnArgs == what the functions need: places inside their lists
 use Prim.Native.Nat.{ℕ, _+_, _*_, _≤_, _<_}
 use mathlib.Core.Path.{_≡_}
@@ -48,19 +48,19 @@ pub record LandedTo (lands : List ℕ) (n v k : ℕ) (before after : List ℕ) :
   pub cells : (c : ℕ) → 0 < c → c < k → getD after (c * (n * 4) + (v * 4 + 3)) 0 ≡ getD lands c 0
   pub kept : (j : ℕ) → ((c : ℕ) → 0 < c → c < k → j ≡ c * (n * 4) + (v * 4 + 3) → ⊥) → getD after j 0 ≡ getD before j 0
 
-pub record TurnArgs (led bytes numbers : List ℕ) (n base k v : ℕ) : Type 0 where
-  pub long : length led ≡ 16
-  pub small : (c : ℕ) → c < k → getD led c 0 < 16
+pub record TurnArgs (successors bytes numbers : List ℕ) (n base k v : ℕ) : Type 0 where
+  pub long : length successors ≡ 16
+  pub small : (c : ℕ) → c < k → getD successors c 0 < 16
   pub few : k ≤ 16
   pub most : n ≤ 65535
   pub at : v < n
   pub row-room : base + v * k + k ≤ length bytes
   pub room : k * (n * 4) ≤ length numbers
 
-pub record Turned (led : List ℕ) (n base k v : ℕ) (bytes numbers bytes′ numbers′ : List ℕ) : Type 0 where
-  pub row : (c : ℕ) → c < k → getD bytes′ (base + v * k + c) 0 ≡ getD (recolour (λ q. q) (take k led)) c 0
+pub record Recoloured (successors : List ℕ) (n base k v : ℕ) (bytes numbers bytes′ numbers′ : List ℕ) : Type 0 where
+  pub row : (c : ℕ) → c < k → getD bytes′ (base + v * k + c) 0 ≡ getD (recolour (λ q. q) (take k successors)) c 0
   pub landed : (c : ℕ) → 0 < c → c < k
-      → getD numbers′ (c * (n * 4) + (v * 4 + 3)) 0 ≡ lands (λ q. q) (take k led) c
+      → getD numbers′ (c * (n * 4) + (v * 4 + 3)) 0 ≡ lands (λ q. q) (take k successors) c
   pub bytes-kept : (j : ℕ) → ((c : ℕ) → c < k → j ≡ base + v * k + c → ⊥) → getD bytes′ j 0 ≡ getD bytes j 0
   pub numbers-kept : (j : ℕ) → ((c : ℕ) → 0 < c → c < k → j ≡ c * (n * 4) + (v * 4 + 3) → ⊥)
       → getD numbers′ j 0 ≡ getD numbers j 0

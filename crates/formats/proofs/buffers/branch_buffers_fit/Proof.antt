@@ -44,14 +44,7 @@ returns-2 c =
 pub branch-buffers-fit-spec : {M : Type 1} → statement M
 branch-buffers-fit-spec =
     tie.close
-    (tie.spec
-    (λ c κs. search needs)
-    returns
-    (λ c κs. omega (arith, heads c .plan-long))
+    (tie.spec (λ c κs. search needs) returns (λ c κs. omega (arith, heads c .plan-long))
     (λ c κs. omega (arith, heads (c .before) .table-long))
-    (λ c κs. omega (arith, heads (c .before .before) .table-long))
-    step-count-requires
-    (λ c. omega (arith, c .step-count .ensures .fits))
-    add-exact-2
-    buffers-fit-requires
-    returns-2)
+    (λ c κs. omega (arith, heads (c .before .before) .table-long)) step-count-requires
+    (λ c. omega (arith, c .step-count .ensures .fits)) add-exact-2 buffers-fit-requires returns-2)

@@ -29,11 +29,5 @@ returns-4 c =
 pub check-list-spec : {M : Type 1} → statement M
 check-list-spec =
     tie.close
-    (tie.spec
-    (λ c κs. search needs)
-    returns
-    (λ c κs. search needs)
-    returns-2
-    (λ c κs. search needs)
-    returns-3
+    (tie.spec (λ c κs. search needs) returns (λ c κs. search needs) returns-2 (λ c κs. search needs) returns-3
     returns-4)

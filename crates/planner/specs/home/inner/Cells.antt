@@ -1,7 +1,7 @@
 -- The stack of the loop that reads a plan from the right, and what it has written, as they are in the file's buffer;
 -- the contracts of its functions.
 --
--- heldAt q n i == entry i of the stack: label without bit 6, count, and bit 6; stackOf q n d == the first d entries,
+-- waitingAt q n i == entry i of the stack: label without bit 6, count, and bit 6; stackOf q n d == the first d entries,
 --   the last on top
 -- cellsFrom q base n i == the cells i to n - 1 of the run that begins at base
 -- homeNow xs run q n d left == the state at the end, from the nodes xs still to be read, the buffer q, a stack of d
@@ -17,15 +17,15 @@ use lib.Dec.{leb}
 use lib.ListN.{length, getD, take, drop}
 use Rattle.trees.specs.Tree.{labelsOf, kindsOf}
 use Rattle.planner.specs.Siblings.{Siblings, count, width, preLabels, preCounts, image}
-use Rattle.planner.specs.inner.HomeMachine.{Held, held, HomeState, homeward, nodeItem}
+use Rattle.planner.specs.inner.HomeMachine.{Waiting, waiting, HomeState, homeward, nodeItem}
 use Rattle.planner.specs.inner.ImageTests.{labelsFit, runsFit}
 
-abbrev pub heldAt : List ℕ → ℕ → ℕ → Held
-heldAt q n i = held (getD q (12 + i) 0 % 64) (getD q (12 + n + i) 0) (leb 64 (getD q (12 + i) 0))
+abbrev pub waitingAt : List ℕ → ℕ → ℕ → Waiting
+waitingAt q n i = waiting (getD q (12 + i) 0 % 64) (getD q (12 + n + i) 0) (leb 64 (getD q (12 + i) 0))
 
-unfoldable pub stackOf : List ℕ → ℕ → ℕ → List Held
+unfoldable pub stackOf : List ℕ → ℕ → ℕ → List Waiting
 stackOf q n zero = []
-stackOf q n (suc i) = heldAt q n i ∷ stackOf q n i
+stackOf q n (suc i) = waitingAt q n i ∷ stackOf q n i
 
 abbrev pub cellsFrom : List ℕ → ℕ → ℕ → ℕ → List ℕ
 cellsFrom q base n i = take (n - i) (drop (base + i) q)

@@ -17,4 +17,5 @@ returns-2 c = part-outside _ _ (c .enum-told .given .1) (c .before .before .part
 
 pub probe-part-spec : {M : Type 1} → statement M
 probe-part-spec =
-    tie.close (tie.spec (λ c κs. search needs) (λ c. search needs) (λ c. search needs) returns (λ c. search needs) returns-2)
+    tie.close (tie.spec (λ c κs. search needs) (λ c. search needs) (λ c. search needs) returns (λ c. search needs)
+    returns-2)

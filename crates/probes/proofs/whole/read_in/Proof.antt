@@ -14,4 +14,5 @@ returns-2 c = read-none _ _ (c .before .answer2 .given .1)
 
 pub read-in-spec : {M : Type 1} → statement M
 read-in-spec =
-    tie.close (tie.spec (λ c. search needs) (λ c. search needs) (λ c. search needs) returns (λ c. search needs) returns-2)
+    tie.close (tie.spec (λ c. search needs) (λ c. search needs) (λ c. search needs) returns (λ c. search needs)
+    returns-2)

@@ -66,14 +66,5 @@ returns c =
 pub fork-on-spec : {M : Type 1} → statement M
 fork-on-spec =
     tie.close
-    (tie.spec
-    (λ c κs. search needs)
-    add-to
-    (λ c κs. search needs)
-    (λ c. search needs)
-    (λ c κs. search needs)
-    side-on-requires
-    (λ c. search needs)
-    side-on-requires-2
-    join-on-requires
-    returns)
+    (tie.spec (λ c κs. search needs) add-to (λ c κs. search needs) (λ c. search needs) (λ c κs. search needs)
+    side-on-requires (λ c. search needs) side-on-requires-2 join-on-requires returns)

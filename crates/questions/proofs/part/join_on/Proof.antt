@@ -97,18 +97,5 @@ returns-4 c =
 pub join-on-spec : {M : Type 1} → statement M
 join-on-spec =
     tie.close
-    (tie.spec
-    (λ c. search needs)
-    (λ c. search needs)
-    (λ c. search needs)
-    (λ c. search needs)
-    rule-on-requires
-    returns
-    (λ c. search needs)
-    add-t16
-    add-t17
-    (λ c. search needs)
-    (λ c. search needs)
-    returns-2
-    returns-3
-    returns-4)
+    (tie.spec (λ c. search needs) (λ c. search needs) (λ c. search needs) (λ c. search needs) rule-on-requires returns
+    (λ c. search needs) add-t16 add-t17 (λ c. search needs) (λ c. search needs) returns-2 returns-3 returns-4)

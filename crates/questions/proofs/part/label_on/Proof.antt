@@ -53,14 +53,5 @@ returns-2 c =
 pub label-on-spec : {M : Type 1} → statement M
 label-on-spec =
     tie.close
-    (tie.spec
-    (λ c. search needs)
-    (λ c κs. search needs)
-    (λ c. search needs)
-    (λ c. search needs)
-    cast-result
-    returns
-    (λ c. search needs)
-    shared-slice-read-result-2
-    cast-result-2
-    returns-2)
+    (tie.spec (λ c. search needs) (λ c κs. search needs) (λ c. search needs) (λ c. search needs) cast-result returns
+    (λ c. search needs) shared-slice-read-result-2 cast-result-2 returns-2)

@@ -104,41 +104,17 @@ returns-4 c =
 pub part-spec : {M : Type 1} → statement M
 part-spec =
     tie.close
-    (tie.spec
-    (λ c κs. search needs)
-    returns
-    rule-buffers-fit-requires
-    returns-2
-    (λ c κs. search needs)
-    returns-3
-    (λ c. omega (arith, fit c))
-    (λ c. omega (arith, fit c))
-    (λ c. omega (arith, fit c))
-    (λ c. omega (arith, fit c))
-    (λ c. omega (arith, fit (c .before)))
-    (λ c. omega (arith, fit (c .before)))
-    (λ c. omega (arith, fit (c .before)))
-    (λ c. omega (arith, fit (c .before)))
-    (λ c. omega (arith, fit (c .before .before)))
-    (λ c. omega (arith, fit (c .before .before)))
-    (λ c. omega (arith, fit (c .before .before)))
-    (λ c. omega (arith, fit (c .before .before)))
+    (tie.spec (λ c κs. search needs) returns rule-buffers-fit-requires returns-2 (λ c κs. search needs) returns-3
+    (λ c. omega (arith, fit c)) (λ c. omega (arith, fit c)) (λ c. omega (arith, fit c)) (λ c. omega (arith, fit c))
+    (λ c. omega (arith, fit (c .before))) (λ c. omega (arith, fit (c .before))) (λ c. omega (arith, fit (c .before)))
+    (λ c. omega (arith, fit (c .before))) (λ c. omega (arith, fit (c .before .before)))
+    (λ c. omega (arith, fit (c .before .before))) (λ c. omega (arith, fit (c .before .before)))
+    (λ c. omega (arith, fit (c .before .before))) (λ c. omega (arith, fit (c .before .before .before)))
+    (λ c. omega (arith, fit (c .before .before .before))) (λ c. omega (arith, fit (c .before .before .before)))
+    (λ c. omega (arith, fit (c .before .before .before))) (λ c. omega (arith, fit (c .before .before .before)))
+    (λ c. omega (arith, fit (c .before .before .before))) (λ c. omega (arith, fit (c .before .before .before)))
     (λ c. omega (arith, fit (c .before .before .before)))
-    (λ c. omega (arith, fit (c .before .before .before)))
-    (λ c. omega (arith, fit (c .before .before .before)))
-    (λ c. omega (arith, fit (c .before .before .before)))
-    (λ c. omega (arith, fit (c .before .before .before)))
-    (λ c. omega (arith, fit (c .before .before .before)))
-    (λ c. omega (arith, fit (c .before .before .before)))
-    (λ c. omega (arith, fit (c .before .before .before)))
-    (λ c. omega (arith, fit (c .before .before .before .before)))
-    slice-aggregate-part-on
+    (λ c. omega (arith, fit (c .before .before .before .before))) slice-aggregate-part-on
     (λ c. omega (arith, fit (c .before .before .before .before .before)))
-    (λ c. omega (arith, fit (c .before .before .before .before .before)))
-    slice-aggregate-part-on-2
-    slice-aggregate-part-on-3
-    mul-part-on-5
-    shared-slice-read-part-on
-    cast-part-on
-    part-on-requires
-    returns-4)
+    (λ c. omega (arith, fit (c .before .before .before .before .before))) slice-aggregate-part-on-2
+    slice-aggregate-part-on-3 mul-part-on-5 shared-slice-read-part-on cast-part-on part-on-requires returns-4)

@@ -82,19 +82,6 @@ returns-4 c =
 pub side-on-spec : {M : Type 1} → statement M
 side-on-spec =
     tie.close
-    (tie.spec
-    run-on-requires
-    (λ c κs. search needs)
-    returns
-    (λ c. search needs)
-    (λ c. search needs)
-    cast-q
-    (λ c κs. search needs)
-    returns-2
-    returns-3
-    (λ c. search needs)
-    (λ c. search needs)
-    (λ c. search needs)
-    cast-climb-state
-    climb-state-requires
-    returns-4)
+    (tie.spec run-on-requires (λ c κs. search needs) returns (λ c. search needs) (λ c. search needs) cast-q
+    (λ c κs. search needs) returns-2 returns-3 (λ c. search needs) (λ c. search needs) (λ c. search needs)
+    cast-climb-state climb-state-requires returns-4)

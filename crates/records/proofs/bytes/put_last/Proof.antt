@@ -19,41 +19,19 @@ returns c =
 pub put-last-spec : {M : Type 1} → statement M
 put-last-spec =
     tie.close
-    (tie.spec
-    (λ c κs. search needs)
+    (tie.spec (λ c κs. search needs) (λ c. search needs) (λ c. simp length-set (omega arith)) (λ c κs. search needs)
+    (λ c. simp length-set (omega arith)) (λ c. simp length-set (omega arith)) (λ c. search needs)
+    (λ c. simp length-set (omega arith)) (λ c. search needs) (λ c. simp length-set (omega arith)) (λ c. search needs)
+    (λ c. simp length-set (omega arith)) (λ c. search needs) (λ c. simp length-set (omega arith)) (λ c. search needs)
+    (λ c. simp length-set (omega arith)) (λ c. search needs) (λ c. simp length-set (omega arith)) (λ c. search needs)
+    (λ c. simp length-set (omega arith)) (λ c. search needs)
+    (λ c. let y = c .before .before .before .before .before .before .before .before in simp length-set (omega (arith, y .before .before .before .before .pre)))
     (λ c. search needs)
-    (λ c. simp length-set (omega arith))
-    (λ c κs. search needs)
-    (λ c. simp length-set (omega arith))
-    (λ c. simp length-set (omega arith))
+    (λ c. let y = c .before .before .before .before .before .before .before .before .before in simp length-set (omega (arith, y .before .before .before .before .pre)))
     (λ c. search needs)
-    (λ c. simp length-set (omega arith))
+    (λ c. let y = c .before .before .before .before .before .before .before .before .before .before in simp length-set (omega (arith, y .before .before .before .before .pre)))
     (λ c. search needs)
-    (λ c. simp length-set (omega arith))
+    (λ c. let y = c .before .before .before .before .before .before .before .before .before .before .before in simp length-set (omega (arith, y .before .before .before .before .pre)))
     (λ c. search needs)
-    (λ c. simp length-set (omega arith))
-    (λ c. search needs)
-    (λ c. simp length-set (omega arith))
-    (λ c. search needs)
-    (λ c. simp length-set (omega arith))
-    (λ c. search needs)
-    (λ c. simp length-set (omega arith))
-    (λ c. search needs)
-    (λ c. simp length-set (omega arith))
-    (λ c. search needs)
-    (λ c. let y = c .before .before .before .before .before .before .before .before in
-    simp length-set (omega (arith, y .before .before .before .before .pre)))
-    (λ c. search needs)
-    (λ c. let y = c .before .before .before .before .before .before .before .before .before in
-    simp length-set (omega (arith, y .before .before .before .before .pre)))
-    (λ c. search needs)
-    (λ c. let y = c .before .before .before .before .before .before .before .before .before .before in
-    simp length-set (omega (arith, y .before .before .before .before .pre)))
-    (λ c. search needs)
-    (λ c. let y = c .before .before .before .before .before .before .before .before .before .before .before in
-    simp length-set (omega (arith, y .before .before .before .before .pre)))
-    (λ c. search needs)
-    (λ c. let y = c .before .before .before .before .before .before .before .before .before .before .before .before in
-    simp length-set (omega (arith, y .before .before .before .before .pre)))
-    same-length
-    returns)
+    (λ c. let y = c .before .before .before .before .before .before .before .before .before .before .before .before in simp length-set (omega (arith, y .before .before .before .before .pre)))
+    same-length returns)

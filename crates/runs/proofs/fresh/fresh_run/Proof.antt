@@ -43,11 +43,6 @@ returns-2 c =
 pub fresh-run-spec : {M : Type 1} → statement M
 fresh-run-spec =
     tie.close
-    (tie.spec
-    (λ c κs. search needs)
-    returns
-    (λ c κs. omega (arith, passed c .plan-length))
+    (tie.spec (λ c κs. search needs) returns (λ c κs. omega (arith, passed c .plan-length))
     (λ c κs. omega (arith, passed (c .before) .rules-length))
-    (λ c κs. omega (arith, passed (c .before .before) .rules-length))
-    run-passed-requires
-    returns-2)
+    (λ c κs. omega (arith, passed (c .before .before) .rules-length)) run-passed-requires returns-2)

@@ -153,5 +153,5 @@ returns c =
 pub pass-in-spec : {M : Type 1} → statement M
 pass-in-spec =
     tie.close
-    (tie.spec Inv-loop μ-loop loop-holds span-end-requires (λ c κs. search needs) slice-aggregate-mark-in mark-in-requires
-    slice-aggregate-turns turns-requires loop-less loop-again same-length returns)
+    (tie.spec Inv-loop μ-loop loop-holds span-end-requires (λ c κs. search needs) slice-aggregate-mark-in
+    mark-in-requires slice-aggregate-turns turns-requires loop-less loop-again same-length returns)

@@ -81,5 +81,5 @@ returns-2 c =
 pub step-spec : {M : Type 1} → statement M
 step-spec =
     tie.close
-    (tie.spec slice-write-states shared-slice-read-if1 add-t17 add-t18 shared-slice-read-t20 (λ c. search needs) returns sub-p
-    slice-read-p cast-p cast-q add-t21 sub-t23 rule-requires (λ c. search needs) returns-2)
+    (tie.spec slice-write-states shared-slice-read-if1 add-t17 add-t18 shared-slice-read-t20 (λ c. search needs)
+    returns sub-p slice-read-p cast-p cast-q add-t21 sub-t23 rule-requires (λ c. search needs) returns-2)

@@ -92,5 +92,5 @@ returns c = c .before .before .loop .inv .1
 pub stretch-spec : {M : Type 1} → statement M
 stretch-spec =
     tie.close
-    (tie.spec Inv-loop μ-loop loop-holds sub-if1 shared-slice-read-if1 shared-slice-read-a cast-a step-requires add-v loop-less
-    loop-again same-length returns)
+    (tie.spec Inv-loop μ-loop loop-holds sub-if1 shared-slice-read-if1 shared-slice-read-a cast-a step-requires add-v
+    loop-less loop-again same-length returns)

@@ -97,5 +97,5 @@ returns c = span-end (c .before .loop .inv .1) (omega (arith, c .loop-test .left
 pub turns-spec : {M : Type 1} → statement M
 turns-spec =
     tie.close
-    (tie.spec Inv-loop μ-loop loop-holds label-at-requires cast-a step-requires stretch-requires loop-less loop-again same-length
-    returns)
+    (tie.spec Inv-loop μ-loop loop-holds label-at-requires cast-a step-requires stretch-requires loop-less loop-again
+    same-length returns)

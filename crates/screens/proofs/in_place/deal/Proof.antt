@@ -63,10 +63,10 @@ use Rattle.session.proofs.answers.AdvanceAnswer as E
 use Rattle.session.proofs.answers.AdvanceAnswer.Laws as E′
 use Rattle.screens.proofs.in_place.DealAnswer as D
 use Rattle.screens.proofs.in_place.DealAnswer.Laws as D′
-use Rattle.screens.proofs.in_place.told_of as tell
-use Rattle.screens.proofs.in_place.told_of.Symbol as tell-def
-use Rattle.screens.proofs.in_place.told_of.Symbol.{name as #tell}
-use Rattle.screens.proofs.in_place.told_of.Met as tell-thm
+use Rattle.screens.proofs.in_place.deal_answer as tell
+use Rattle.screens.proofs.in_place.deal_answer.Symbol as tell-def
+use Rattle.screens.proofs.in_place.deal_answer.Symbol.{name as #tell}
+use Rattle.screens.proofs.in_place.deal_answer.Met as tell-thm
 use Rattle.session.proofs.state.Head as K
 use Rattle.session.proofs.state.Head.Laws as K′
 use Rattle.session.proofs.state.Phase as P
@@ -634,7 +634,7 @@ deal-spec 𝓤 H 𝓜 𝓖 𝓡 =
     (WpFn-mono 𝓤 H (W .laws) 𝓣 code.function)
     (λ κs qs a room fits. walk 𝓤 H (𝓖 .A) W (𝓜 .mem) (𝓡 .run) κs qs a fits (𝓣 .C) (𝓣 .Λ) (fmOf 𝓤 H (W .laws) 𝓣)
     (cited 𝓤 H (Tell 𝓤 H (𝓖 .A) (𝓜 .mem) (𝓡 .run)) 𝓜 𝓡 code.env #tell tell-def.routine
-    code.calls-screens·in-place·told-of
+    code.calls-screens·in-place·deal-answer
     (tell-thm.met 𝓤 H 𝓜 𝓖 𝓡))
     (cited 𝓤 H (Next 𝓤 H (𝓖 .A) (𝓜 .mem) (𝓡 .run)) 𝓜 𝓡 code.env #next next-def.routine
     code.calls-screens·in-place·next-running

@@ -34,16 +34,6 @@ returns c = (c .part .ensures .result, c .part .ensures .passed-most)
 pub next-part-spec : {M : Type 1} → statement M
 next-part-spec =
     tie.close
-    (tie.spec
-    (λ c. search needs)
-    (λ c. search needs)
-    (λ c. search needs)
-    (λ c. search needs)
-    (λ c. search needs)
-    (λ c. search needs)
-    slice-aggregate-part
-    slice-aggregate-part-2
-    slice-aggregate-part-3
-    slice-aggregate-part-4
-    (λ c κs. search needs)
-    returns)
+    (tie.spec (λ c. search needs) (λ c. search needs) (λ c. search needs) (λ c. search needs) (λ c. search needs)
+    (λ c. search needs) slice-aggregate-part slice-aggregate-part-2 slice-aggregate-part-3 slice-aggregate-part-4
+    (λ c κs. search needs) returns)

@@ -95,21 +95,7 @@ returns-4 c =
 pub next-step-spec : {M : Type 1} → statement M
 next-step-spec =
     tie.close
-    (tie.spec
-    (λ c κs. search needs)
-    (λ c κs. search needs)
-    (λ c κs. search needs)
-    returns
-    (λ c. search needs)
-    (λ c. search needs)
-    (λ c. search needs)
-    rule-buffers-fit-requires
-    (λ c κs. search needs)
-    returns-2
-    next-part-requires
-    (λ c. search needs)
-    handled-requires
-    returns-3
-    (λ c. search needs)
-    (λ c κs. search needs)
+    (tie.spec (λ c κs. search needs) (λ c κs. search needs) (λ c κs. search needs) returns (λ c. search needs)
+    (λ c. search needs) (λ c. search needs) rule-buffers-fit-requires (λ c κs. search needs) returns-2
+    next-part-requires (λ c. search needs) handled-requires returns-3 (λ c. search needs) (λ c κs. search needs)
     returns-4)

@@ -33,5 +33,5 @@ returns c = sym (zero-end (c .before .before .args .xs .now) (c .before .loop .i
 pub zero-bytes-spec : {M : Type 1} → statement M
 zero-bytes-spec =
     tie.close
-    (tie.spec Inv-loop μ-loop loop-holds (λ c. search needs) (λ c. search needs) (λ c. search needs)
-    loop-again returns)
+    (tie.spec Inv-loop μ-loop loop-holds (λ c. search needs) (λ c. search needs) (λ c. search needs) loop-again
+    returns)

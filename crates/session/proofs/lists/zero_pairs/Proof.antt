@@ -41,5 +41,5 @@ returns c =
 pub zero-pairs-spec : {M : Type 1} → statement M
 zero-pairs-spec =
     tie.close
-    (tie.spec Inv-loop μ-loop loop-holds (λ c. search needs) (λ c. search needs) (λ c. search needs)
-    cast-all (λ c. search needs) (λ c. search needs) loop-again returns)
+    (tie.spec Inv-loop μ-loop loop-holds (λ c. search needs) (λ c. search needs) (λ c. search needs) cast-all
+    (λ c. search needs) (λ c. search needs) loop-again returns)

@@ -25,4 +25,5 @@ returns-4 c = by-state mayLoad _ _ (c .enum-told4 .given .1)
 pub may-load-spec : {M : Type 1} → statement M
 may-load-spec =
     tie.close
-    (tie.spec (λ c. search needs) (λ c. search needs) (λ c. search needs) (λ c. search needs) returns returns-2 returns-3 returns-4)
+    (tie.spec (λ c. search needs) (λ c. search needs) (λ c. search needs) (λ c. search needs) returns returns-2
+    returns-3 returns-4)

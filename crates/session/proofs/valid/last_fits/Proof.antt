@@ -11,4 +11,5 @@ returns-2 : tie.Need-returns-2
 returns-2 c = last-test _ _ (c .before .before .before .before .before .before .before .if1 .left)
 
 pub last-fits-spec : {M : Type 1} → statement M
-last-fits-spec = tie.close (tie.spec (λ c κs. search needs) returns (λ c. search needs) (λ c. search needs) returns-2)
+last-fits-spec = tie.close (tie.spec (λ c κs. search needs) returns (λ c. search needs) (λ c. search needs)
+    returns-2)

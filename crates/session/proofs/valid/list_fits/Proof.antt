@@ -45,19 +45,6 @@ returns-2 c =
 pub list-fits-spec : {M : Type 1} → statement M
 list-fits-spec =
     tie.close
-    (tie.spec
-    (λ c. search needs)
-    returns
-    slice-aggregate-below
-    (λ c κs. search needs)
-    slice-aggregate-all-below
-    (λ c κs. search needs)
-    (λ c. search needs)
-    (λ c. search needs)
-    (λ c. search needs)
-    (λ c. search needs)
-    (λ c. search needs)
-    (λ c. search needs)
-    (λ c. search needs)
-    zero-pairs-requires
-    returns-2)
+    (tie.spec (λ c. search needs) returns slice-aggregate-below (λ c κs. search needs) slice-aggregate-all-below
+    (λ c κs. search needs) (λ c. search needs) (λ c. search needs) (λ c. search needs) (λ c. search needs)
+    (λ c. search needs) (λ c. search needs) (λ c. search needs) zero-pairs-requires returns-2)

@@ -19,8 +19,4 @@ returns c =
 pub no-question-spec : {M : Type 1} → statement M
 no-question-spec =
     tie.close
-    (tie.spec
-    (λ c κs. search needs)
-    (λ c κs. search needs)
-    (λ c κs. search needs)
-    returns)
+    (tie.spec (λ c κs. search needs) (λ c κs. search needs) (λ c κs. search needs) returns)

@@ -76,12 +76,5 @@ returns-3 c =
 pub check-tables-spec : {M : Type 1} → statement M
 check-tables-spec =
     tie.close
-    (tie.spec
-    (λ c κs. search needs)
-    returns
-    read32-requires
-    read32-requires-2
-    read32-requires-3
-    both-match-requires
-    returns-2
-    returns-3)
+    (tie.spec (λ c κs. search needs) returns read32-requires read32-requires-2 read32-requires-3 both-match-requires
+    returns-2 returns-3)

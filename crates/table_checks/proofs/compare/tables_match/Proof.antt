@@ -120,21 +120,7 @@ returns-4 c =
 pub tables-match-spec : {M : Type 1} → statement M
 tables-match-spec =
     tie.close
-    (tie.spec
-    (λ c. search needs)
-    (λ c. search needs)
-    slice-aggregate-all-below
-    (λ c. search needs)
-    (λ c κs. search needs)
-    returns
-    sub-root-node-is
-    root-node-is-requires
-    returns-2
-    sub-root-row-is
-    root-row-is-requires
-    returns-3
-    (λ c κs. search needs)
-    (λ c κs. search needs)
-    (λ c. search needs)
-    blocks-match-requires
-    returns-4)
+    (tie.spec (λ c. search needs) (λ c. search needs) slice-aggregate-all-below (λ c. search needs)
+    (λ c κs. search needs) returns sub-root-node-is root-node-is-requires returns-2 sub-root-row-is
+    root-row-is-requires returns-3 (λ c κs. search needs) (λ c κs. search needs) (λ c. search needs)
+    blocks-match-requires returns-4)

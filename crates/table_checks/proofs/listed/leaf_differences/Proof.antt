@@ -12,26 +12,8 @@ use Rattle.table_checks.proofs.PairStateLaws.{row-room, row-small}
 use Rattle.table_checks.proofs.listed.leaf_differences.Statement.{statement}
 use Rattle.table_checks.proofs.listed.leaf_differences.Tie as tie
 
-mul-size : tie.Need-mul-size
-mul-size c = search needs
-
-add-size : tie.Need-add-size
-add-size c = search needs
-
-mul-size-2 : tie.Need-mul-size-2
-mul-size-2 c = search needs
-
-shared-slice-read-size : tie.Need-shared-slice-read-size
-shared-slice-read-size c = search needs
-
-shared-slice-read-a : tie.Need-shared-slice-read-a
-shared-slice-read-a c = search needs
-
 cast-a : tie.Need-cast-a
 cast-a c = omega (arith, c .shared-slice-known2 .given (c .before .before .args .v))
-
-add-state : tie.Need-add-state
-add-state c = search needs
 
 mul-state : tie.Need-mul-state
 mul-state c =
@@ -82,16 +64,5 @@ returns c =
 pub leaf-differences-spec : {M : Type 1} → statement M
 leaf-differences-spec =
     tie.close
-    (tie.spec
-    mul-size
-    add-size
-    mul-size-2
-    shared-slice-read-size
-    shared-slice-read-a
-    cast-a
-    add-state
-    mul-state
-    shared-slice-read-state
-    shared-slice-read-state-2
-    cast-result
-    returns)
+    (tie.spec (λ c. search needs) (λ c. search needs) (λ c. search needs) (λ c. search needs) (λ c. search needs)
+    cast-a (λ c. search needs) mul-state shared-slice-read-state shared-slice-read-state-2 cast-result returns)

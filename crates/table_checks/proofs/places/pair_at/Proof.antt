@@ -146,21 +146,6 @@ returns c =
 pub pair-at-spec : {M : Type 1} → statement M
 pair-at-spec =
     tie.close
-    (tie.spec
-    (λ c κs. search needs)
-    (λ c. search needs)
-    cast-a
-    state-at-requires
-    (λ c. search needs)
-    state-at-requires-2
-    (λ c. search needs)
-    mul-x
-    shared-slice-read-x
-    mul-row
-    add-row
-    mul-row-2
-    mul-col
-    add-col
-    add-state
-    shared-slice-read-state
-    returns)
+    (tie.spec (λ c κs. search needs) (λ c. search needs) cast-a state-at-requires (λ c. search needs)
+    state-at-requires-2 (λ c. search needs) mul-x shared-slice-read-x mul-row add-row mul-row-2 mul-col add-col
+    add-state shared-slice-read-state returns)

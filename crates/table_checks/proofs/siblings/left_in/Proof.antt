@@ -11,12 +11,5 @@ cast-size c = omega (arith, c .shared-slice-known .given ((c .before .args .v - 
 pub left-in-spec : {M : Type 1} → statement M
 left-in-spec =
     tie.close
-    (tie.spec
-    (λ c. search needs)
-    (λ c. search needs)
-    (λ c. search needs)
-    (λ c. search needs)
-    (λ c. search needs)
-    cast-size
-    (λ c. search needs)
-    (λ c. search needs))
+    (tie.spec (λ c. search needs) (λ c. search needs) (λ c. search needs) (λ c. search needs) (λ c. search needs)
+    cast-size (λ c. search needs) (λ c. search needs))

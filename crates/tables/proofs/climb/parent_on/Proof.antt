@@ -76,15 +76,5 @@ returns-4 c =
 pub parent-on-spec : {M : Type 1} → statement M
 parent-on-spec =
     tie.close
-    (tie.spec
-    (λ c κs. search needs)
-    returns
-    run-on-requires
-    returns-2
-    (λ c. search needs)
-    cast-a
-    (λ c. search needs)
-    (λ c κs. search needs)
-    returns-3
-    (λ c κs. search needs)
-    returns-4)
+    (tie.spec (λ c κs. search needs) returns run-on-requires returns-2 (λ c. search needs) cast-a (λ c. search needs)
+    (λ c κs. search needs) returns-3 (λ c κs. search needs) returns-4)

@@ -75,18 +75,6 @@ returns-3 c =
 pub step-on-spec : {M : Type 1} → statement M
 step-on-spec =
     tie.close
-    (tie.spec
-    (λ c κs. search needs)
-    (λ c. search needs)
-    (λ c. search needs)
-    mul-t16
-    (λ c. search needs)
-    add-t18
-    shared-slice-read-t20
-    cast-t21
-    (λ c. search needs)
-    parent-on-requires
-    (λ c. search needs)
-    returns
-    returns-2
+    (tie.spec (λ c κs. search needs) (λ c. search needs) (λ c. search needs) mul-t16 (λ c. search needs) add-t18
+    shared-slice-read-t20 cast-t21 (λ c. search needs) parent-on-requires (λ c. search needs) returns returns-2
     returns-3)

@@ -44,12 +44,5 @@ returns-2 c =
 pub rule-on-spec : {M : Type 1} → statement M
 rule-on-spec =
     tie.close
-    (tie.spec
-    returns
-    (λ c. omega (arith, small c))
-    (λ c. omega (arith, small c))
-    (λ c. omega (arith, place c))
-    (λ c. omega (arith, place c))
-    shared-slice-read-result
-    cast-result
-    returns-2)
+    (tie.spec returns (λ c. omega (arith, small c)) (λ c. omega (arith, small c)) (λ c. omega (arith, place c))
+    (λ c. omega (arith, place c)) shared-slice-read-result cast-result returns-2)

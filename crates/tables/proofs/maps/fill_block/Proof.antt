@@ -113,18 +113,6 @@ returns c first W =
 pub fill-block-spec : {M : Type 1} → statement M
 fill-block-spec =
     tie.close
-    (tie.spec
-    Inv-loop
-    μ-loop
-    list-inner-requires
-    loop-holds
-    (λ c. search needs)
-    (λ c. search needs)
-    slice-read-fill-children
-    cast-fill-children
-    fill-children-requires
-    (λ c. search needs)
-    loop-again
-    (λ c. search needs)
-    (λ c. search needs)
-    returns)
+    (tie.spec Inv-loop μ-loop list-inner-requires loop-holds (λ c. search needs) (λ c. search needs)
+    slice-read-fill-children cast-fill-children fill-children-requires (λ c. search needs) loop-again
+    (λ c. search needs) (λ c. search needs) returns)

@@ -174,44 +174,9 @@ returns-2 c =
 pub fill-pair-spec : {M : Type 1} → statement M
 fill-pair-spec =
     tie.close
-    (tie.spec
-    (λ c. search needs)
-    (λ c. search needs)
-    (λ c. search needs)
-    (λ c. search needs)
-    (λ c. search needs)
-    cast-left
-    sub-left
-    (λ c. search needs)
-    cast-a
-    (λ c. search needs)
-    mul-x
-    slice-read-x
-    cast-x
-    (λ c. search needs)
-    mul-y
-    slice-read-y
-    cast-y
-    mul-row
-    add-row
-    mul-row-2
-    mul-col
-    add-col
-    (λ c. search needs)
-    (λ c. search needs)
-    (λ c. search needs)
-    (λ c. search needs)
-    cast-j
-    (λ c. search needs)
-    (λ c. search needs)
-    (λ c. search needs)
-    (λ c. search needs)
-    cast-if1
-    mul-near-pair
-    near-pair-requires
-    mul-far-pair
-    far-pair-requires
-    (λ c. search needs)
-    returns
-    (λ c. search needs)
-    returns-2)
+    (tie.spec (λ c. search needs) (λ c. search needs) (λ c. search needs) (λ c. search needs) (λ c. search needs)
+    cast-left sub-left (λ c. search needs) cast-a (λ c. search needs) mul-x slice-read-x cast-x (λ c. search needs)
+    mul-y slice-read-y cast-y mul-row add-row mul-row-2 mul-col add-col (λ c. search needs) (λ c. search needs)
+    (λ c. search needs) (λ c. search needs) cast-j (λ c. search needs) (λ c. search needs) (λ c. search needs)
+    (λ c. search needs) cast-if1 mul-near-pair near-pair-requires mul-far-pair far-pair-requires (λ c. search needs)
+    returns (λ c. search needs) returns-2)

@@ -67,18 +67,8 @@ returns c =
 pub leaf-states-spec : {M : Type 1} → statement M
 leaf-states-spec =
     tie.close
-    (tie.spec
-    Inv-loop
-    μ-loop
-    loop-holds
-    (λ c. omega (arith, c .before .loop-test .taken, c .before .before .before .pre .inside))
-    cast-state-table
-    shared-slice-read-state-table-2
-    (λ c. search needs)
-    (λ c. omega (arith, place-in (c .before .before)))
-    (λ c. place-in (c .before .before))
-    (λ c. search needs)
-    (λ c. search needs)
-    loop-again
-    (λ c. search needs)
+    (tie.spec Inv-loop μ-loop loop-holds
+    (λ c. omega (arith, c .before .loop-test .taken, c .before .before .before .pre .inside)) cast-state-table
+    shared-slice-read-state-table-2 (λ c. search needs) (λ c. omega (arith, place-in (c .before .before)))
+    (λ c. place-in (c .before .before)) (λ c. search needs) (λ c. search needs) loop-again (λ c. search needs)
     returns)

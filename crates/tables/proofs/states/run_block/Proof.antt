@@ -199,24 +199,7 @@ returns c first W =
 pub run-block-spec : {M : Type 1} → statement M
 run-block-spec =
     tie.close
-    (tie.spec
-    Inv-loop
-    μ-loop
-    leaf-states-requires
-    list-inner-requires
-    loop-holds
-    (λ c. search needs)
-    slice-read-v
-    cast-v
-    shared-slice-read-inner-state
-    cast-inner-state
-    inner-state-requires
-    (λ c. search needs)
-    mul-state-table
-    slice-write-state-table
-    (λ c. search needs)
-    (λ c. search needs)
-    loop-again
-    (λ c. search needs)
-    (λ c. search needs)
+    (tie.spec Inv-loop μ-loop leaf-states-requires list-inner-requires loop-holds (λ c. search needs) slice-read-v
+    cast-v shared-slice-read-inner-state cast-inner-state inner-state-requires (λ c. search needs) mul-state-table
+    slice-write-state-table (λ c. search needs) (λ c. search needs) loop-again (λ c. search needs) (λ c. search needs)
     returns)

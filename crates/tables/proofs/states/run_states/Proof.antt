@@ -86,15 +86,5 @@ returns c =
 pub run-states-spec : {M : Type 1} → statement M
 run-states-spec =
     tie.close
-    (tie.spec
-    Inv-loop
-    μ-loop
-    (λ c κs. search needs)
-    loop-holds
-    block-end-requires
-    (λ c. search needs)
-    run-block-requires
-    loop-less
-    loop-again
-    (λ c. search needs)
-    returns)
+    (tie.spec Inv-loop μ-loop (λ c κs. search needs) loop-holds block-end-requires (λ c. search needs)
+    run-block-requires loop-less loop-again (λ c. search needs) returns)

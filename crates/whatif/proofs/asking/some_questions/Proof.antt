@@ -82,19 +82,6 @@ returns c =
 pub some-questions-spec : {M : Type 1} → statement M
 some-questions-spec =
     tie.close
-    (tie.spec
-    (λ c κs. search needs)
-    (λ c. search needs)
-    (λ c. search needs)
-    take-in-requires
-    (λ c. search needs)
-    (λ c. search needs)
-    slice-part
-    slice-aggregate-send-lines-2
-    send-lines-requires
-    (λ c. search needs)
-    add-t30
-    (λ c. search needs)
-    (λ c. search needs)
-    (λ c. search needs)
-    returns)
+    (tie.spec (λ c κs. search needs) (λ c. search needs) (λ c. search needs) take-in-requires (λ c. search needs)
+    (λ c. search needs) slice-part slice-aggregate-send-lines-2 send-lines-requires (λ c. search needs) add-t30
+    (λ c. search needs) (λ c. search needs) (λ c. search needs) returns)

@@ -30,13 +30,5 @@ returns c =
 pub read-some-spec : {M : Type 1} → statement M
 read-some-spec =
     tie.close
-    (tie.spec
-    (λ c κs. search needs)
-    (λ c. search needs)
-    slice-aggregate-read
-    (λ c κs. search needs)
-    (λ c. search needs)
-    slice-aggregate-count
-    (λ c κs. search needs)
-    (λ c. search needs)
-    returns)
+    (tie.spec (λ c κs. search needs) (λ c. search needs) slice-aggregate-read (λ c κs. search needs)
+    (λ c. search needs) slice-aggregate-count (λ c κs. search needs) (λ c. search needs) returns)

@@ -28,10 +28,5 @@ returns c =
 pub read-whole-spec : {M : Type 1} → statement M
 read-whole-spec =
     tie.close
-    (tie.spec
-    (λ c κs. search needs)
-    (λ c. search needs)
-    slice-aggregate-read-full
-    (λ c κs. search needs)
-    (λ c. search needs)
-    returns)
+    (tie.spec (λ c κs. search needs) (λ c. search needs) slice-aggregate-read-full (λ c κs. search needs)
+    (λ c. search needs) returns)

@@ -103,15 +103,5 @@ returns c =
 pub put-counts-spec : {M : Type 1} → statement M
 put-counts-spec =
     tie.close
-    (tie.spec
-    (λ c κs. search needs)
-    (λ c. search needs)
-    put-word-requires
-    put-number-requires-2
-    (λ c. search needs)
-    put-word-requires-2
-    put-number-requires-3
-    (λ c. search needs)
-    put-word-requires-3
-    (λ c. search needs)
-    returns)
+    (tie.spec (λ c κs. search needs) (λ c. search needs) put-word-requires put-number-requires-2 (λ c. search needs)
+    put-word-requires-2 put-number-requires-3 (λ c. search needs) put-word-requires-3 (λ c. search needs) returns)

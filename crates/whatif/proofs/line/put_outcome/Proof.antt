@@ -41,9 +41,4 @@ returns c =
 pub put-outcome-spec : {M : Type 1} → statement M
 put-outcome-spec =
     tie.close
-    (tie.spec
-    (λ c κs. search needs)
-    put-yes-or-no-requires
-    put-counts-requires
-    (λ c. search needs)
-    returns)
+    (tie.spec (λ c κs. search needs) put-yes-or-no-requires put-counts-requires (λ c. search needs) returns)

@@ -29,11 +29,5 @@ returns c =
 pub put-refused-spec : {M : Type 1} → statement M
 put-refused-spec =
     tie.close
-    (tie.spec
-    (λ c. search needs)
-    (λ c κs. search needs)
-    put-number-requires
-    (λ c. search needs)
-    put-word-requires-2
-    (λ c. search needs)
-    returns)
+    (tie.spec (λ c. search needs) (λ c κs. search needs) put-number-requires (λ c. search needs) put-word-requires-2
+    (λ c. search needs) returns)

@@ -2,12 +2,12 @@
 use native.Mathlib.Omega.{arith}
 use borrow.Author.Needs.{needs}
 use Prim.Native.Nat.{_+_, _*_, _-_}
-use Rattle.choices.proofs.node_counts.JoinLoop.{RowJoining, row-start, row-args, row-poured, row-done}
+use Rattle.choices.proofs.node_counts.JoinLoop.{RowJoining, row-start, row-args, row-accumulated, row-done}
 use Rattle.choices.proofs.node_counts.join.join_row.Statement.{statement}
 use Rattle.choices.proofs.node_counts.join.join_row.Tie as tie
 use Rattle.choices.proofs.node_counts.join.join_row.Reads as reads
 use Rattle.choices.proofs.node_counts.join.join_row.Lts as lts
-use Rattle.choices.proofs.node_counts.join.pour.Reads as pour-reads
+use Rattle.choices.proofs.node_counts.join.accumulate.Reads as accumulate-reads
 use Rattle.choices.proofs.node_counts.sums.capped_times.Reads as capped-times-reads
 
 abbrev Inv-loop : tie.InvT-loop
@@ -27,8 +27,8 @@ element-copy-out-capped-times : tie.Need-element-copy-out-capped-times Inv-loop 
 element-copy-out-capped-times c =
     omega (arith, c .loop-test .taken, c .before .loop .inv .args .table .states-most)
 
-pour-requires : tie.Need-pour-requires Inv-loop μ-loop
-pour-requires c κs =
+accumulate-requires : tie.Need-pour-requires Inv-loop μ-loop
+accumulate-requires c κs =
     row-args _ _ _ _ _ _ _ _ _ _ _ (c .before .before .before .before .loop .inv)
     (c .before .before .before .loop-test .taken) (c .before .capped-times .result)
     (c .before .capped-times .ensures)
@@ -46,9 +46,9 @@ loop-less c = omega (arith, c .before .before .before .before .loop-test .taken)
 
 loop-again : tie.Need-loop-again Inv-loop μ-loop
 loop-again c =
-    row-poured _ _ _ _ _ _ _ _ _ _ _ (c .before .before .before .before .before .loop .inv)
+    row-accumulated _ _ _ _ _ _ _ _ _ _ _ (c .before .before .before .before .before .loop .inv)
     (c .before .before .before .before .loop-test .taken) (c .before .before .capped-times .result)
-    (c .before .before .capped-times .ensures) _ (c .pour .ensures)
+    (c .before .before .capped-times .ensures) _ (c .accumulate .ensures)
 
 returns : tie.Need-returns Inv-loop μ-loop
 returns c = row-done _ _ _ _ _ _ _ _ _ _ _ (c .before .loop .inv) (c .loop-test .left)
@@ -57,4 +57,4 @@ pub join-row-spec : {M : Type 1} → statement M
 join-row-spec =
     tie.close
     (tie.spec Inv-loop μ-loop loop-holds mul-capped-times element-copy-out-capped-times (λ c κs. search needs)
-    pour-requires add-q loop-less loop-again returns)
+    accumulate-requires add-q loop-less loop-again returns)

@@ -9,11 +9,11 @@ use Rattle.choices.proofs.part_steps.root.root_counts.Tie as tie
 use Rattle.choices.proofs.part_steps.root.root_counts.Reads as reads
 use Rattle.choices.proofs.part_steps.root.root_counts.Lts as lts
 use Rattle.choices.proofs.part_steps.fork.fork_counts.Reads as fork-counts-reads
-use Rattle.choices.proofs.node_counts.join.pour.Reads as pour-reads
+use Rattle.choices.proofs.node_counts.join.accumulate.Reads as accumulate-reads
 use Rattle.tables.proofs.node_tables.moves.depth_at.Reads as depth-at-reads
 
-pour-requires : tie.Need-pour-requires
-pour-requires c κs =
+accumulate-requires : tie.Need-pour-requires
+accumulate-requires c κs =
     leaf-args _ _ _ _ _ _ _ _ _ _ _ _ _ _ _ _ _ _
     (c .before .before .before .before .before .before .before .before .before .before .before .pre)
 
@@ -21,7 +21,7 @@ returns : tie.Need-returns
 returns c =
     leaf-done _ _ _ _ _ _ _ _ _ _ _ _ _ _ _ _ _ _
     (c .before .before .before .before .before .before .before .before .before .before .before .before .pre)
-    (c .before .before .if1 .taken) _ (c .pour .ensures)
+    (c .before .before .if1 .taken) _ (c .accumulate .ensures)
 
 add-to : tie.Need-add-to
 add-to c =
@@ -54,5 +54,5 @@ returns-2 c =
 pub root-counts-spec : {M : Type 1} → statement M
 root-counts-spec =
     tie.close
-    (tie.spec (λ c. search needs) pour-requires returns (λ c κs. search needs) add-to sub-fork-counts
+    (tie.spec (λ c. search needs) accumulate-requires returns (λ c κs. search needs) add-to sub-fork-counts
     fork-counts-requires returns-2)

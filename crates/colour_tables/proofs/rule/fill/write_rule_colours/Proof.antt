@@ -40,7 +40,7 @@ returns c =
 pub write-rule-colours-spec : {M : Type 1} → statement M
 write-rule-colours-spec =
     tie.close
-    (tie.spec write-tables-requires (λ c. search needs) (λ c κs. search needs) (λ c. search needs)
+    (tie.spec write-tables-requires (λ c. search needs) (λ c κs. search needs) (λ c. search needs) (λ c. search needs)
     (λ c. search needs) (λ c. search needs) (λ c. search needs) (λ c. search needs) (λ c. search needs)
-    (λ c. search needs) (λ c. search needs) (λ c. search needs) fill-set-colours-requires (λ c. search needs)
-    (λ c. search needs) returns)
+    (λ c. search needs) (λ c. search needs) fill-set-colours-requires (λ c. search needs) (λ c. search needs)
+    returns)

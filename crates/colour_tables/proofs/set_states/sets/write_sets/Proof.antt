@@ -14,7 +14,7 @@ use Rattle.colour_tables.proofs.set_states.sets.write_sets.Reads as rea
 use Rattle.colour_tables.proofs.set_states.sets.write_sets.Lts as lts
 use Rattle.colour_tables.proofs.states.copies.put_copy.Reads as put-copy-reads
 use Rattle.colour_tables.proofs.states.copies.row_above.Reads as row-above-reads
-use Rattle.colour_tables.proofs.set_states.down.led_down.Reads as led-down-reads
+use Rattle.colour_tables.proofs.set_states.down.successors_down.Reads as successors-down-reads
 
 abbrev Inv-loop : tie.InvT-loop
 Inv-loop labels inner s k count base numbers₀ bytes₀ n v₀ numbers bytes v =
@@ -53,13 +53,13 @@ down r =
     (omega (arith, i .loop-test .taken)) (omega (arith, i .loop-test .taken, f .0)) (f .2) (f .3) (f .4)
     (r .row-above .result) (r .row-above .ensures)
 
-place : (r : tie.After-row-above Inv-loop μ-loop) (led : List ℕ)
+place : (r : tie.After-row-above Inv-loop μ-loop) (successors : List ℕ)
     → let a = r .before .before .before .before in
     let s = a .before .before .before .before .before in
     RowOf (s .args .count)
     (λ c. downSet (s .args .labels .now) (a .loop .numbers) (s .args .inner .now) (a .loop .bytes)
-    (length (s .args .labels .now)) (s .args .s) (s .args .k) (a .loop .v - 1) (getD (r .row-above .result) c 0)) led
-    → TurnArgs led (a .loop .bytes) (a .loop .numbers) (length (s .args .labels .now)) (s .args .base) (s .args .count)
+    (length (s .args .labels .now)) (s .args .s) (s .args .k) (a .loop .v - 1) (getD (r .row-above .result) c 0)) successors
+    → TurnArgs successors (a .loop .bytes) (a .loop .numbers) (length (s .args .labels .now)) (s .args .base) (s .args .count)
     (a .loop .v - 1)
 place r =
     let i = r .before .before .before in
@@ -86,13 +86,13 @@ loop-holds c =
 row-above-requires : tie.Need-row-above-requires Inv-loop μ-loop
 row-above-requires c κs = above (c .before .before)
 
-led-down-requires : tie.Need-led-down-requires Inv-loop μ-loop
-led-down-requires c κs = down (c .before .before)
+successors-down-requires : tie.Need-successors-down-requires Inv-loop μ-loop
+successors-down-requires c κs = down (c .before .before)
 
 put-copy-requires : tie.Need-put-copy-requires Inv-loop μ-loop
 put-copy-requires c κs =
     let d = c .before .before in
-    place (d .before .before .before) (d .led-down .result) (d .led-down .ensures)
+    place (d .before .before .before) (d .successors-down .result) (d .successors-down .ensures)
 
 loop-again : tie.Need-loop-again Inv-loop μ-loop
 loop-again c =
@@ -111,7 +111,7 @@ loop-again c =
           (s .args .bytes .now) (s .args .numbers .now) (s .pre) _ (a .loop .v) (a .loop .v - 1) (a .loop .bytes)
           (a .loop .numbers) (f .1)
           (omega (arith, i .loop-test .taken)) (omega (arith, i .loop-test .taken, f .0)) (f .2) (f .3) (f .4)
-          (r .row-above .result) (r .row-above .ensures) (d .led-down .result) (d .led-down .ensures) _ _
+          (r .row-above .result) (r .row-above .ensures) (d .successors-down .result) (d .successors-down .ensures) _ _
           (p .put-copy .ensures),
     )
 
@@ -127,5 +127,5 @@ returns c =
 pub write-sets-spec : {M : Type 1} → statement M
 write-sets-spec =
     tie.close
-    (tie.spec Inv-loop μ-loop loop-holds (λ c. search needs) row-above-requires led-down-requires put-copy-requires
-    (λ c. search needs) loop-again (λ c. search needs) (λ c. search needs) returns)
+    (tie.spec Inv-loop μ-loop loop-holds (λ c. search needs) row-above-requires successors-down-requires
+    put-copy-requires (λ c. search needs) loop-again (λ c. search needs) (λ c. search needs) returns)

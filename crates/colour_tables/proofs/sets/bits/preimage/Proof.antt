@@ -15,11 +15,11 @@ use Rattle.colour_tables.proofs.sets.bits.bit_of.Reads as bit-of-reads
 use Rattle.colour_tables.proofs.sets.bits.with_bit.Reads as with-bit-reads
 
 abbrev Inv-loop : tie.InvT-loop
-Inv-loop ups t r₀ i₀ r i =
-    (i ≤ length ups) × (r ≡ setOf i (λ x. member t (getD ups x 0))) × (r < 2 ^ i)
+Inv-loop above t r₀ i₀ r i =
+    (i ≤ length above) × (r ≡ setOf i (λ x. member t (getD above x 0))) × (r < 2 ^ i)
 
 abbrev μ-loop : tie.MeasureT-loop
-μ-loop ups t r₀ i₀ r i = length ups - i
+μ-loop above t r₀ i₀ r i = length above - i
 
 loop-holds : tie.Need-loop-holds Inv-loop μ-loop
 loop-holds c =
@@ -53,8 +53,8 @@ returns : tie.Need-returns Inv-loop μ-loop
 returns c =
     let a = c .before in
     let g = a .before .before .args in
-    let e : a .loop .i ≡ length (g .ups .now) = omega (arith, a .loop .inv .0, c .loop-test .left) in
-    a .loop .inv .1 ∙ ap (λ (i : ℕ). setOf i (λ x. member (g .t) (getD (g .ups .now) x 0))) e
+    let e : a .loop .i ≡ length (g .above .now) = omega (arith, a .loop .inv .0, c .loop-test .left) in
+    a .loop .inv .1 ∙ ap (λ (i : ℕ). setOf i (λ x. member (g .t) (getD (g .above .now) x 0))) e
 
 pub preimage-spec : {M : Type 1} → statement M
 preimage-spec =

@@ -14,7 +14,7 @@ use Rattle.colour_tables.proofs.rows.turns.take_in_turn.Reads as take-i
 use Rattle.colour_tables.proofs.states.copies.put_lands.Reads as put-lands-reads
 use Rattle.colour_tables.proofs.states.copies.put_row.Reads as put-row-reads
 
-prefix : (c : tie.After-led) → let g = c .before .before .before .args in length (take (g .k) (g .t1)) ≡ g .k
+prefix : (c : tie.After-successors) → let g = c .before .before .before .args in length (take (g .k) (g .t1)) ≡ g .k
 prefix c =
     let s = c .before .before .before in
     length-take-le (s .args .k) (s .args .t1) (omega (arith, s .pre .long, s .pre .few))

@@ -5,7 +5,7 @@ use lib.ListN.{length, getD}
 use mathlib.Core.List.{List}
 use Rattle.colour_tables.specs.states.inner.Rows.{RowOf, AboveArgs, TurnArgs}
 use Rattle.colour_tables.specs.states.inner.WordPass.{LedArgs}
-use Rattle.colour_tables.proofs.states.WordLoop.{Words, words-start, words-above, words-led, words-place, words-next}
+use Rattle.colour_tables.proofs.states.WordLoop.{Words, words-start, words-above, words-successors, words-place, words-next}
 use native.Mathlib.Omega.{arith}
 use borrow.Author.Needs.{needs}
 use Rattle.colour_tables.proofs.states.words.write_words.Statement.{statement}
@@ -14,7 +14,7 @@ use Rattle.colour_tables.proofs.states.words.write_words.Reads as reads
 use Rattle.colour_tables.proofs.states.words.write_words.Lts as lts
 use Rattle.colour_tables.proofs.states.copies.put_copy.Reads as put-copy-reads
 use Rattle.colour_tables.proofs.states.copies.row_above.Reads as row-above-reads
-use Rattle.colour_tables.proofs.states.words.led_by_word.Reads as led-by-word-reads
+use Rattle.colour_tables.proofs.states.words.successors_by_word.Reads as successors-by-word-reads
 
 abbrev Inv-loop : tie.InvT-loop
 Inv-loop labels steps s k numbers₀ bytes₀ n v₀ numbers bytes v =
@@ -35,24 +35,24 @@ above i =
     (s .args .numbers .now) (s .pre) _ (a .loop .v) (a .loop .v - 1) (a .loop .bytes) (a .loop .numbers) (f .1)
     (omega (arith, i .loop-test .taken)) (omega (arith, i .loop-test .taken, f .0)) (f .2) (f .3) (f .4)
 
-led : (r : tie.After-row-above Inv-loop μ-loop) (a : ℕ)
+successors : (r : tie.After-row-above Inv-loop μ-loop) (a : ℕ)
     → let s = r .before .before .before .before .before .before .before .before .before in
     a < s .args .k → LedArgs (r .row-above .result) (s .args .steps .now) (s .args .s) (s .args .k) a
-led r =
+successors r =
     let i = r .before .before .before in
     let a = i .before in
     let s = a .before .before .before .before .before in
     let f = a .loop .inv in
-    words-led (s .args .labels .now) (s .args .steps .now) (s .args .s) (s .args .k) (s .args .bytes .now)
+    words-successors (s .args .labels .now) (s .args .steps .now) (s .args .s) (s .args .k) (s .args .bytes .now)
     (s .args .numbers .now) (s .pre) _ (a .loop .v) (a .loop .v - 1) (a .loop .bytes) (a .loop .numbers) (f .1)
     (omega (arith, i .loop-test .taken)) (omega (arith, i .loop-test .taken, f .0)) (f .2) (f .3) (f .4)
     (r .row-above .result) (r .row-above .ensures)
 
-place : (r : tie.After-row-above Inv-loop μ-loop) (led : List ℕ) (x : ℕ)
+place : (r : tie.After-row-above Inv-loop μ-loop) (successors : List ℕ) (x : ℕ)
     → let a = r .before .before .before .before in
     let s = a .before .before .before .before .before in
-    RowOf (s .args .s) (λ c. getD (s .args .steps .now) (getD (r .row-above .result) c 0 * s .args .k + x) 0) led
-    → TurnArgs led (a .loop .bytes) (a .loop .numbers) (length (s .args .labels .now)) 0 (s .args .s) (a .loop .v - 1)
+    RowOf (s .args .s) (λ c. getD (s .args .steps .now) (getD (r .row-above .result) c 0 * s .args .k + x) 0) successors
+    → TurnArgs successors (a .loop .bytes) (a .loop .numbers) (length (s .args .labels .now)) 0 (s .args .s) (a .loop .v - 1)
 place r =
     let i = r .before .before .before in
     let a = i .before in
@@ -87,16 +87,16 @@ cast-a c =
     let s = c .before .before .before .before .before .before .before .before .before .before in
     omega (arith, s .pre .below (c .before .before .before .before .before .loop .v - 1), s .pre .label-most)
 
-led-by-word-requires : tie.Need-led-by-word-requires Inv-loop μ-loop
-led-by-word-requires c κs =
+successors-by-word-requires : tie.Need-successors-by-word-requires Inv-loop μ-loop
+successors-by-word-requires c κs =
     let r = c .before in
     let s = r .before .before .before .before .before .before .before .before .before in
-    led r (getD (s .args .labels .now) _ 0) (s .pre .below _)
+    successors r (getD (s .args .labels .now) _ 0) (s .pre .below _)
 
 put-copy-requires : tie.Need-put-copy-requires Inv-loop μ-loop
 put-copy-requires c κs =
     let d = c .before .before in
-    place (d .before .before) (d .led-by-word .result) _ (d .led-by-word .ensures)
+    place (d .before .before) (d .successors-by-word .result) _ (d .successors-by-word .ensures)
 
 loop-again : tie.Need-loop-again Inv-loop μ-loop
 loop-again c =
@@ -114,7 +114,7 @@ loop-again c =
       words-next (s .args .labels .now) (s .args .steps .now) (s .args .s) (s .args .k) (s .args .bytes .now)
           (s .args .numbers .now) (s .pre) _ (a .loop .v) (a .loop .v - 1) (a .loop .bytes) (a .loop .numbers) (f .1)
           (omega (arith, i .loop-test .taken)) (omega (arith, i .loop-test .taken, f .0)) (f .2) (f .3) (f .4)
-          (r .row-above .result) (r .row-above .ensures) (d .led-by-word .result) _ (d .led-by-word .ensures) _ _ refl
+          (r .row-above .result) (r .row-above .ensures) (d .successors-by-word .result) _ (d .successors-by-word .ensures) _ _ refl
           (p .put-copy .ensures),
     )
 
@@ -130,5 +130,5 @@ pub write-words-spec : {M : Type 1} → statement M
 write-words-spec =
     tie.close
     (tie.spec Inv-loop μ-loop loop-holds (λ c. search needs) row-above-requires shared-slice-read-a cast-a
-    led-by-word-requires put-copy-requires (λ c. search needs) loop-again (λ c. search needs) (λ c. search needs)
-    returns)
+    successors-by-word-requires put-copy-requires (λ c. search needs) loop-again (λ c. search needs)
+    (λ c. search needs) returns)

@@ -112,5 +112,5 @@ returns-3 c =
 pub searched-spec : {M : Type 1} → statement M
 searched-spec =
     tie.close
-    (tie.spec Inv-loop μ-loop first-differing-requires returns loop-holds over-lines-requires first-differing-requires-2
-    returns-2 add-n loop-less loop-again returns-3)
+    (tie.spec Inv-loop μ-loop first-differing-requires returns loop-holds over-lines-requires
+    first-differing-requires-2 returns-2 add-n loop-less loop-again returns-3)

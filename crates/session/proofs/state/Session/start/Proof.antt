@@ -155,24 +155,7 @@ returns-5 c =
 pub start-spec : {M : Type 1} → statement M
 start-spec =
     tie.close
-    (tie.spec
-    (λ c κs. search needs)
-    (λ c κs. search needs)
-    (λ c κs. search needs)
-    returns
-    (λ c. search needs)
-    (λ c. search needs)
-    (λ c. search needs)
-    rule-buffers-fit-requires
-    (λ c κs. search needs)
-    returns-2
-    (λ c κs. search needs)
-    (λ c κs. search needs)
-    returns-3
-    tables-sound-requires
-    (λ c κs. search needs)
-    returns-4
-    roots-left-requires
-    cast-parts
-    started-requires
-    returns-5)
+    (tie.spec (λ c κs. search needs) (λ c κs. search needs) (λ c κs. search needs) returns (λ c. search needs)
+    (λ c. search needs) (λ c. search needs) rule-buffers-fit-requires (λ c κs. search needs) returns-2
+    (λ c κs. search needs) (λ c κs. search needs) returns-3 tables-sound-requires (λ c κs. search needs) returns-4
+    roots-left-requires cast-parts started-requires returns-5)

@@ -58,18 +58,5 @@ returns c =
 pub list-inner-spec : {M : Type 1} → statement M
 list-inner-spec =
     tie.close
-    (tie.spec
-    Inv-loop
-    μ-loop
-    loop-holds
-    cast-list
-    (λ c. search needs)
-    slice-write-list
-    (λ c. search needs)
-    cast-c
-    add-c
-    (λ c. search needs)
-    (λ c. search needs)
-    loop-again
-    (λ c. search needs)
-    returns)
+    (tie.spec Inv-loop μ-loop loop-holds cast-list (λ c. search needs) slice-write-list (λ c. search needs) cast-c
+    add-c (λ c. search needs) (λ c. search needs) loop-again (λ c. search needs) returns)

@@ -19,12 +19,5 @@ returns-2 c = rw (ne-eqb _ _ (c .before .if1 .left)) (c .inner-matches .ensures)
 pub up-matches-spec : {M : Type 1} → statement M
 up-matches-spec =
     tie.close
-    (tie.spec
-    (λ c. search needs)
-    (λ c. search needs)
-    (λ c. search needs)
-    (λ c. search needs)
-    (λ c. search needs)
-    returns
-    inner-matches-requires
-    returns-2)
+    (tie.spec (λ c. search needs) (λ c. search needs) (λ c. search needs) (λ c. search needs) (λ c. search needs)
+    returns inner-matches-requires returns-2)

@@ -61,20 +61,6 @@ returns c =
 pub write-up-spec : {M : Type 1} → statement M
 write-up-spec =
     tie.close
-    (tie.spec
-    Inv-loop
-    μ-loop
-    loop-holds
-    (λ c. search needs)
-    cast-write-up-node
-    write-up-node-requires
-    (λ c. search needs)
-    (λ c. search needs)
-    loop-again
-    sub-root
-    (λ c. search needs)
-    (λ c. search needs)
-    (λ c. search needs)
-    slice-write-node-table
-    (λ c. search needs)
-    returns)
+    (tie.spec Inv-loop μ-loop loop-holds (λ c. search needs) cast-write-up-node write-up-node-requires
+    (λ c. search needs) (λ c. search needs) loop-again sub-root (λ c. search needs) (λ c. search needs)
+    (λ c. search needs) slice-write-node-table (λ c. search needs) returns)

@@ -1,5 +1,5 @@
 -- A run of eight records as bytes, and a call on it as one on the records that it holds.
---     HeldAll b rs          the bytes of each of the eight hold its record, one after the other
+--     EncodesAll b rs          the bytes of each of the eight hold its record, one after the other
 --     held-valid, held-length, held-runs    of the bytes of one record
 --     told-is               the answer of a call on the run is the model's
 --     left-held             the run that a call leaves holds the model's records
@@ -36,16 +36,16 @@ use Rattle.records.proofs.Theorems.{encoded-valid}
 use Rattle.records.proofs.ValidTypes.{valid-types}
 use Rattle.capi_session.specs.SessionExported.{CallExported, answerFor, recordFor}
 use Rattle.capi_session.proofs.SessionExportedLaws.{laid-length}
-use Rattle.capi_session.proofs.ExportedRefines.{Held, held-answer, held-after}
+use Rattle.capi_session.proofs.ExportedRefines.{Encodes, held-answer, held-after}
 use Rattle.capi_screens.specs.RunLayout.{runLength, recordAt, withRecord, runs, busy}
 use Rattle.capi_screens.specs.ScreensExported.{targetIn, answerOf, bytesOf, answerAllFor, bytesFor, OwnExported}
 use Rattle.capi_screens.specs.ScreensExported.{ScreensCallExported}
 use Rattle.capi_screens.proofs.PartLaws.{all-kept, row-length}
 
-pub record HeldAll (b : List ℕ) (rs : List Record) : Type 0 where
+pub record EncodesAll (b : List ℕ) (rs : List Record) : Type 0 where
   pub long : length b ≡ runLength
   pub records : length rs ≡ 8
-  pub each : (i : ℕ) → i < 8 → Held (recordAt b i) (at rs i)
+  pub each : (i : ℕ) → i < 8 → Encodes (recordAt b i) (at rs i)
 
 -- ---- one record
 
@@ -56,7 +56,7 @@ byte-runs Loaded = refl
 byte-runs Running = refl
 byte-runs Answered = refl
 
-module _ (b : List ℕ) (r : Record) (h : Held b r) where
+module _ (b : List ℕ) (r : Record) (h : Encodes b r) where
   pub held-valid : validBytes b ≡ true
   held-valid =
       let s = h .struct in
@@ -81,7 +81,7 @@ module _ (b : List ℕ) (r : Record) (h : Held b r) where
 
 -- ---- eight of them
 
-module _ (b : List ℕ) (rs : List Record) (Z : HeldAll b rs) where
+module _ (b : List ℕ) (rs : List Record) (Z : EncodesAll b rs) where
   runs-same : SameRunning (runs b) (eight.runs rs)
   runs-same i h = held-runs (recordAt b i) (at rs i) (Z .each i h)
 
@@ -120,24 +120,24 @@ module _ (b : List ℕ) (rs : List Record) (Z : HeldAll b rs) where
   abbrev OthersKept : List ℕ → ℕ → Type 0
   OthersKept b′ i = (j : ℕ) → j < 8 → (i ≡ j → ⊥) → recordAt b′ j ≡ recordAt b j
 
-  set-held : (b′ : List ℕ) (i : ℕ) (r′ : Record) → length b′ ≡ runLength → Held (recordAt b′ i) r′ → OthersKept b′ i
-      → HeldAll b′ (set rs i r′)
+  set-held : (b′ : List ℕ) (i : ℕ) (r′ : Record) → length b′ ≡ runLength → Encodes (recordAt b′ i) r′ → OthersKept b′ i
+      → EncodesAll b′ (set rs i r′)
   set-held b′ i r′ l h kept = record {
     long = l;
     records = length-set rs i r′ ∙ Z .records;
     each = λ j m. elim (ℕ-discrete j i) [
-      | yes q ↦ subst (λ (k : ℕ). Held (recordAt b′ k) (at (set rs i r′) k)) (sym q)
-          (subst (λ (r : Record). Held (recordAt b′ i) r)
+      | yes q ↦ subst (λ (k : ℕ). Encodes (recordAt b′ k) (at (set rs i r′) k)) (sym q)
+          (subst (λ (r : Record). Encodes (recordAt b′ i) r)
           (sym (getD-set-same rs i r′ freshRecord (omega (arith, Z .records)))) h)
-      | no q ↦ subst (λ (p : List ℕ). Held p (at (set rs i r′) j)) (sym (kept j m (λ e. q (sym e))))
-          (subst (λ (r : Record). Held (recordAt b j) r) (sym (getD-set-other rs i j r′ freshRecord q)) (Z .each j m))
+      | no q ↦ subst (λ (p : List ℕ). Encodes p (at (set rs i r′) j)) (sym (kept j m (λ e. q (sym e))))
+          (subst (λ (r : Record). Encodes (recordAt b j) r) (sym (getD-set-other rs i j r′ freshRecord q)) (Z .each j m))
     ];
   }
 
   -- one screen's call
   one-held : (b′ : List ℕ) (i n : ℕ) (c : Call) → i < 8 → b′ ≡ withRecord b i (recordFor (recordAt b i) c)
       → CallExported (recordAt b i) c n (recordAt b′ i) → OthersKept b′ i
-      → HeldAll b′ (set rs i (act (at rs i) c .record′))
+      → EncodesAll b′ (set rs i (act (at rs i) c .record′))
   one-held b′ i n c h left own kept =
       let p = recordFor (recordAt b i) c in
       let H = held-after (recordAt b i) (recordAt b′ i) (at rs i) (Z .each i h) c n own in
@@ -150,20 +150,20 @@ module _ (b : List ℕ) (rs : List Record) (Z : HeldAll b rs) where
   loaded-held : (b′ : List ℕ) (x : Inputs) (n : ℕ) → Rightly (eight.runs rs) (everyScreen x)
       → b′ ≡ rows 8 (λ i. encoded (sessionOf (loadedRecord (sizesIn x))))
       → ((i : ℕ) → i < 8 → CallExported (recordAt b i) (load x) n (recordAt b′ i))
-      → HeldAll b′ (replicate 8 (loadedRecord (sizesIn x)))
+      → EncodesAll b′ (replicate 8 (loadedRecord (sizesIn x)))
   loaded-held b′ x n h left own = record {
     long = ap length left ∙ row-length recordLength 8 (λ i. encoded (sessionOf L)) (λ i l. wide);
     records = refl;
-    each = λ i l. subst (λ (r : Record). Held (recordAt b′ i) r) (sym (getD-replicate 8 i L freshRecord l))
+    each = λ i l. subst (λ (r : Record). Encodes (recordAt b′ i) r) (sym (getD-replicate 8 i L freshRecord l))
         (one-loaded i l);
   }
     where
       L : Record
       L = loadedRecord (sizesIn x)
 
-      one-loaded : (i : ℕ) → i < 8 → Held (recordAt b′ i) L
+      one-loaded : (i : ℕ) → i < 8 → Encodes (recordAt b′ i) L
       one-loaded i l =
-          subst (λ (r : Record). Held (recordAt b′ i) r) (sym (load-accepted (at rs i) x (h .0 i l) (h .1) .leaves))
+          subst (λ (r : Record). Encodes (recordAt b′ i) r) (sym (load-accepted (at rs i) x (h .0 i l) (h .1) .leaves))
           (held-after (recordAt b i) (recordAt b′ i) (at rs i) (Z .each i l) (load x) n (own i l))
 
       wide : length (encoded (sessionOf L)) ≡ recordLength
@@ -172,36 +172,36 @@ module _ (b : List ℕ) (rs : List Record) (Z : HeldAll b rs) where
           ap length (sym (held-bytes (recordAt b′ 0) L H)) ∙ held-length (recordAt b′ 0) L H
 
   left-of : (t : Target) → Rightly (eight.runs rs) t → (b′ : List ℕ) (n : ℕ) → b′ ≡ bytesOf b t → OwnExported b b′ t n
-      → ((j : ℕ) → j < 8 → Another t j → recordAt b′ j ≡ recordAt b j) → HeldAll b′ (actOn rs t .records′)
+      → ((j : ℕ) → j < 8 → Another t j → recordAt b′ j ≡ recordAt b j) → EncodesAll b′ (actOn rs t .records′)
   unfolding bytesOf actOn
-  left-of (nobody m) h b′ n left own kept = subst (λ (p : List ℕ). HeldAll p rs) (sym left) Z
+  left-of (nobody m) h b′ n left own kept = subst (λ (p : List ℕ). EncodesAll p rs) (sym left) Z
   left-of (everyScreen x) h b′ n left own kept = loaded-held b′ x n h left own
   left-of (screen i c) h b′ n left own kept = one-held b′ i n c h left own kept
   left-of (turn i x) h b′ n left own kept = one-held b′ i n (advance x) (h .0) left own kept
 
   pub left-held : (c : ScreenCall) (b′ : List ℕ) (n : ℕ) → ScreensCallExported b c n b′
-      → HeldAll b′ (actAll rs c .records′)
+      → EncodesAll b′ (actAll rs c .records′)
   unfolding bytesFor
   left-held c b′ n e =
       let t = target (eight.runs rs) c in
       let w : bytesFor b c ≡ bytesOf b t =
       ap (λ (q : Bool). cond q (bytesOf b (targetIn b c)) b) (eq-eqb (length b) runLength (Z .long))
       ∙ ap (bytesOf b) (target-is c) in
-      subst (λ (l : List Record). HeldAll b′ l) (sym (ap (λ (k : ActedAll). k .records′) (on-target rs c (Z .records))))
+      subst (λ (l : List Record). EncodesAll b′ l) (sym (ap (λ (k : ActedAll). k .records′) (on-target rs c (Z .records))))
       (left-of t (rightly (eight.runs rs) c) b′ n (e .left ∙ w)
       (subst (λ (u : Target). OwnExported b b′ u n) (target-is c) (e .own (Z .long)))
       (subst (λ (u : Target). (j : ℕ) → j < 8 → Another u j → recordAt b′ j ≡ recordAt b j) (target-is c)
       (e .others (Z .long))))
 
-  pub read-held : (i : ℕ) → HeldAll b (actAll rs (readOn i) .records′)
+  pub read-held : (i : ℕ) → EncodesAll b (actAll rs (readOn i) .records′)
   unfolding target numbered actOn
   read-held i =
-      subst (λ (l : List Record). HeldAll b l)
+      subst (λ (l : List Record). EncodesAll b l)
       (sym (ap (λ (k : ActedAll). k .records′) (on-target rs (readOn i) (Z .records)))) (go (ltb i 8) refl)
     where
-      go : (t : Bool) → ltb i 8 ≡ t → HeldAll b (actOn rs (cond t (screen i read) (nobody 25)) .records′)
+      go : (t : Bool) → ltb i 8 ≡ t → EncodesAll b (actOn rs (cond t (screen i read) (nobody 25)) .records′)
       go true e =
           set-held b i (act (at rs i) read .record′) (Z .long)
-          (subst (λ (r : Record). Held (recordAt b i) r) (sym (read-keeps (at rs i))) (Z .each i (ltb-true i 8 e)))
+          (subst (λ (r : Record). Encodes (recordAt b i) r) (sym (read-keeps (at rs i))) (Z .each i (ltb-true i 8 e)))
           (λ j h z. refl)
       go false e = Z

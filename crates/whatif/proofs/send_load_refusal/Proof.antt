@@ -4,10 +4,10 @@ use Prim.Native.Nat.{_≤_}
 use mathlib.Core.Path.{ap, sym, _∙_}
 use lib.ListN.{length}
 use lib.Seq.{length-take-le}
-use Rattle.whatif.proofs.say_refused.Statement.{statement}
-use Rattle.whatif.proofs.say_refused.Tie as tie
-use Rattle.whatif.proofs.say_refused.Reads as reads
-use Rattle.whatif.proofs.say_refused.Lts as lts
+use Rattle.whatif.proofs.send_load_refusal.Statement.{statement}
+use Rattle.whatif.proofs.send_load_refusal.Tie as tie
+use Rattle.whatif.proofs.send_load_refusal.Reads as reads
+use Rattle.whatif.proofs.send_load_refusal.Lts as lts
 use Rattle.io.proofs.buffer.Reads as buffer-reads
 use Rattle.whatif.proofs.line.put_refused.Reads as put-refused-reads
 use Rattle.whatif.proofs.send.send_refusal.Reads as send-refusal-reads
@@ -31,14 +31,8 @@ returns c =
     let p = c .before .before .before in
     c .send-refusal .ensures ∙ ap length (p .put-refused .ensures .0 .text)
 
-pub say-refused-spec : {M : Type 1} → statement M
-say-refused-spec =
+pub send-load-refusal-spec : {M : Type 1} → statement M
+send-load-refusal-spec =
     tie.close
-    (tie.spec
-    (λ c κs. search needs)
-    (λ c. search needs)
-    (λ c κs. search needs)
-    (λ c. search needs)
-    slice-aggregate-send-refusal
-    send-refusal-requires
-    returns)
+    (tie.spec (λ c κs. search needs) (λ c. search needs) (λ c κs. search needs) (λ c. search needs)
+    slice-aggregate-send-refusal send-refusal-requires returns)

@@ -20,12 +20,12 @@ use Rattle.reference.proofs.AnewTheorem.{as-anew, anew-of}
 use Rattle.session.specs.declared.state.Session.{Session}
 use Rattle.session.specs.Records.{recordOf, sessionOf, freshSession}
 use Rattle.session.specs.CallsByValue.{CallByValue}
-use Rattle.session.proofs.Refine.{Seen, fresh-seen, by-value-refines}
+use Rattle.session.proofs.Refine.{Represents, fresh-seen, by-value-refines}
 use Rattle.session.specs.in_place.CallsInPlace.{CallInPlace}
 use Rattle.session.proofs.in_place.InPlaceTheorem.{in-place-history}
 use Rattle.records.specs.Layout.{encoded, decoded}
 use Rattle.capi_session.specs.DecodedAnswers.{Exports}
-use Rattle.capi_session.proofs.ExportedRefines.{Held, exported-refines, fresh-held}
+use Rattle.capi_session.proofs.ExportedRefines.{Encodes, exported-refines, fresh-held}
 use Rattle.claims.specs.Histories.{ReadsAlike}
 use Rattle.claims.proofs.laws.ReadsAlikeLaws as alike
 use Rattle.claims.proofs.laws.LoadedRecords as records
@@ -34,7 +34,7 @@ use Rattle.claims.proofs.laws.LoadedRecords as records
 
 lasts-by-value : AnswersLast freshSession CallByValue
 lasts-by-value =
-    lasts-of CallByValue Does Seen by-value-refines freshSession freshRecord fresh-seen (answer-lasts layers)
+    lasts-of CallByValue Does Represents by-value-refines freshSession freshRecord fresh-seen (answer-lasts layers)
 
 lasts-in-place : AnswersLast freshSession CallInPlace
 lasts-in-place cs xs x vs bs n ds ys w es zs l c u h =
@@ -42,7 +42,7 @@ lasts-in-place cs xs x vs bs n ds ys w es zs l c u h =
 
 lasts-on-bytes : AnswersLast (replicate 983 0) Exports
 lasts-on-bytes =
-    lasts-of Exports Does Held exported-refines (replicate 983 0) freshRecord fresh-held (answer-lasts layers)
+    lasts-of Exports Does Encodes exported-refines (replicate 983 0) freshRecord fresh-held (answer-lasts layers)
 
 -- ---- "The last finished answer survives a Cancel.": from one Read on, of a clean question or not, every Read is
 -- answered as it was, until an advance finishes or a Load is accepted; a refused Read too
@@ -60,7 +60,7 @@ alike-on-bytes = alike.alike-on-bytes
 
 none-by-value : NoAnswersYet freshSession CallByValue
 none-by-value =
-    none-of CallByValue Does Seen by-value-refines freshSession freshRecord fresh-seen (no-answer-yet layers)
+    none-of CallByValue Does Represents by-value-refines freshSession freshRecord fresh-seen (no-answer-yet layers)
 
 none-in-place : NoAnswersYet freshSession CallInPlace
 none-in-place = (
@@ -70,19 +70,19 @@ none-in-place = (
 
 none-on-bytes : NoAnswersYet (replicate 983 0) Exports
 none-on-bytes =
-    none-of Exports Does Held exported-refines (replicate 983 0) freshRecord fresh-held (no-answer-yet layers)
+    none-of Exports Does Encodes exported-refines (replicate 983 0) freshRecord fresh-held (no-answer-yet layers)
 
 -- ---- "and a question started then must still end as in a new session"
 
 anew-by-value : AsAnew freshSession CallByValue
-anew-by-value = anew-of CallByValue Does Seen by-value-refines freshSession freshRecord fresh-seen (as-anew layers)
+anew-by-value = anew-of CallByValue Does Represents by-value-refines freshSession freshRecord fresh-seen (as-anew layers)
 
 anew-in-place : AsAnew freshSession CallInPlace
 anew-in-place cs xs x ds ys zs l s h k =
     anew-by-value cs xs x ds ys zs l s (in-place-history _ _ h) (in-place-history _ _ k)
 
 anew-on-bytes : AsAnew (replicate 983 0) Exports
-anew-on-bytes = anew-of Exports Does Held exported-refines (replicate 983 0) freshRecord fresh-held (as-anew layers)
+anew-on-bytes = anew-of Exports Does Encodes exported-refines (replicate 983 0) freshRecord fresh-held (as-anew layers)
 
 -- ---- "Loaded after Cancel therefore no longer equals the record after a first Load: it equals it in all but that
 -- answer"

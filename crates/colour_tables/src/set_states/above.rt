@@ -5,24 +5,24 @@ use tables::node_tables::moves::size_at;
 ghost use Prim.Native.Nat.{_+_, _*_};
 ghost use lib.ListN.{getD};
 ghost use Rattle.tables.specs.inner.Maps.{nearValue};
-ghost use Rattle.colour_tables.specs.set_states.Ups.{UpsTo, FromArgs, UpArgs};
+ghost use Rattle.colour_tables.specs.set_states.StatesAbove.{StatesAboveTo, FromArgs, UpArgs};
 
 // Four bytes of which the first s are the table's at base + q * stride.
-fn ups_from(inner: &[u8], s: usize, base: usize, stride: usize) -> [u8; 4]
+fn states_above_from(inner: &[u8], s: usize, base: usize, stride: usize) -> [u8; 4]
     requires { ⌜ FromArgs (now inner) s base stride ⌝ }
-    ensures { λ r. ⌜ UpsTo s (λ q. getD (now (inner .entry)) (base + q * stride) 0) r ⌝ }
+    ensures { λ r. ⌜ StatesAboveTo s (λ q. getD (now (inner .entry)) (base + q * stride) 0) r ⌝ }
 {
-    let mut ups = [0u8; 4];
+    let mut above = [0u8; 4];
     let mut q = 0;
     while q < s {
-        ups[q] = inner[base + q * stride];
+        above[q] = inner[base + q * stride];
         q += 1;
     }
-    ups
+    above
 }
 
 // The states at the parent of node v, below the root.
-pub fn ups_of(
+pub fn states_above(
     labels: &[u8],
     numbers: &[u16],
     inner: &[u8],
@@ -32,7 +32,7 @@ pub fn ups_of(
     v: usize,
 ) -> [u8; 4]
     requires { ⌜ UpArgs (now labels) (now numbers) (now inner) (now bytes) s k v ⌝ }
-    ensures { λ r. ⌜ UpsTo s (nearValue (now (labels .entry)) (now (numbers .entry)) (now (inner .entry)) s k
+    ensures { λ r. ⌜ StatesAboveTo s (nearValue (now (labels .entry)) (now (numbers .entry)) (now (inner .entry)) s k
         (now (bytes .entry)) v) r ⌝ }
 {
     let p = parent_at(numbers, v);
@@ -40,8 +40,8 @@ pub fn ups_of(
     if v + 1 == p {
         let u = v - size_at(numbers, v);
         let x = bytes[u * (s + 1)] as usize;
-        return ups_from(inner, s, (x * k + a) * s, 1);
+        return states_above_from(inner, s, (x * k + a) * s, 1);
     }
     let y = bytes[(p - 1) * (s + 1)] as usize;
-    ups_from(inner, s, a * s + y, k * s)
+    states_above_from(inner, s, a * s + y, k * s)
 }

@@ -65,7 +65,7 @@ use Rattle.records.specs.Layout.{validBytes}
 use Rattle.capi_session.specs.DecodedAnswers.{Exports}
 use Rattle.claims.proofs.QuestionForms.{finishes-by-value, finishes-in-place, finishes-on-bytes, part-ceiling}
 use Rattle.claims.proofs.BrokenBytes.{broken-refused}
-use Rattle.claims.specs.ProvedToo.{ClimbTo, ClimbTakes, RootsReady, PartOf}
+use Rattle.claims.specs.FurtherStatements.{ClimbTo, ClimbTakes, RootsReady, PartOf}
 
 -- ---- climbs, in every tree
 

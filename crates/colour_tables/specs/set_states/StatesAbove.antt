@@ -1,6 +1,6 @@
 -- The states at a node's parent, as the code has them.
 --
--- UpsTo s f ups == four bytes, of which the first s are f's values
+-- StatesAboveTo s f above == four bytes, of which the first s are f's values
 -- FromArgs inner s base stride == the places base + q * stride are inside
 -- UpArgs ls b inn st s k v == node v is below the root: parent, label, sibling and rule are inside their lists
 --
@@ -13,9 +13,9 @@ use lib.ListN.{length, getD}
 use Rattle.tables.specs.node_tables.Cells.{parentCell, sizeCell}
 use Rattle.tables.specs.StateCells.{stateCell}
 
-pub record UpsTo (s : ℕ) (f : ℕ → ℕ) (ups : List ℕ) : Type 0 where
-  pub long : length ups ≡ 4
-  pub cells : (q : ℕ) → q < s → getD ups q 0 ≡ f q
+pub record StatesAboveTo (s : ℕ) (f : ℕ → ℕ) (above : List ℕ) : Type 0 where
+  pub long : length above ≡ 4
+  pub cells : (q : ℕ) → q < s → getD above q 0 ≡ f q
 
 pub record FromArgs (inner : List ℕ) (s base stride : ℕ) : Type 0 where
   pub few : s ≤ 4

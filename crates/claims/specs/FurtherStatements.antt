@@ -1,4 +1,4 @@
--- Propositions of claims/proofs/ProvedToo.
+-- Propositions of claims/proofs/FurtherStatements.
 --
 -- ClimbTo t w to == the climb from node w to depth to: it exists, and its moves, its end, their number and its ceiling
 -- ClimbTakes t w to n == it makes n moves

@@ -1,17 +1,17 @@
--- `ups_of` meets its contract, for a right child and for a left one.
+-- `states_above` meets its contract, for a right child and for a left one.
 use Prim.Native.Nat.{_-_, _<_}
 use mathlib.Core.Path.{refl, _∙_}
-use Rattle.colour_tables.proofs.set_states.UpLaws.{ups-right, ups-left, place-small, place-in, state-in, label-in, sums}
+use Rattle.colour_tables.proofs.set_states.UpLaws.{above-right, above-left, place-small, place-in, state-in, label-in, sums}
 use Rattle.colour_tables.proofs.set_states.UpLaws.{right-args, left-args}
 use native.Mathlib.Omega.{arith}
 use borrow.Author.Needs.{needs}
-use Rattle.colour_tables.proofs.set_states.ups.ups_of.Statement.{statement}
-use Rattle.colour_tables.proofs.set_states.ups.ups_of.Tie as tie
-use Rattle.colour_tables.proofs.set_states.ups.ups_of.Reads as reads
-use Rattle.colour_tables.proofs.set_states.ups.ups_of.Lts as lts
+use Rattle.colour_tables.proofs.set_states.above.states_above.Statement.{statement}
+use Rattle.colour_tables.proofs.set_states.above.states_above.Tie as tie
+use Rattle.colour_tables.proofs.set_states.above.states_above.Reads as reads
+use Rattle.colour_tables.proofs.set_states.above.states_above.Lts as lts
 use Rattle.tables.proofs.node_tables.moves.parent_at.Reads as parent-at-reads
 use Rattle.tables.proofs.node_tables.moves.size_at.Reads as size-at-reads
-use Rattle.colour_tables.proofs.set_states.ups.ups_from.Reads as ups-from-reads
+use Rattle.colour_tables.proofs.set_states.above.states_above_from.Reads as states-above-from-reads
 
 -- the sibling of a left child
 left : (e : tie.Else1) → e .before .before .parent-at .result - 1 < e .before .before .parent-at .result
@@ -74,8 +74,8 @@ cast-x c =
       s .pre .few,
     )
 
-mul-ups-from : tie.Need-mul-ups-from
-mul-ups-from c =
+mul-states-above-from : tie.Need-mul-states-above-from
+mul-states-above-from c =
     let z = c .before in
     let p = z .before .before .before in
     let s = p .before .before .before .before .before in
@@ -86,8 +86,8 @@ mul-ups-from c =
           (s .args .v - z .size-at .result) (right z) .0,
     )
 
-add-ups-from : tie.Need-add-ups-from
-add-ups-from c =
+add-states-above-from : tie.Need-add-states-above-from
+add-states-above-from c =
     let z = c .before in
     let p = z .before .before .before in
     let s = p .before .before .before .before .before in
@@ -102,8 +102,8 @@ add-ups-from c =
       s .pre .labels,
     )
 
-mul-ups-from-2 : tie.Need-mul-ups-from-2
-mul-ups-from-2 c =
+mul-states-above-from-2 : tie.Need-mul-states-above-from-2
+mul-states-above-from-2 c =
     let z = c .before in
     let p = z .before .before .before in
     let s = p .before .before .before .before .before in
@@ -114,8 +114,8 @@ mul-ups-from-2 c =
           (s .args .v - z .size-at .result) (right z) .1,
     )
 
-ups-from-requires : tie.Need-ups-from-requires
-ups-from-requires c κs =
+states-above-from-requires : tie.Need-states-above-from-requires
+states-above-from-requires c κs =
     let z = c .before in
     let p = z .before .before .before in
     let s = p .before .before .before .before .before in
@@ -128,10 +128,10 @@ returns c =
     let z = c .before .before in
     let p = z .before .before .before in
     let s = p .before .before .before .before .before in
-    ups-right (s .args .labels .now) (s .args .numbers .now) (s .args .inner .now) (s .args .bytes .now) (s .args .s)
+    above-right (s .args .labels .now) (s .args .numbers .now) (s .args .inner .now) (s .args .bytes .now) (s .args .s)
     (s .args .k)
-    (s .args .v) (p .parent-at .result) _ (p .parent-at .ensures) refl (c .ups-from .result) (z .before .if1 .taken)
-    (z .size-at .result) (z .size-at .ensures) (c .ups-from .ensures)
+    (s .args .v) (p .parent-at .result) _ (p .parent-at .ensures) refl (c .states-above-from .result) (z .before .if1 .taken)
+    (z .size-at .result) (z .size-at .ensures) (c .states-above-from .ensures)
 
 mul-y : tie.Need-mul-y
 mul-y c =
@@ -167,8 +167,8 @@ cast-y c =
       s .pre .few,
     )
 
-mul-ups-from-3 : tie.Need-mul-ups-from-3
-mul-ups-from-3 c =
+mul-states-above-from-3 : tie.Need-mul-states-above-from-3
+mul-states-above-from-3 c =
     let e = c .before in
     let p = e .before .before in
     let s = p .before .before .before .before .before in
@@ -179,8 +179,8 @@ mul-ups-from-3 c =
           (p .parent-at .result - 1) (left e) .2,
     )
 
-add-ups-from-2 : tie.Need-add-ups-from-2
-add-ups-from-2 c =
+add-states-above-from-2 : tie.Need-add-states-above-from-2
+add-states-above-from-2 c =
     let e = c .before in
     let p = e .before .before in
     let s = p .before .before .before .before .before in
@@ -196,8 +196,8 @@ add-ups-from-2 c =
       s .pre .few,
     )
 
-mul-ups-from-4 : tie.Need-mul-ups-from-4
-mul-ups-from-4 c =
+mul-states-above-from-4 : tie.Need-mul-states-above-from-4
+mul-states-above-from-4 c =
     let e = c .before in
     let p = e .before .before in
     let s = p .before .before .before .before .before in
@@ -208,8 +208,8 @@ mul-ups-from-4 c =
           (p .parent-at .result - 1) (left e) .3,
     )
 
-ups-from-requires-2 : tie.Need-ups-from-requires-2
-ups-from-requires-2 c κs =
+states-above-from-requires-2 : tie.Need-states-above-from-requires-2
+states-above-from-requires-2 c κs =
     let e = c .before in
     let p = e .before .before in
     let s = p .before .before .before .before .before in
@@ -222,15 +222,16 @@ returns-2 c =
     let e = c .before .before in
     let p = e .before .before in
     let s = p .before .before .before .before .before in
-    ups-left (s .args .labels .now) (s .args .numbers .now) (s .args .inner .now) (s .args .bytes .now) (s .args .s)
+    above-left (s .args .labels .now) (s .args .numbers .now) (s .args .inner .now) (s .args .bytes .now) (s .args .s)
     (s .args .k)
-    (s .args .v) (p .parent-at .result) _ (p .parent-at .ensures) refl (c .ups-from2 .result) (e .if1 .left)
-    (c .ups-from2 .ensures)
+    (s .args .v) (p .parent-at .result) _ (p .parent-at .ensures) refl (c .states-above-from2 .result) (e .if1 .left)
+    (c .states-above-from2 .ensures)
 
-pub ups-of-spec : {M : Type 1} → statement M
-ups-of-spec =
+pub states-above-spec : {M : Type 1} → statement M
+states-above-spec =
     tie.close
     (tie.spec (λ c κs. search needs) (λ c. search needs) cast-a (λ c. search needs) (λ c κs. search needs) sub-u
-    (λ c. search needs) mul-x shared-slice-read-x cast-x mul-ups-from add-ups-from mul-ups-from-2 ups-from-requires
-    returns (λ c. search needs) (λ c. search needs) mul-y shared-slice-read-y cast-y mul-ups-from-3 add-ups-from-2
-    mul-ups-from-4 ups-from-requires-2 returns-2)
+    (λ c. search needs) mul-x shared-slice-read-x cast-x mul-states-above-from add-states-above-from
+    mul-states-above-from-2 states-above-from-requires returns (λ c. search needs) (λ c. search needs) mul-y
+    shared-slice-read-y cast-y mul-states-above-from-3 add-states-above-from-2 mul-states-above-from-4
+    states-above-from-requires-2 returns-2)

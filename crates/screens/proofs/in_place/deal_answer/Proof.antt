@@ -1,4 +1,4 @@
--- `screens::in_place::told_of` meets its contract.
+-- `screens::in_place::deal_answer` meets its contract.
 use Prim.Native.Nat.{ℕ}
 use mathlib.Core.Path.{sym, ap, _∙_}
 use Rattle.model.specs.Calls.{more, finished}
@@ -8,10 +8,10 @@ use Rattle.screens.specs.ScreenCalls.{deals, turnAnswer}
 use Rattle.screens.specs.in_place.OnStructs.{dealAnswer}
 use native.Mathlib.Omega.{arith}
 use borrow.Author.Needs.{needs}
-use Rattle.screens.proofs.in_place.told_of.Statement.{statement}
-use Rattle.screens.proofs.in_place.told_of.Tie as tie
-use Rattle.screens.proofs.in_place.told_of.Reads as reads
-use Rattle.screens.proofs.in_place.told_of.Lts as lts
+use Rattle.screens.proofs.in_place.deal_answer.Statement.{statement}
+use Rattle.screens.proofs.in_place.deal_answer.Tie as tie
+use Rattle.screens.proofs.in_place.deal_answer.Reads as reads
+use Rattle.screens.proofs.in_place.deal_answer.Lts as lts
 use Rattle.screens.proofs.one_past.Reads as one-past-reads
 
 returns : tie.Need-returns
@@ -34,8 +34,8 @@ returns-3 c =
     let i = c .before .before .before .before .args .i in
     ap (λ (t : AdvanceAnswer). turnAnswer i (advanceAnswer t)) (sym (c .before .answer .given .1))
 
-pub told-of-spec : {M : Type 1} → statement M
-told-of-spec =
+pub deal-answer-spec : {M : Type 1} → statement M
+deal-answer-spec =
     tie.close
     (tie.spec (λ c κs. search needs) (λ c. search needs) (λ c. search needs) (λ c. search needs) (λ c. search needs)
     returns returns-2 returns-3)
