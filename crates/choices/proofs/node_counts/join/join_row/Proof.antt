@@ -27,7 +27,7 @@ element-copy-out-capped-times : tie.Need-element-copy-out-capped-times Inv-loop 
 element-copy-out-capped-times c =
     omega (arith, c .loop-test .taken, c .before .loop .inv .args .table .states-most)
 
-accumulate-requires : tie.Need-pour-requires Inv-loop μ-loop
+accumulate-requires : tie.Need-accumulate-requires Inv-loop μ-loop
 accumulate-requires c κs =
     row-args _ _ _ _ _ _ _ _ _ _ _ (c .before .before .before .before .loop .inv)
     (c .before .before .before .loop-test .taken) (c .before .capped-times .result)

@@ -12,7 +12,7 @@ use Rattle.choices.proofs.part_steps.fork.fork_counts.Reads as fork-cou
 use Rattle.choices.proofs.node_counts.join.accumulate.Reads as accumulate-reads
 use Rattle.tables.proofs.node_tables.moves.depth_at.Reads as depth-at-reads
 
-accumulate-requires : tie.Need-pour-requires
+accumulate-requires : tie.Need-accumulate-requires
 accumulate-requires c κs =
     leaf-args _ _ _ _ _ _ _ _ _ _ _ _ _ _ _ _ _ _
     (c .before .before .before .before .before .before .before .before .before .before .before .pre)
