@@ -63,7 +63,7 @@ static _Alignas(64) uint8_t stack[ROOM];
     CALL(build, 5 * 1024) \
     CALL(check, 8 * 1024) \
     CALL(fresh_run, 40 * 1024) \
-    CALL(ask, 4 * 1024) \
+    CALL(ask, 3 * 1024) \
     CALL(allowed, 1 * 1024) \
     CALL(clearing, 1 * 1024) \
     CALL(branch_build, 5 * 1024) \
