@@ -73,21 +73,17 @@ impl<'a> Args<'a> {
         }
         let value = value.or_else(|| rest.next());
         let value = value.ok_or_else(|| usage(format!("'{}' needs a value", name)))?;
+        let number = || value.parse().map_err(|_| usage(format!("{} {}: this is no number", name, value)));
         match name {
-            "--first" | "--page" => {
-                let number = value.parse().map_err(|_| usage(format!("{} {}: this is no number", name, value)))?;
-                match name {
-                    "--first" => self.first = Some(number),
-                    _ => self.page = number,
-                }
-                return Ok(());
-            }
-            "--colour" => {
-                self.colour = one_of(value, &COLOURS)?;
-                return Ok(());
-            }
-            _ => (),
+            "--first" => self.first = Some(number()?),
+            "--page" => self.page = number()?,
+            "--colour" => self.colour = one_of(value, &COLOURS)?,
+            file => return self.take_file(file, value),
         }
+        Ok(())
+    }
+
+    fn take_file(&mut self, name: &str, value: &'a str) -> Result<(), Failure> {
         let Files { input, plan, planner, rules, questions, branch, names } = &mut self.files;
         let place = match name {
             "--input" => input,
@@ -98,10 +94,10 @@ impl<'a> Args<'a> {
             "--names" => names,
             _ => branch,
         };
-        if let Some(before) = place.replace(value) {
-            return Err(usage(format!("'{}' stands twice: {} and {}", name, before, value)));
+        match place.replace(value) {
+            Some(before) => Err(usage(format!("'{}' stands twice: {} and {}", name, before, value))),
+            None => Ok(()),
         }
-        Ok(())
     }
 
     /// Neither fewer words than the verb needs nor more than it takes.

@@ -52,10 +52,16 @@ impl Files<'_> {
         }
     }
 
-    /// Plan, rules and questions, from wherever they come.
-    pub fn read(&self) -> Result<Input, Failure> {
+    /// For a branch table alone.
+    pub fn branch_or_input(&self) -> &str {
+        self.branch.or(self.input).unwrap_or("-")
+    }
+
+    /// Plan, rules and questions, from wherever they come; `beside` may be files, too, that are read after them.
+    pub fn read(&self, beside: &[&str]) -> Result<Input, Failure> {
         let all = [self.input(), self.plan, self.planner, self.rules, self.questions, self.branch, self.names];
-        once_standard_input(&all.into_iter().flatten().collect::<Vec<_>>())?;
+        let all = all.into_iter().flatten().chain(beside.iter().copied());
+        once_standard_input(&all.collect::<Vec<_>>())?;
         if let (Some(plan), Some(planner)) = (self.plan, self.planner) {
             return Err(Failure::Usage(format!("--plan {} and --planner {}: only one can be the plan", plan, planner)));
         }
@@ -133,7 +139,7 @@ impl Found {
 /// Bytes of any form as text.
 pub fn show(files: &Files) -> Result<String, Failure> {
     if [files.plan, files.planner, files.rules, files.questions].iter().any(Option::is_some) {
-        let input = files.read()?;
+        let input = files.read(&[])?;
         return Ok(crate::show(&input.as_bytes()).expect("as it was written"));
     }
     if let Some(path) = files.branch {

@@ -55,77 +55,86 @@ fn made(words: &[&str]) -> Result<Made, Failure> {
 
 const DRAWN: [(&str, Drawn); 2] = [("dot", Drawn::Dot), ("svg", Drawn::Svg)];
 
+/// The verbs that answer, in sentences or objects.
 fn answered(args: &Args) -> Result<Made, Failure> {
-    let input = || args.files.read();
-    let words = &args.words[..];
+    let (words, json) = (&args.words[..], args.json);
+    let input = || args.files.read(words);
     match (args.verb.name, words) {
-        ("write", []) => Ok(Made::answered(input()?.as_bytes())),
-        ("write", [part]) => write(args, part),
-        ("show", _) => text::files::show(&args.files).map(Made::answered),
-        ("planner", [word]) => {
-            one_of(word, &[("import", ()), ("export", ()), ("dot", ()), ("svg", ())])?;
-            let file = args.files.planner.or(args.files.plan).or(args.files.input).unwrap_or("-");
-            text::planner::made(word, &files::file(file)?, args.bytes).map(Made::answered)
-        }
-        ("answer", _) => text::answer::all(&input()?, args.json),
+        ("answer", _) => text::answer::all(&input()?, json),
         ("why", [question, rest @ ..]) => {
             let whole = one_of(rest.first().unwrap_or(&""), &[("", false), ("all", true)])?;
-            text::why::of_question(&input()?, a_question(question)?, whole, args.json).map(Made::answered)
+            text::why::of_question(&input()?, a_question(question)?, whole, json).map(Made::answered)
         }
         ("suggest", nodes) => {
-            text::suggest::of_nodes(&input()?, &numbers(nodes)?, args.first, args.json).map(Made::answered)
+            text::suggest::of_nodes(&input()?, &numbers(nodes)?, args.first, json).map(Made::answered)
         }
-        ("count", nodes) => text::count::of_nodes(&input()?, &numbers(nodes)?, args.json).map(Made::answered),
-        ("outline", [question, rest @ ..]) => {
-            let how = one_of(rest.first().unwrap_or(&"dot"), &DRAWN)?;
-            text::draw(&input()?, a_question(question)?, false, args.page, how).map(Made::answered)
-        }
-        (name @ ("dot" | "svg"), [question]) => {
-            text::draw(&input()?, a_question(question)?, true, args.page, one_of(name, &DRAWN)?).map(Made::answered)
-        }
-        ("rules", [word]) => {
-            let (how, input) = (one_of(word, &DRAWN)?, input()?);
-            text::grids::rules(&input.rules, &input.names, how).map(Made::answered)
-        }
-        ("branch-table", [word]) => {
-            let how = one_of(word, &DRAWN)?;
-            let (bytes, names) = files::branch_of(args.files.branch.or(args.files.input).unwrap_or("-"))?;
-            text::grids::branch_table(&bytes, &names, how).map(Made::answered)
-        }
+        ("count", nodes) => text::count::of_nodes(&input()?, &numbers(nodes)?, json).map(Made::answered),
         ("over", [lower, upper]) => {
-            text::over::of_questions(&input()?, a_question(lower)?, a_question(upper)?, args.json).map(Made::answered)
+            text::over::of_questions(&input()?, a_question(lower)?, a_question(upper)?, json).map(Made::answered)
         }
         ("branch" | "branch-with-upper" | "colours" | "colours-with-upper", words) => branch(args, words),
-        ("session", [script]) => text::script::run(&input()?, &files::text(script)?, args.json),
-        ("screens", [script]) => text::screens::run(&input()?, &files::text(script)?, args.json),
-        ("build", [nodes, states]) => build(&input()?, [nodes, states], args.json),
-        ("check", [nodes, states]) => {
-            text::stored::check(&input()?, &files::file(nodes)?, &files::file(states)?, args.json)
-        }
-        ("merge", [first, second]) => merge(&two_rules(first, second)?),
+        ("session", [script]) => text::script::run(&input()?, &files::text(script)?, json),
+        ("screens", [script]) => text::screens::run(&input()?, &files::text(script)?, json),
+        ("build", [nodes, states]) => build(&input()?, [nodes, states], json),
+        ("check", [nodes, states]) => text::stored::check(&input()?, &files::file(nodes)?, &files::file(states)?, json),
         ("agree", [first, second, rest @ ..]) => {
             let drawn = rest.first().map(|word| one_of(word, &DRAWN)).transpose()?;
-            agree(first, second, drawn, args.json)
+            agree(first, second, drawn, json)
         }
-        ("completions", [shell]) => {
-            let shells = [("bash", Shell::Bash), ("zsh", Shell::Zsh), ("fish", Shell::Fish)];
-            Ok(Made::answered(text::completions::of(one_of(shell, &shells)?)))
-        }
-        ("random", options) => {
-            text::random::text(options).unwrap_or_else(|| Err(text::random::usage(options))).map(Made::answered)
-        }
-        (name, _) => Err(Failure::Usage(format!("'{}' does not take these words: whatif-text help {}", name, name))),
+        _ => written(args),
     }
 }
 
-/// One of the parts of the input, as the library's own bytes.
-fn write(args: &Args, part: &str) -> Result<Made, Failure> {
-    let parts = [("plan", 0), ("rules", 1), ("questions", 2), ("branch", 3)];
-    Ok(Made::answered(match one_of(part, &parts)? {
-        0 => args.files.read()?.plan,
-        1 => args.files.read()?.rules,
-        2 => text::questions::as_bytes(&args.files.read()?.questions),
-        _ => files::branch_of(args.files.branch.or(args.files.input).unwrap_or("-"))?.0,
+/// The verbs that write pictures, text or bytes.
+fn written(args: &Args) -> Result<Made, Failure> {
+    let (words, files) = (&args.words[..], &args.files);
+    let input = || files.read(&[]);
+    let text = match (args.verb.name, words) {
+        ("outline", [question, rest @ ..]) => {
+            let how = one_of(rest.first().unwrap_or(&"dot"), &DRAWN)?;
+            text::draw(&input()?, a_question(question)?, false, args.page, how)
+        }
+        (name @ ("dot" | "svg"), [question]) => {
+            text::draw(&input()?, a_question(question)?, true, args.page, one_of(name, &DRAWN)?)
+        }
+        ("rules", [word]) => {
+            let (how, input) = (one_of(word, &DRAWN)?, input()?);
+            text::grids::rules(&input.rules, &input.names, how)
+        }
+        ("branch-table", [word]) => {
+            let (how, (bytes, names)) = (one_of(word, &DRAWN)?, files::branch_of(files.branch_or_input())?);
+            text::grids::branch_table(&bytes, &names, how)
+        }
+        ("write", parts) => return write(args, parts.first()),
+        ("planner", [word]) => return planner(args, word),
+        ("show", _) => files::show(files),
+        ("merge", [first, second]) => merge(&two_rules(first, second)?),
+        ("completions", [shell]) => {
+            let shells = [("bash", Shell::Bash), ("zsh", Shell::Zsh), ("fish", Shell::Fish)];
+            Ok(text::completions::of(one_of(shell, &shells)?))
+        }
+        ("random", options) => text::random::text(options).unwrap_or_else(|| Err(text::random::usage(options))),
+        (name, _) => Err(Failure::Usage(format!("'{}' does not take these words: whatif-text help {}", name, name))),
+    };
+    text.map(Made::answered)
+}
+
+fn planner(args: &Args, word: &str) -> Result<Made, Failure> {
+    one_of(word, &[("import", ()), ("export", ()), ("dot", ()), ("svg", ())])?;
+    let file = args.files.planner.or(args.files.plan).or(args.files.input).unwrap_or("-");
+    text::planner::made(word, &files::file(file)?, args.bytes).map(Made::answered)
+}
+
+/// The input as bytes, or one of its parts as the library's own.
+fn write(args: &Args, part: Option<&&str>) -> Result<Made, Failure> {
+    let input = || args.files.read(&[]);
+    let parts = [("", 0), ("plan", 1), ("rules", 2), ("questions", 3), ("branch", 4)];
+    Ok(Made::answered(match one_of(part.unwrap_or(&""), &parts)? {
+        0 => input()?.as_bytes(),
+        1 => input()?.plan,
+        2 => input()?.rules,
+        3 => text::questions::as_bytes(&input()?.questions),
+        _ => files::branch_of(args.files.branch_or_input())?.0,
     }))
 }
 
@@ -143,8 +152,8 @@ fn build(input: &Input, names: [&str; 2], json: bool) -> Result<Made, Failure> {
     Ok(Made::answered(told))
 }
 
-fn merge([first, second]: &[Vec<u8>; 2]) -> Result<Made, Failure> {
-    text::merge(first, second).map(Made::answered).map_err(Failure::refused)
+fn merge([first, second]: &[Vec<u8>; 2]) -> Result<String, Failure> {
+    text::merge(first, second).map_err(Failure::refused)
 }
 
 /// A branch question, by its climb or by colours. The table is a word or an option.
@@ -158,7 +167,8 @@ fn branch(args: &Args, words: &[&str]) -> Result<Made, Failure> {
     let pictures = [("dot", Shape::Picture(Drawn::Dot)), ("svg", Shape::Picture(Drawn::Svg))];
     let shown = one_of(shown, &[("", short), ("all", all), pictures[0], pictures[1]])?;
     let reading = if args.verb.name.ends_with("-with-upper") { Reading::WithUpper } else { Reading::BelowUpper };
-    let (table, input) = (files::branch_of(table)?, args.files.read()?);
+    let beside = if args.files.branch.is_some() { &[][..] } else { &[table] };
+    let (input, table) = (args.files.read(beside)?, files::branch_of(table)?);
     Ok(Made::answered(match (args.verb.name.starts_with("branch"), shown) {
         (true, Shape::Picture(how)) => text::branch::ask(&input, &table, nodes, reading)?.picture(how),
         (true, _) if args.json => text::branch::ask(&input, &table, nodes, reading)?.objects(),

@@ -69,16 +69,7 @@ pub fn picture(question: &Question, page: usize) -> Result<Picture, Failure> {
         let here = shown.iter().filter(|&&i| i == first || pages.number(i).is_none()).count();
         title.push(format!("page {} of {}: {}", page, last, count(here, "part")));
     }
-    let place = |i: usize| shown.iter().position(|&at| at == i);
-    let line = |edge: &Edge| {
-        let at = |v: usize| roots.binary_search(&v).ok().and_then(place);
-        let (from, to) = (at(edge.above)?, at(edge.root)?);
-        let stroke = if edge.climb.is_some() { Stroke::Climb } else { Stroke::Plain };
-        let words = edge.climb.map_or(String::new(), |(passed, links)| climbed(passed, links));
-        Some(Line { from, to, stroke, words })
-    };
-    let mut lines: Vec<Line> = edges.iter().filter_map(line).collect();
-    lines.sort_by_key(|line| (line.from, line.to));
+    let lines = lines(&edges, &shown.iter().map(|&i| roots[i]).collect::<Vec<_>>());
     let node = |&i: &usize| match pages.number(i).filter(|_| i != first) {
         Some(page) => elsewhere(roots[i], page),
         None => question.node(roots[i], question.asked.states[i], false),
@@ -87,6 +78,20 @@ pub fn picture(question: &Question, page: usize) -> Result<Picture, Failure> {
     let mut explained = legend();
     explained[3].1 = "grey and dashed: a climb, or what stands on another page";
     Ok(Picture { name: "outline", title, nodes, edges: lines, legend: explained })
+}
+
+/// The edges between roots that are shown, by their places.
+fn lines(edges: &[Edge], shown: &[usize]) -> Vec<Line> {
+    let at = |root: usize| shown.iter().position(|&v| v == root);
+    let line = |edge: &Edge| {
+        let (from, to) = (at(edge.above)?, at(edge.root)?);
+        let stroke = if edge.climb.is_some() { Stroke::Climb } else { Stroke::Plain };
+        let words = edge.climb.map_or(String::new(), |(passed, links)| climbed(passed, links));
+        Some(Line { from, to, stroke, words })
+    };
+    let mut lines: Vec<Line> = edges.iter().filter_map(line).collect();
+    lines.sort_by_key(|line| (line.from, line.to));
+    lines
 }
 
 /// A root whose parts stand on another page.

@@ -60,46 +60,48 @@ fn head(picture: &Picture, width: f64, height: f64) -> String {
 
 /// Of all nodes, and how far they reach.
 fn places(picture: &Picture, top: f64) -> (Vec<Place>, f64, f64) {
-    let n = picture.nodes.len();
     let mut places: Vec<Place> = picture.nodes.iter().map(size).collect();
+    let (tops, (lefts, spans)) = (tops(picture, &places, top), lefts(picture, &places));
+    for (v, place) in places.iter_mut().enumerate() {
+        place.x = lefts[v] + spans[v] / 2.0;
+        place.y = tops[v] + place.height / 2.0;
+    }
+    let right = lefts.iter().zip(&spans).map(|(left, span)| left + span).fold(0.0, f64::max);
+    let bottom = places.iter().map(|place| place.y + place.height / 2.0).fold(top, f64::max);
+    (places, right, bottom)
+}
+
+/// For each node how far left what is at and below it begins, and how wide it is.
+fn lefts(picture: &Picture, places: &[Place]) -> (Vec<f64>, Vec<f64>) {
+    let n = places.len();
     // of several that lead to a node the last one holds it
     let (mut above, mut words) = (vec![None; n], vec![0.0; n]);
     for edge in &picture.edges {
         above[edge.to] = Some(edge.from);
-        words[edge.to] =
-            halves(&edge.words).iter().map(|half| LETTER * half.len() as f64).fold(words[edge.to], f64::max);
+        let wide = halves(&edge.words).iter().map(|half| LETTER * half.len() as f64).fold(0.0, f64::max);
+        words[edge.to] = wide.max(words[edge.to]);
     }
     let mut children: Vec<Vec<usize>> = vec![Vec::new(); n];
     (0..n).for_each(|v| above[v].into_iter().for_each(|p: usize| children[p].push(v)));
-    let mut spans = vec![0.0; n];
+    let gaps = |v: usize| BETWEEN * children[v].len().saturating_sub(1) as f64;
+    let (mut below, mut spans) = (vec![0.0; n], vec![0.0; n]);
     for v in (0..n).rev() {
-        let below: f64 = children[v].iter().map(|&w| spans[w]).sum();
-        let gaps = BETWEEN * children[v].len().saturating_sub(1) as f64;
-        spans[v] = (below + gaps).max(places[v].width).max(words[v]);
+        below[v] = children[v].iter().map(|&w| spans[w]).sum::<f64>() + gaps(v);
+        spans[v] = places[v].width.max(below[v]).max(words[v]);
     }
-    let tops = tops(picture, &places, top);
     let (mut lefts, mut next) = (vec![0.0; n], MARGIN);
     for v in 0..n {
         if above[v].is_none() {
             lefts[v] = next;
             next += spans[v] + 2.0 * BETWEEN;
         }
-        let below: f64 =
-            children[v].iter().map(|&w| spans[w]).sum::<f64>() + BETWEEN * children[v].len().saturating_sub(1) as f64;
-        let mut left = lefts[v] + (spans[v] - below) / 2.0;
+        let mut left = lefts[v] + (spans[v] - below[v]) / 2.0;
         for &w in &children[v] {
             lefts[w] = left;
             left += spans[w] + BETWEEN;
         }
     }
-    for v in 0..n {
-        places[v].x = lefts[v] + spans[v] / 2.0;
-        places[v].y = tops[v] + places[v].height / 2.0;
-    }
-    let right =
-        places.iter().zip(&spans).map(|(place, span)| place.x + span.max(place.width) / 2.0).fold(0.0, f64::max);
-    let bottom = places.iter().map(|place| place.y + place.height / 2.0).fold(top, f64::max);
-    (places, right, bottom)
+    (lefts, spans)
 }
 
 /// The upper border of each node: that of its row.

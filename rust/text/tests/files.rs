@@ -233,10 +233,22 @@ fn a_header_that_is_two() {
 
 #[test]
 fn standard_input_once() {
-    for words in [&["answer", "--plan", "-", "--rules", "-"][..], &["merge", "-", "-"]] {
+    let rows: [&[&str]; 5] = [
+        &["answer", "--plan", "-", "--rules", "-"],
+        &["merge", "-", "-"],
+        &["session", "-"],
+        &["branch", "-", "6", "4"],
+        &["check", "x", "-"],
+    ];
+    for words in rows {
         let (_, err, status) = run(words, b"");
         assert_eq!((status, err.contains("standard input can be read once")), (2, true), "{}", err);
     }
+    // once is fine, wherever it is
+    let (sample, script) = (example("sample.txt"), fs::read(example("session.txt")).unwrap());
+    assert_eq!(run(&["session", "-", "--input", &sample], &script).2, 3);
+    let table = fs::read(example("branch.txt")).unwrap();
+    assert!(said(&["branch", "-", "6", "4", "--input", &sample], &table).starts_with("from below node 6"));
     let (_, err, status) = run(&["answer", "--plan", "a", "--plan", "b"], b"");
     assert_eq!((status, err.as_str()), (2, "whatif-text: '--plan' stands twice: a and b\n"));
 }
