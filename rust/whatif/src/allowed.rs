@@ -27,7 +27,7 @@ macro_rules! bit_set {
             /// Is this number in the set?
             #[must_use]
             pub fn contains(self, number: u8) -> bool {
-                self.0.checked_shr(u32::from(number)).is_some_and(|rest| rest & 1 == 1)
+                self.0.checked_shr(u32::from(number)).map_or(false, |rest| rest & 1 == 1)
             }
 
             /// How many numbers are in the set?
