@@ -163,6 +163,16 @@ pub enum Mistake {
     PreimageOfTheOtherSide,
     /// 27 is put after 10.
     StatesAfterLabels,
+    /// A label is allowed where the plan as it is is cleared, whatever the label.
+    OldVerdictForEveryLabel,
+    /// The state that is put in is that of the run.
+    RunStatePutIn,
+    /// Room for the masks is asked for before the labels of the plan.
+    RoomBeforePlanLabels,
+    /// A whole question counts the listed nodes as its parts.
+    ListedToldAsParts,
+    /// Its answer is that of the plan as it is.
+    WholeOfTheOldPlan,
 }
 
 thread_local! {

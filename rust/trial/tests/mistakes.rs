@@ -10,7 +10,7 @@ use trial::rounds::ROUNDS;
 const SEEDS: std::ops::Range<u64> = 1..201;
 
 /// A mistake, and the rounds that must notice it.
-const NOTICED: [(Mistake, &[&str]); 79] = [
+const NOTICED: [(Mistake, &[&str]); 84] = [
     (Mistake::ChildrenExchanged, &["builds", "fresh runs", "questions", "other bytes", "call lists", "panels"]),
     (Mistake::SiblingFromOldRun, &["questions", "other bytes", "damaged inputs", "call lists", "panels"]),
     (Mistake::ClimbToTheRoot, &["questions", "other bytes", "damaged inputs", "call lists"]),
@@ -93,6 +93,11 @@ const NOTICED: [(Mistake, &[&str]); 79] = [
     (Mistake::TargetsFalling, &["colours of sets", "owned types"]),
     (Mistake::PreimageOfTheOtherSide, &["colours of sets", "owned types"]),
     (Mistake::StatesAfterLabels, &["colours of sets"]),
+    (Mistake::OldVerdictForEveryLabel, &["allowed labels"]),
+    (Mistake::RunStatePutIn, &["allowed labels"]),
+    (Mistake::RoomBeforePlanLabels, &["allowed labels"]),
+    (Mistake::ListedToldAsParts, &["whole questions"]),
+    (Mistake::WholeOfTheOldPlan, &["whole questions"]),
 ];
 
 /// The first difference in the rounds of a kind, and its seed.

@@ -76,11 +76,16 @@ pub fn right(case: Case, random: &mut Random, counts: &mut Counts) {
     counts.add(if masks.iter().all(|&mask| mask == 0) { "no single label would do" } else { "some label would do" });
 }
 
-/// One byte of the plan or the rules altered, or one cut off, or a buffer that is too short.
+/// One byte of the plan or the rules altered, or one cut off; a buffer that is too short, alone or besides.
 pub fn refused(mut case: Case, random: &mut Random, counts: &mut Counts) {
-    let mut len = case.n + random.below(3);
-    match random.below(5) {
-        0 => len = random.below(case.n),
+    let short = random.below(3) == 0;
+    let len = if short { random.below(case.n) } else { case.n + random.below(3) };
+    match random.below(6) {
+        0 => {
+            // a label that the rules do not have
+            let at = 12 + random.below(case.n);
+            case.plan[at] = case.k as u8;
+        }
         1 => {
             case.plan.pop();
         }
@@ -91,10 +96,11 @@ pub fn refused(mut case: Case, random: &mut Random, counts: &mut Counts) {
             let at = random.below(case.plan.len());
             case.plan[at] = random.word() as u8;
         }
-        _ => {
+        4 => {
             let at = random.below(case.rules.len());
             case.rules[at] = random.word() as u8;
         }
+        _ => (),
     }
     let answer = allowed(&case.plan, &case.rules, len, random).err();
     assert_eq!(clearing(&case.plan, &case.rules, len, random).err(), answer, "both calls refuse alike");
