@@ -131,6 +131,19 @@ static void colour_branches(void) {
     told("whatif_colour_branch_with_upper_told", "sylx");
 }
 
+static void asks(void) {
+    for (size_t code = 0; code < LISTS; code++) {
+        struct list q = list_of(code);
+        struct whatif_told plain = {0}, one = unset();
+        sure_case = code;
+        uint32_t answer = whatif_ask(PLAN, RULES, TABLES, q.nodes, q.m, q.labels, q.m, &plain.state, &plain.yes,
+                                     &plain.parts, &plain.links, &plain.passed);
+        same("whatif_ask_told", answer, &plain,
+             whatif_ask_told(PLAN, RULES, TABLES, q.nodes, q.m, q.labels, q.m, &one), &one);
+    }
+    told("whatif_ask_told", "sypld");
+}
+
 static void colour_asks(void) {
     for (size_t code = 0; code < LISTS; code++) {
         struct list q = list_of(code);
@@ -339,7 +352,7 @@ int main(void) {
     if (!make_inputs())
         return 1;
     loads();
-    fresh_runs(), branches(), colour_branches(), colour_asks(), counts(), agreements();
+    fresh_runs(), branches(), colour_branches(), asks(), colour_asks(), counts(), agreements();
     sessions(), says_nothing(), deals();
     return sure_failed != 0;
 }
