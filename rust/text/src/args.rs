@@ -27,6 +27,10 @@ pub struct Args<'a> {
     pub first: Option<usize>,
     /// A page of an outline, from 1 on.
     pub page: usize,
+    /// The nodes where every other label loses the clearance, in place of changes.
+    pub robust: bool,
+    /// Nodes that may take one label alone, or none, are marked.
+    pub allowed: bool,
 }
 
 /// All options of a verb.
@@ -42,7 +46,8 @@ impl<'a> Args<'a> {
         let (name, rest) = words.split_first().ok_or_else(|| usage("a verb is missing: whatif-text help"))?;
         let verb = verb(name)?;
         let (words, files, colour) = (Vec::new(), Files::default(), Colour::Auto);
-        let mut args = Args { verb, words, files, bytes: false, json: false, colour, first: None, page: 1 };
+        let (bytes, json, robust, allowed) = (false, false, false, false);
+        let mut args = Args { verb, words, files, bytes, json, colour, first: None, page: 1, robust, allowed };
         if verb.own_options {
             args.words = rest.to_vec();
             return Ok(args);
@@ -67,8 +72,15 @@ impl<'a> Args<'a> {
             let what = format!("'{}' is no option of '{}'", name, self.verb.name);
             return Err(usage(what + &meant(nearest(name, known), self.verb.name)));
         }
-        if let "--bytes" | "--json" = name {
-            *(if name == "--json" { &mut self.json } else { &mut self.bytes }) = true;
+        let flag = match name {
+            "--bytes" => Some(&mut self.bytes),
+            "--json" => Some(&mut self.json),
+            "--robust" => Some(&mut self.robust),
+            "--allowed" => Some(&mut self.allowed),
+            _ => None,
+        };
+        if let Some(flag) = flag {
+            *flag = true;
             return value.map_or(Ok(()), |value| Err(usage(format!("'{}' takes no value: '{}'", name, value))));
         }
         let value = value.or_else(|| rest.next());

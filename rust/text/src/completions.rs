@@ -126,7 +126,7 @@ fn fish() -> String {
         }
         for option in all_options(verb) {
             let value = match option {
-                "--json" | "--bytes" => "",
+                "--json" | "--bytes" | "--robust" | "--allowed" => "",
                 "--colour" => " -x -a 'auto always never'",
                 option if takes_file(option) => " -r -F",
                 _ => " -x",

@@ -1,6 +1,6 @@
 //! `whatif-text dot` and `svg`: a small plan whole, with the parts of a question.
 
-use crate::drawing::{legend, Question};
+use crate::drawing::Question;
 use crate::loaded::Loaded;
 use crate::outcome::Failure;
 use crate::picture::{Edge, Picture, Stroke};
@@ -32,7 +32,7 @@ pub fn picture(question: &Question) -> Result<Picture, Failure> {
         }
     }
     let nodes = order.iter().map(|&v| question.node(v, changed.before(v), passed[v])).collect();
-    Ok(Picture { name: "plan", title: question.title(), nodes, edges, legend: legend() })
+    Ok(Picture { name: "plan", title: question.title(), nodes, edges, legend: question.legend() })
 }
 
 /// A tree's nodes: each before those below it, from left to right.

@@ -2,9 +2,10 @@
 //! those of the record after Start, states those of the library's runs.
 
 use crate::loaded::{Asked, Loaded};
-use crate::picture::{Look, Node, CHANGED, CLEARED, NOT_CLEARED, PLAIN, PLAIN_LOOK};
+use crate::picture::{Look, Node, CHANGED, CLEARED, NOT_CLEARED, NO_LABEL, ONE_LABEL, PLAIN, PLAIN_LOOK};
 use crate::questions::Change;
 use crate::sentences::{self, count};
+use whatif::LabelSet;
 
 /// A question with its answer, on a loaded plan.
 pub struct Question<'a> {
@@ -41,9 +42,13 @@ impl Question<'_> {
         let part = self.part(v).map_or(String::new(), |part| format!(", part {}", part + 1));
         let mut lines = vec![format!("node {}{}", v, part), label, sentences::state(before, after, names)];
         lines.extend(is_root.then(|| format!("the root: {}", sentences::verdict(self.asked.answer.yes))));
-        let fill = match (is_root, self.asked.answer.yes) {
-            (true, true) => CLEARED,
-            (true, false) => NOT_CLEARED,
+        let allowed = self.allowed(v);
+        lines.extend(allowed.filter(|labels| labels.len() <= 1).map(|labels| self.clears(labels)));
+        let fill = match (is_root, self.asked.answer.yes, allowed.map(LabelSet::len)) {
+            (true, true, _) => CLEARED,
+            (true, false, _) => NOT_CLEARED,
+            (_, _, Some(0)) => NO_LABEL,
+            (_, _, Some(1)) => ONE_LABEL,
             _ if before != after => CHANGED,
             _ => PLAIN,
         };
@@ -51,8 +56,36 @@ impl Question<'_> {
         let look = Look { fill, square: to.is_some(), double: self.part(v).is_some(), thick, light, point: false };
         let place = format!("depth {}, {} at and below it", loaded.node(v).depth, count(loaded.size(v), "node"));
         let passed = if light { ", passed over" } else { "" };
-        let tip = format!("{}; {}{}", lines.join(", "), place, passed);
+        let several = allowed.filter(|labels| labels.len() > 1);
+        let several = several.map_or(String::new(), |labels| format!("; {}", self.clears(labels)));
+        let tip = format!("{}; {}{}{}", lines.join(", "), place, passed, several);
         Node { lines, look, tip }
+    }
+
+    /// The labels that a node may take, where they are shown.
+    fn allowed(&self, v: usize) -> Option<LabelSet> {
+        self.asked.allowed.as_ref().map(|allowed| allowed[v])
+    }
+
+    fn clears(&self, labels: LabelSet) -> String {
+        let only = if labels.len() == 1 { "only " } else { "" };
+        let (labels, s) = sentences::labels(labels, self.loaded);
+        format!("{}{} clear{}", only, labels, s)
+    }
+
+    /// The looks, with those of the labels that nodes may take where they are shown.
+    pub fn legend(&self) -> Vec<(Look, &'static str)> {
+        let mut legend = legend();
+        if self.asked.allowed.is_some() {
+            legend[1].1 = "thick border, orange unless it is blue or grey: another state than before";
+            let [one, none] = [ONE_LABEL, NO_LABEL].map(|fill| Look { fill, ..PLAIN_LOOK });
+            legend.push((
+                one,
+                "blue, 'only label ..': with the changes made, no other label of the node clears the plan",
+            ));
+            legend.push((none, "filled grey, 'no label': with the changes made, no label of the node clears the plan"));
+        }
+        legend
     }
 }
 

@@ -33,7 +33,7 @@
 //! `nearest`, `verbs`, `args`, `help`, `completions` (the command line), `outcome` (what a verb writes, its status), `sentences`,
 //! `json`, `terminal` (colours), `loaded` (the library's session on an input), `progress`, `generator` (random trees and
 //! tables), `picture` and `svg` (any picture), `drawing` (what pictures of a question share); then a file a verb:
-//! `answer`, `outline`, `why`, `suggest`, `count`, `script` (session), `screens`, `over`, `branch` (by a
+//! `answer`, `outline`, `why` (with `repairs`), `suggest` (and `robust`), `count`, `script` (session), `screens`, `over`, `branch` (by a
 //! `branch_table`), `colours` (the same by colours), `stored` (build and check), `random`, `dot` (a small plan whole),
 //! `grids` (tables drawn), `agree` (a separating plan). Writing, showing, merging and choosing a picture are in this
 //! file.
@@ -68,6 +68,8 @@ pub mod planner;
 pub mod progress;
 pub mod questions;
 pub mod random;
+pub mod repairs;
+pub mod robust;
 pub mod rules;
 pub mod screens;
 pub mod script;
@@ -172,9 +174,21 @@ pub const DRAWN_WHOLE: usize = 100;
 /// The plan with the parts of one of the questions, counted from 1: whole where it is small and may be, else a page of its
 /// outline. The library is asked first.
 pub fn draw(input: &Input, number: usize, whole: bool, page: usize, how: Drawn) -> Result<String, Failure> {
-    let changes = input.question(number)?;
+    drawn(input, number, [whole, false], page, how)
+}
+
+/// The same with the nodes marked that may take one label alone, or none, with the changes made.
+pub fn draw_allowed(input: &Input, number: usize, whole: bool, page: usize, how: Drawn) -> Result<String, Failure> {
+    drawn(input, number, [whole, true], page, how)
+}
+
+fn drawn(input: &Input, number: usize, which: [bool; 2], page: usize, how: Drawn) -> Result<String, Failure> {
+    let ([whole, allowed], changes) = (which, input.question(number)?);
     let mut loaded = Loaded::of(input)?;
-    let asked = loaded.ask(changes)?;
+    let mut asked = loaded.ask(changes)?;
+    if allowed {
+        asked.allowed = Some(loaded.changed(changes)?.allowed()?);
+    }
     let question = Question { loaded: &loaded, asked: &asked, number, changes };
     match whole && loaded.nodes() <= DRAWN_WHOLE {
         true => Ok(dot::picture(&question)?.drawn(how)),

@@ -1,11 +1,12 @@
 //! A plan and its rules on a panel of the library: loaded once, then asked.
 
 use crate::input::Input;
+use crate::json::Object;
 use crate::names::Names;
 use crate::outcome::Failure;
 use crate::questions::Change;
 use crate::sentences::{list_refused, load_refused};
-use whatif::{Answer, Node, Panel, Plan, Refusal, Rules};
+use whatif::{Answer, LabelSet, Node, Panel, Plan, Refusal, Rules, StateSet};
 
 pub struct Loaded {
     pub panel: Panel,
@@ -17,6 +18,8 @@ pub struct Asked {
     pub answer: Answer,
     pub roots: Vec<usize>,
     pub states: Vec<u8>,
+    /// Where they are to be shown: the labels that each node may take, with the changes made.
+    pub allowed: Option<Vec<LabelSet>>,
 }
 
 impl Loaded {
@@ -71,7 +74,38 @@ impl Loaded {
     pub fn ask(&mut self, changes: &[Change]) -> Result<Asked, Failure> {
         let answer = self.panel.ask(changes).map_err(|refusal| self.list_refused(refusal, changes))?;
         let (roots, states) = self.panel.session().handled().map(|part| (usize::from(part.root), part.state)).unzip();
-        Ok(Asked { answer, roots, states })
+        Ok(Asked { answer, roots, states, allowed: None })
+    }
+
+    /// A question at once, where its parts are not looked at.
+    pub fn what_if(&self, changes: &[Change]) -> Result<Answer, Failure> {
+        self.panel.what_if(changes).map_err(|refusal| self.list_refused(refusal, changes))
+    }
+
+    /// For each node the labels with which the plan is cleared, all other nodes as they are.
+    pub fn allowed(&self) -> Result<Vec<LabelSet>, Failure> {
+        self.panel.allowed().map_err(Failure::refused)
+    }
+
+    /// For each node the states with which the plan is cleared, all else as it is.
+    pub fn clearing(&self) -> Result<Vec<StateSet>, Failure> {
+        self.panel.clearing().map_err(Failure::refused)
+    }
+
+    /// These nodes, or all where none is given.
+    pub fn these_or_all(&self, nodes: &[usize]) -> Result<Vec<usize>, Failure> {
+        let n = self.nodes();
+        match nodes.iter().find(|&&v| v >= n) {
+            Some(v) => Err(Failure::wrong(format!("there is no node {}: the plan's are 0 to {}", v, n - 1))),
+            None if nodes.is_empty() => Ok((0..n).collect()),
+            None => Ok(nodes.to_vec()),
+        }
+    }
+
+    /// The verdict on the plan as it is, as fields.
+    pub fn as_it_is(&self, object: Object) -> Object {
+        let object = object.truth("was_cleared", self.is_cleared());
+        object.state("was_state", self.before(self.nodes() - 1), &self.names)
     }
 
     /// The same plan with changes made, on a panel of its own: its states are those of the changed run.

@@ -66,7 +66,8 @@ fn answered(args: &Args) -> Result<Made, Failure> {
             text::why::of_question(&input()?, a_question(question)?, whole, json).map(Made::answered)
         }
         ("suggest", nodes) => {
-            text::suggest::of_nodes(&input()?, &numbers(nodes)?, args.first, json).map(Made::answered)
+            let of_nodes = if args.robust { text::robust::of_nodes } else { text::suggest::of_nodes };
+            of_nodes(&input()?, &numbers(nodes)?, args.first, json).map(Made::answered)
         }
         ("count", nodes) => text::count::of_nodes(&input()?, &numbers(nodes)?, json).map(Made::answered),
         ("over", [lower, upper]) => {
@@ -89,13 +90,14 @@ fn answered(args: &Args) -> Result<Made, Failure> {
 fn written(args: &Args) -> Result<Made, Failure> {
     let (words, files) = (&args.words[..], &args.files);
     let input = || files.read(&[]);
+    let draw = if args.allowed { text::draw_allowed } else { text::draw };
     let text = match (args.verb.name, words) {
         ("outline", [question, rest @ ..]) => {
             let how = one_of(rest.first().unwrap_or(&"dot"), &DRAWN)?;
-            text::draw(&input()?, a_question(question)?, false, args.page, how)
+            draw(&input()?, a_question(question)?, false, args.page, how)
         }
         (name @ ("dot" | "svg"), [question]) => {
-            text::draw(&input()?, a_question(question)?, true, args.page, one_of(name, &DRAWN)?)
+            draw(&input()?, a_question(question)?, true, args.page, one_of(name, &DRAWN)?)
         }
         ("rules", [word]) => {
             let (how, input) = (one_of(word, &DRAWN)?, input()?);

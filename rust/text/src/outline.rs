@@ -2,7 +2,7 @@
 //! 25 parts or 12 rows it has pages: a node with parts below it that stand on another page says on which.
 
 use crate::dot::from_the_top;
-use crate::drawing::{legend, Question};
+use crate::drawing::Question;
 use crate::loaded::Loaded;
 use crate::outcome::Failure;
 use crate::picture::{climbed, Edge as Line, Look, Node, Picture, Stroke, PLAIN_LOOK};
@@ -75,7 +75,7 @@ pub fn picture(question: &Question, page: usize) -> Result<Picture, Failure> {
         None => question.node(roots[i], question.asked.states[i], false),
     };
     let nodes = shown.iter().map(node).collect();
-    let mut explained = legend();
+    let mut explained = question.legend();
     explained[3].1 = "grey and dashed: a climb, or what stands on another page";
     Ok(Picture { name: "outline", title, nodes, edges: lines, legend: explained })
 }

@@ -1,12 +1,13 @@
 //! The words of answers and refusals.
 
 use crate::json::Object;
+use crate::loaded::Loaded;
 use crate::names::Names;
 use crate::outcome::{Failure, Refused};
 use crate::questions::Change;
 use whatif::layout::number;
 use whatif::sizes::plan_bytes;
-use whatif::{Answer, Refusal, Rules};
+use whatif::{Answer, LabelSet, Refusal, Rules, StateSet};
 
 /// `1 part`, `2 parts`.
 pub fn count(number: usize, what: &str) -> String {
@@ -55,9 +56,11 @@ pub fn changes(changes: &[Change]) -> String {
     }
 }
 
+/// So many of a long list stand in a sentence.
+const SHOWN: usize = 8;
+
 /// The same where it stands in a sentence: of a long one the first changes.
 pub fn question(number: usize, list: &[Change]) -> String {
-    const SHOWN: usize = 8;
     let more = list.len().saturating_sub(SHOWN);
     let rest = if more == 0 { String::new() } else { format!(" and {} more", more) };
     format!("question {}, {}{}", number, changes(&list[..list.len() - more]), rest)
@@ -69,6 +72,30 @@ pub fn state(before: u8, after: u8, names: &Names) -> String {
         format!("state {}, as before", names.state(after))
     } else {
         format!("state {} to {}", names.state(before), names.state(after))
+    }
+}
+
+/// `no label`, `label 3`, `labels 0, 3` or `every label`, and how a verb after it ends.
+pub fn labels(labels: LabelSet, loaded: &Loaded) -> (String, &'static str) {
+    let names = labels.iter().map(|label| loaded.names.label(label)).collect();
+    members("label", names, loaded.rules().labels())
+}
+
+/// The same of states.
+pub fn states(states: StateSet, loaded: &Loaded) -> (String, &'static str) {
+    let names = states.iter().map(|state| loaded.names.state(state)).collect();
+    members("state", names, loaded.rules().states())
+}
+
+/// Of more than eight the first ones.
+fn members(what: &str, names: Vec<String>, all: usize) -> (String, &'static str) {
+    let more = names.len().saturating_sub(SHOWN);
+    match names.len() {
+        0 => (format!("no {}", what), "s"),
+        1 => (format!("{} {}", what, names[0]), "s"),
+        some if some == all => (format!("every {}", what), "s"),
+        _ if more == 0 => (format!("{}s {}", what, names.join(", ")), ""),
+        _ => (format!("{}s {} and {} more", what, names[..SHOWN].join(", "), more), ""),
     }
 }
 

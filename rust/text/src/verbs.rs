@@ -61,7 +61,8 @@ const BRANCH: &str = "[TABLE] UPPER LOWER [all|dot|svg]";
 const BRANCH_MORE: &str =
     "TABLE is a branch table's file, text or bytes; it may be given by --branch FILE too. Of a long
 path the first and last nodes are told; all: every one; dot, svg: the path as a picture.";
-const PAGES: &str = "Above 25 parts or 12 rows an outline has pages; --page N is another one than the first.";
+const PAGES: &str = "Above 25 parts or 12 rows an outline has pages; --page N is another one than the first.
+--allowed: marked are the nodes that can take one label alone, changes made, and those that can take none.";
 
 /// In the order of the help.
 pub const ALL: &[Verb] = &[
@@ -70,22 +71,23 @@ pub const ALL: &[Verb] = &[
         .more("all: every step, also of long paths.")
         .answers().example("whatif-text why 4 < examples/sample.txt"),
     verb("suggest", "[NODE ..]", 0, ANY, "each single change that turns the verdict, as questions to paste")
-        .more("Of the whole plan, or of these nodes. --first N: the N nearest to the root alone; how many there are is said.")
-        .options(&["--first"])
+        .more("Of the whole plan, or of these nodes. --first N: the N nearest to the root alone; how many there are is said.
+--robust: the nodes of a cleared plan where every other label loses the clearance, nearest to the root first.")
+        .options(&["--first", "--robust"])
         .answers().example("whatif-text suggest 2 5 < examples/sample.txt"),
     verb("count", "[NODE ..]", 0, ANY, "how many choices of labels for these nodes end in each state, and one that clears")
         .answers().example("whatif-text count 0 2 < examples/sample.txt"),
     verb("outline", "QUESTION [dot|svg]", 1, 2, "the roots of the parts as a picture, with their states and climbs")
         .more(PAGES)
-        .options(&["--page"])
+        .options(&["--page", "--allowed"])
         .example("whatif-text outline 4 svg < examples/sample.txt > outline.svg"),
     verb("dot", "QUESTION", 1, 1, "the whole plan with the parts, for Graphviz; above 100 nodes the outline")
         .more(PAGES)
-        .options(&["--page"])
+        .options(&["--page", "--allowed"])
         .example("whatif-text dot 4 < examples/sample.txt > plan.gv"),
     verb("svg", "QUESTION", 1, 1, "the same picture as SVG, without Graphviz")
         .more(PAGES)
-        .options(&["--page"])
+        .options(&["--page", "--allowed"])
         .example("whatif-text svg 4 < examples/sample.txt > plan.svg"),
     verb("rules", "dot|svg", 1, 1, "the rule table as a picture: a grid for each label")
         .example("whatif-text rules svg < examples/sample.txt > rules.svg"),

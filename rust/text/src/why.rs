@@ -1,10 +1,12 @@
-//! `whatif-text why`: the states along the path from each changed node, until they rejoin the old run.
+//! `whatif-text why`: the states along the path from each changed node, until they rejoin the old run; and with which
+//! states and labels of a node the plan would be cleared, in repairs.rs.
 
 use crate::input::Input;
 use crate::json::Object;
 use crate::loaded::Loaded;
 use crate::outcome::Failure;
 use crate::questions::Change;
+use crate::repairs::Repairs;
 use crate::sentences::{self, count};
 use std::collections::BTreeSet;
 
@@ -16,27 +18,26 @@ const LAST: usize = 2;
 /// Of one of the questions, counted from 1; every step where `whole`.
 pub fn of_question(input: &Input, question: usize, whole: bool, json: bool) -> Result<String, Failure> {
     let list = input.question(question)?;
-    let mut loaded = Loaded::of(input)?;
-    let answer = loaded.ask(list)?.answer;
+    let loaded = Loaded::of(input)?;
+    let answer = loaded.what_if(list)?;
     let changed = loaded.changed(list)?;
     let root = loaded.nodes() - 1;
     if changed.before(root) != answer.state {
         return Err(Failure::wrong("a fault of whatif-text: the changed plan's run and the library's answer differ"));
     }
+    let repairs = Repairs::of(&changed, list)?;
     let paths = Paths { loaded: &loaded, changed: &changed, list, whole, told: BTreeSet::new() };
     if json {
         let asked = Object::new()
             .count("question", question)
             .changes("changes", list, &input.names)
             .answer(&answer, &input.names);
-        let asked =
-            asked.truth("was_cleared", loaded.is_cleared()).state("was_state", loaded.before(root), &input.names);
-        return Ok(asked.line() + &paths.objects());
+        return Ok(repairs.fields(loaded.as_it_is(asked)).line() + &paths.objects());
     }
     let was = sentences::verdict(loaded.is_cleared());
     let (said, before) = (sentences::answer(&answer, &input.names), input.names.state(loaded.before(root)));
     let head = format!("{}: {}\nas it is: {}, state {}\n", sentences::question(question, list), said, was, before);
-    Ok(head + &paths.all())
+    Ok(head + &paths.all() + &repairs.text())
 }
 
 struct Paths<'a> {

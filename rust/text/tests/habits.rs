@@ -70,6 +70,11 @@ fn usage_errors() {
         (&["answer", "--json=yes"], "'--json' takes no value: 'yes'"),
         (&["answer", "--colour", "allways"], "'allways' is none of auto, always, never; did you mean 'always'?"),
         (&["suggest", "--first", "few"], "--first few: this is no number"),
+        (&["suggest", "--robust=yes"], "'--robust' takes no value: 'yes'"),
+        (
+            &["dot", "1", "--alowed"],
+            "'--alowed' is no option of 'dot'; did you mean '--allowed'? (whatif-text help dot)",
+        ),
         (&["answer", "2"], "'2' is one word too many: 'answer' takes no words"),
         (&["why"], "'why' needs more words: whatif-text why QUESTION [all]"),
         (&["why", "2", "al"], "'al' is none of all; did you mean 'all'?"),
@@ -113,6 +118,10 @@ fn json() {
           'state': 0, 'parts': 2, 'links': 1, 'passed': 1} and o[6]['refused'] == 13 and o[6]['about'].startswith('node 7')"),
         (&["why", "4"], 0, "o[0]['was_cleared'] and not o[0]['cleared'] and [x['node'] for x in o[1:]] == [0, 2, 3, 5, 6] \
           and o[1] == {'node': 0, 'label': 1, 'to': 0, 'before': 1, 'after': 0, 'root': False} and o[5]['root']"),
+        (&["why", "2"], 0, "o[0]['listed'] == [{'node': 0, 'clearing': [1], 'allowed': [1]}] and o[0]['repairs'] == 3 \
+          and o[0]['nearest'][0]['node'] == 6"),
+        (&["suggest", "--robust"], 0, "o[0] == {'was_cleared': True, 'was_state': 1, 'nodes': 7, 'fragile': 4, 'told': 4} \
+          and [x['node'] for x in o[1:]] == [5, 0, 1, 4] and o[1] == {'node': 5, 'label': 0, 'depth': 1}"),
         (&["suggest"], 0, "o[0]['turn'] == 4 == len(o) - 1 and o[0]['tried'] == 7 and {'node': 5, 'label': 1, 'depth': 1} in o"),
         (&["count", "0", "2"], 0, "o[0]['choices'] == 4 and o[0]['clearing'] == 3 and o[0]['choice'] == \
           [{'node': 0, 'label': 1}, {'node': 2, 'label': 1}] and o[2] == {'state': 1, 'choices': 3, 'cleared': True}"),
@@ -216,6 +225,8 @@ fn completions() {
             };
             assert_eq!(offered("sugg", 1), "suggest");
             assert_eq!(offered("suggest --fi", 2), "--first");
+            assert_eq!(offered("suggest --ro", 2), "--robust");
+            assert_eq!(offered("svg 4 --al", 3), "--allowed");
             assert_eq!(offered("answer --colour a", 3), "auto always");
             assert_eq!(offered("branch t 6 4 sv", 5), "svg");
             assert_eq!(offered("random --sh", 2), "--shape");

@@ -1,6 +1,7 @@
 //! The pictures of plan A's questions: the same words and looks for Graphviz and as SVG, states before and after, the
 //! verdict at the root; and the library is asked first.
 
+use reference::fresh::fresh_run;
 use text::input::Input;
 use text::outcome::Failure;
 use text::picture::Drawn;
@@ -80,6 +81,51 @@ fn what_cannot_be_drawn_is_said() {
     assert_eq!(drawn(10, Drawn::Dot), wrong("there is no question 10: the input has 9"));
     let line = Input::of_text("plan\nleaf x\nquestions\nnone").err().expect("no number");
     assert_eq!(line, Failure::wrong("line 2: 'x' is not a number from 0 to 255"));
+}
+
+/// Where it is asked for, a node that can take one label alone or none says so, by single runs with the changes made; and
+/// the legend says what that is. The root keeps the colour of the verdict.
+#[test]
+fn labels_that_nodes_may_take() {
+    let small = "--nodes 31 --shape random --states 4 --labels 3 --changes 2 --questions 4 --seed 5";
+    let arch = "--nodes 61471 --shape arch --seed 6 --questions 2";
+    let mut inputs = vec![Input::of_text(SAMPLE).unwrap()];
+    for words in [small, arch] {
+        let words: Vec<&str> = words.split(' ').collect();
+        inputs.push(Input::of_text(&text::random::text(&words).unwrap().unwrap()).unwrap());
+    }
+    let mut marked = [0; 3];
+    for (input, k) in inputs.iter().zip([2, 3, 4]) {
+        for question in [1, 2, 3, 4].iter().copied().filter(|&question| question <= input.questions.len()) {
+            let [graphviz, svg] =
+                [Drawn::Dot, Drawn::Svg].map(|how| text::draw_allowed(input, question, true, 1, how).unwrap());
+            let list = &input.questions[question - 1];
+            for node in nodes(&graphviz) {
+                let v: u16 = node.split("node ").nth(1).unwrap().split([',', ' ']).next().unwrap().parse().unwrap();
+                let clears = |label: &u8| {
+                    let changes = list.iter().copied().chain([(v, *label)]);
+                    let (nodes, labels): (Vec<u16>, Vec<u8>) = changes.unzip();
+                    fresh_run(&input.plan, &input.rules, &nodes, &labels).unwrap().yes
+                };
+                let labels: Vec<u8> = (0..k).filter(clears).collect();
+                let (words, fill) = match labels[..] {
+                    [] => ("no label clears\"".to_string(), "#d0d0d0"),
+                    [label] => (format!("only label {} clears\"", label), "#b9d7f5"),
+                    _ => (String::new(), ""),
+                };
+                assert_eq!(node.contains(" clears\""), labels.len() <= 1, "{}", node);
+                assert!(node.contains(&words) && (node.contains(fill) || node.contains("the root: ")), "{}", node);
+                assert!(words.is_empty() || svg.contains(&format!(">{}<", words.trim_end_matches('"'))), "{}", svg);
+                marked[labels.len().min(2)] += 1;
+            }
+            for words in ["only label ..", "no label"] {
+                assert!(svg.contains(words) && graphviz.contains(words), "the legend: {}", words);
+            }
+            let plain = text::draw(input, question, true, 1, Drawn::Svg).unwrap();
+            assert!(!plain.contains("clears") && !plain.contains("#b9d7f5") && !plain.contains("#d0d0d0"));
+        }
+    }
+    assert!(marked.iter().all(|&number| number > 5), "{:?}", marked);
 }
 
 /// 64 changes on the most nodes: every part is on exactly one page, no page has too many, and pages are named.

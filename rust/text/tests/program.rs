@@ -74,9 +74,11 @@ fn the_page() {
     }
     let answers = include_str!("stored/answer");
     let shown: Vec<&str> = page.lines().filter_map(|line| line.strip_prefix("    question ")).collect();
-    assert_eq!(shown.len(), 3);
+    assert_eq!(shown.len(), 4);
     assert!(shown.iter().all(|line| answers.contains(&format!("question {}\n", line))), "{:?}", shown);
-    for stored in [include_str!("stored/count-0-2"), include_str!("stored/colours-6-4")] {
+    let [count, colours] = [include_str!("stored/count-0-2"), include_str!("stored/colours-6-4")];
+    let [why, robust] = [include_str!("stored/why-2"), include_str!("stored/suggest-robust")];
+    for stored in [count, colours, why, robust] {
         let told = stored.trim_end_matches("status 0\n");
         let shown: Vec<String> = told.lines().map(|line| format!("    {}", line).trim_end().to_string()).collect();
         assert!(page.contains(&shown.join("\n")), "{:?}", shown);

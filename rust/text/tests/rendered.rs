@@ -103,8 +103,10 @@ fn whole_plans() {
     }
     for shape in ["arch", "comb", "balanced", "random"] {
         let input = of(&format!("--nodes 99 --shape {} --questions 2", shape));
-        let [dot, ours] = [Drawn::Dot, Drawn::Svg].map(|how| text::draw(&input, 2, true, 1, how).unwrap());
-        rendered(&dot, &ours, true);
+        for draw in [text::draw, text::draw_allowed] {
+            let [dot, ours] = [Drawn::Dot, Drawn::Svg].map(|how| draw(&input, 2, true, 1, how).unwrap());
+            rendered(&dot, &ours, true);
+        }
     }
 }
 

@@ -23,6 +23,11 @@ fn on_the_sample() {
     holds("why-4", &["why", "4"], SAMPLE);
     holds("suggest", &["suggest"], SAMPLE);
     holds("suggest-nodes", &["suggest", "2", "5"], SAMPLE);
+    holds("suggest-robust", &["suggest", "--robust"], SAMPLE);
+    holds("suggest-robust-nodes", &["suggest", "--robust", "2", "5", "6"], SAMPLE);
+    holds("suggest-robust-not-cleared", &["suggest", "--robust"], &SAMPLE.replace("accept 1", "accept 0"));
+    holds("dot-2-allowed", &["dot", "2", "--allowed"], SAMPLE);
+    holds("outline-4-allowed", &["outline", "4", "--allowed"], SAMPLE);
     holds("outline-4", &["outline", "4"], SAMPLE);
     holds("session", &["session", SCRIPT], SAMPLE);
     holds("screens", &["screens", SCREENS], SAMPLE);
@@ -96,6 +101,7 @@ fn bytes_are_taken_like_text() {
         &["answer"][..],
         &["why", "4"],
         &["suggest"],
+        &["suggest", "--robust"],
         &["outline", "4"],
         &["dot", "4"],
         &["session", SCRIPT],
@@ -118,6 +124,7 @@ fn on_a_full_arch() {
     holds("arch-outline", &["dot", "1"], &arch);
     holds("arch-why", &["why", "1"], &arch);
     holds("arch-suggest", &["suggest", "61470", "30735"], &arch);
+    holds("arch-robust", &["suggest", "--robust", "--first", "5"], &arch);
     holds("arch-count", &["count", "0", "7000", "14000", "21000", "28000", "35000", "42000", "49000"], &arch);
 }
 
