@@ -9,8 +9,8 @@ pub const CLEARED: &str = "#9ed89e";
 pub const NOT_CLEARED: &str = "#f2a0a0";
 pub const CHANGED: &str = "#ffdca8";
 /// One label alone is allowed; none is.
-pub const ONE_LABEL: &str = "#b9d7f5";
-pub const NO_LABEL: &str = "#d0d0d0";
+pub const ONE_LABEL: &str = "#cfe4fa";
+pub const NO_LABEL: &str = "#dddddd";
 pub const PLAIN: &str = "#ffffff";
 /// What is passed over, drawn lightly.
 pub const LIGHT: &str = "#999999";

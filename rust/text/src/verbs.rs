@@ -68,7 +68,7 @@ const PAGES: &str = "Above 25 parts or 12 rows an outline has pages; --page N is
 pub const ALL: &[Verb] = &[
     verb("answer", "", 0, 0, "a sentence for each question").answers().example("whatif-text answer < examples/sample.txt"),
     verb("why", "QUESTION [all]", 1, 2, "the states from each changed node up, until they rejoin the old run")
-        .more("all: every step, also of long paths.")
+        .more("all: every step, also of long paths. Last: which states and labels would clear the plan, and where.")
         .answers().example("whatif-text why 4 < examples/sample.txt"),
     verb("suggest", "[NODE ..]", 0, ANY, "each single change that turns the verdict, as questions to paste")
         .more("Of the whole plan, or of these nodes. --first N: the N nearest to the root alone; how many there are is said.

@@ -109,8 +109,8 @@ fn labels_that_nodes_may_take() {
                 };
                 let labels: Vec<u8> = (0..k).filter(clears).collect();
                 let (words, fill) = match labels[..] {
-                    [] => ("no label clears\"".to_string(), "#d0d0d0"),
-                    [label] => (format!("only label {} clears\"", label), "#b9d7f5"),
+                    [] => ("no label clears\"".to_string(), "#dddddd"),
+                    [label] => (format!("only label {} clears\"", label), "#cfe4fa"),
                     _ => (String::new(), ""),
                 };
                 assert_eq!(node.contains(" clears\""), labels.len() <= 1, "{}", node);
@@ -122,7 +122,7 @@ fn labels_that_nodes_may_take() {
                 assert!(svg.contains(words) && graphviz.contains(words), "the legend: {}", words);
             }
             let plain = text::draw(input, question, true, 1, Drawn::Svg).unwrap();
-            assert!(!plain.contains("clears") && !plain.contains("#b9d7f5") && !plain.contains("#d0d0d0"));
+            assert!(!plain.contains("clears") && !plain.contains("#cfe4fa") && !plain.contains("#dddddd"));
         }
     }
     assert!(marked.iter().all(|&number| number > 5), "{:?}", marked);

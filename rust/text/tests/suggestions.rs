@@ -103,7 +103,7 @@ fn as_single_runs(input: &Input, text: &str, runs: usize) {
     let suggested: BTreeSet<&str> = text.lines().collect();
     let (n, k, now) = (loaded.nodes(), loaded.rules().labels(), clears(input, &[]));
     let mut turned = 0;
-    for i in (0..n * k).step_by(n * k / runs | 1) {
+    for i in (0..n * k).step_by((n * k / runs) | 1) {
         let (v, label) = ((i / k) as u16, (i % k) as u8);
         let turns = clears(input, &[(v, label)]) != now;
         assert_eq!(suggested.contains(&format!("{}->{}", v, label)[..]), turns, "{}->{}", v, label);
@@ -179,7 +179,7 @@ fn states_and_labels_of_why() {
     for seed in 0..24 {
         let rules = ["lasting", "random"][seed % 2];
         let words =
-            format!("--nodes 41 --shape random --rules {} --states 5 --labels 3 --changes 4 --seed {}", rules, seed);
+            format!("--nodes 41 --shape random --rules {} --states 5 --labels 2 --changes 4 --seed {}", rules, seed);
         let input = input(&words);
         let loaded = Loaded::new(&input.plan, &input.rules).unwrap();
         for (i, list) in input.questions.iter().enumerate() {
@@ -187,7 +187,7 @@ fn states_and_labels_of_why() {
             let told = |v: usize| {
                 let states = numbers((0..5).filter(|&state| clears_with(&changed, v, state)));
                 let labels =
-                    numbers((0..3).filter(|&label| clears(&input, &[&list[..], &[(v as u16, label)]].concat())));
+                    numbers((0..2).filter(|&label| clears(&input, &[&list[..], &[(v as u16, label)]].concat())));
                 format!("{{\"node\":{},\"clearing\":[{}],\"allowed\":[{}]}}", v, states, labels)
             };
             let listed: BTreeSet<usize> = list.iter().map(|change| change.0.into()).collect();
