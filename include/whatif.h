@@ -78,10 +78,10 @@
 extern "C" {
 #endif
 
-/* This header's version, as text and as major * 10000 + minor * 100 + patch. whatif_version() is the archive's: before
- * 1.0 a program is to use both of one minor version. */
-#define WHATIF_VERSION "0.9.0"
-#define WHATIF_VERSION_NUMBER 900u
+/* This header's version, as text and as major * 10000 + minor * 100 + patch. whatif_version() is the archive's. Semantic
+ * versioning: an archive serves a program that was compiled with a header of the same major version that is not newer. */
+#define WHATIF_VERSION "1.0.0"
+#define WHATIF_VERSION_NUMBER 10000u
 
 /* Limits: nodes of a plan (1 to), states and labels of a table (1 to), changes in a list (0 to). */
 #define WHATIF_MAX_NODES 65535u

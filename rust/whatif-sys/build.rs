@@ -5,8 +5,8 @@
 //! 3. by pkg-config, where it is installed.
 //!
 //! libwhatif.a is linked where it is there, else libwhatif.so; `WHATIF_LINK`, `static` or `shared`, asks for one of
-//! them. A library of another minor version ends the build. Without a library there is a warning: `cargo check` and
-//! `cargo doc` need none, and a program fails when it is linked.
+//! them. A library of another major version or an older one ends the build. Without a library there is a warning:
+//! `cargo check` and `cargo doc` need none, and a program fails when it is linked.
 
 #[path = "find.rs"]
 mod find;

@@ -78,16 +78,17 @@ fn said_by_pkg_config(word: &str) -> Option<String> {
     Some(said.trim().to_string()).filter(|_| done.status.success())
 }
 
-/// "Before 1.0 a program is to use both of one minor version": may a library of this version be linked?
+/// By semantic versioning, may a library of this version be linked: is it of the same major version, and not older?
 pub fn may_link(version: &str) -> Result<(), String> {
-    if minor(version) == minor(OWN_VERSION) {
+    let (theirs, own) = (numbers(version), numbers(OWN_VERSION));
+    if theirs.len() == 3 && theirs[0] == own[0] && theirs >= own {
         return Ok(());
     }
-    let why = "before 1.0 both are to be of one minor version";
+    let why = "it must be of the same major version, and not older";
     Err(format!("the library is version {}, and this crate is for {}: {}", version, OWN_VERSION, why))
 }
 
-/// `0.9` of `0.9.0`.
-fn minor(version: &str) -> Vec<&str> {
-    version.split('.').take(2).collect()
+/// Major, minor and patch; fewer where the text is no version.
+fn numbers(version: &str) -> Vec<u32> {
+    version.split('.').map_while(|number| number.parse().ok()).collect()
 }

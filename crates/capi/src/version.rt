@@ -2,8 +2,8 @@
 ghost use mathlib.Core.Path.{_≡_};
 ghost use Rattle.capi.specs.version.Version.{versionNumber};
 
-// Release 0.9.0, as major * 10000 + minor * 100 + patch.
-pub const VERSION: u32 = 900;
+// Release 1.0.0, as major * 10000 + minor * 100 + patch.
+pub const VERSION: u32 = 10000;
 
 // The version of the archive.
 #[no_mangle]

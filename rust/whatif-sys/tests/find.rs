@@ -18,7 +18,7 @@ impl Folder {
         for file in files {
             let file = path.join(file);
             fs::create_dir_all(file.parent().unwrap()).unwrap();
-            fs::write(file, "Name: whatif\nVersion: 0.9.0\n").unwrap();
+            fs::write(file, "Name: whatif\nVersion: 1.0.0\n").unwrap();
         }
         Folder(path)
     }
@@ -37,7 +37,7 @@ fn found(folder: &Path, link: Link, version: Option<&str>) -> Option<Found> {
 #[test]
 fn the_static_library_before_the_shared_one() {
     let both = Folder::with("both", &["libwhatif.a", "libwhatif.so", "whatif.pc"]);
-    let version = Some("0.9.0");
+    let version = Some("1.0.0");
     assert_eq!(in_folder(&both.0, None), found(&both.0, Link::Static, version));
     assert_eq!(in_folder(&both.0, Some(Link::Static)), found(&both.0, Link::Static, version));
     assert_eq!(in_folder(&both.0, Some(Link::Shared)), found(&both.0, Link::Shared, version));
@@ -47,7 +47,7 @@ fn the_static_library_before_the_shared_one() {
 #[test]
 fn one_of_them_alone() {
     let shared = Folder::with("shared", &["libwhatif.so", "pkgconfig/whatif.pc"]);
-    assert_eq!(in_folder(&shared.0, None), found(&shared.0, Link::Shared, Some("0.9.0")));
+    assert_eq!(in_folder(&shared.0, None), found(&shared.0, Link::Shared, Some("1.0.0")));
     assert_eq!(in_folder(&shared.0, Some(Link::Static)), None);
     let bare = Folder::with("bare", &["libwhatif.a"]);
     assert_eq!(in_folder(&bare.0, None), found(&bare.0, Link::Static, None));
@@ -67,16 +67,20 @@ fn the_word_of_whatif_link() {
     assert!(wanted(Some("dynamic")).unwrap_err().contains("'dynamic'"));
 }
 
-/// Another patch is taken, another minor or major version is not, nor one whose number only begins alike.
+/// A later patch or minor version is taken. Another major version or an older one is not, nor what is no version.
 #[test]
 fn versions() {
     assert_eq!(may_link(OWN_VERSION), Ok(()));
     let numbers: Vec<u32> = OWN_VERSION.split('.').map(|number| number.parse().unwrap()).collect();
     assert_eq!(may_link(&format!("{}.{}.99", numbers[0], numbers[1])), Ok(()));
+    assert_eq!(may_link(&format!("{}.{}.0", numbers[0], numbers[1] + 1)), Ok(()));
     for other in [
-        format!("{}.{}.0", numbers[0], numbers[1] + 1),
-        format!("{}.{}0.0", numbers[0], numbers[1]),
+        format!("{}.99.99", numbers[0] - 1),
         format!("{}.{}.0", numbers[0] + 1, numbers[1]),
+        format!("{}0.{}.0", numbers[0], numbers[1]),
+        format!("{}.{}", numbers[0], numbers[1]),
+        format!("{}.{}.x", numbers[0], numbers[1]),
+        format!("{}.{}.0.1", numbers[0], numbers[1]),
         String::new(),
     ] {
         assert!(may_link(&other).unwrap_err().contains(OWN_VERSION), "{}", other);
@@ -92,10 +96,7 @@ fn pkg_config() {
         assert_eq!(by_pkg_config(None), there);
         return;
     }
-    if Command::new("pkg-config").arg("--version").output().is_err() {
-        eprintln!("NOT TRIED: pkg-config is not there");
-        return;
-    }
+    assert!(Command::new("pkg-config").arg("--version").output().is_ok(), "this test needs pkg-config (Debian's pkgconf)");
     let text = format!("Name: whatif\nDescription: x\nVersion: {}\nLibs: -L${{pcfiledir}} -lwhatif\n", OWN_VERSION);
     let (whole, empty) = (Folder::with("pc", &["libwhatif.a", "whatif.pc"]), Folder::with("no-pc", &["other"]));
     fs::write(whole.0.join("whatif.pc"), text).unwrap();

@@ -143,7 +143,7 @@ struct Readme;
 pub const VERSION: &str = env!("CARGO_PKG_VERSION");
 
 /// This crate's version, as major * 10000 + minor * 100 + patch: that of the library it is made for.
-pub const VERSION_NUMBER: u32 = 900;
+pub const VERSION_NUMBER: u32 = 10000;
 
 /// The version of the library that is linked. The build compares it too, where the library comes with a pkg-config
 /// file.
