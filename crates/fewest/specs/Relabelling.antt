@@ -6,12 +6,16 @@
 -- Relabelling k may t u == u is the tree t with such other labels: the same kinds
 -- changedNodes v ls bs, changedLabels ls bs == the list of changes that makes bs of ls: nodes, rising from v on, and their labels
 --
+-- everyLabel == the set of all labels below 64
+-- stockOf may v == the set of labels that node v may take, of a list with one for each node; all where it is empty
+--
 -- Of lists that are not of one length only the places that both have count.
 use Prim.Native.Nat.{ℕ, _+_}
 use mathlib.Core.Path.{_≡_}
 use mathlib.Core.Bool.{Bool, true, cond, _&&_, _||_}
 use mathlib.Core.List.{List, [], _∷_}
 use lib.Dec.{eqb, ltb}
+use lib.ListN.{length, getD}
 use Rattle.trees.specs.Tree.{Tree, kindsOf, labelsOf}
 
 -- 1 where the labels differ

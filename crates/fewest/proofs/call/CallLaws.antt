@@ -79,8 +79,15 @@ module _ {p r may : List ℕ} {n s k work nodes labels : ℕ} (a : PlanArgs p r 
       let h : PlanPasses p = rule-table-passes p r (a .call .passed) .0 in
       let E : FewestWritten (kindsIn p) (labelsIn p) (leafStates r) (innerStates r) (ruleMarks r) may (stateCount r) (labelCount r) mark
       W N L x W′ N′ L′ least =
-      rw (← kinds-is (a .call) c ec, ← labels-is (a .call) c ec, ← leaves-is (a .call) c ec, ← inner-is (a .call) c ec,
-      ← marks-is (a .call) c ec, ← a .call .states-are, ← a .call .labels-are) D in
+      rw (
+        ← kinds-is (a .call) c ec,
+        ← labels-is (a .call) c ec,
+        ← leaves-is (a .call) c ec,
+        ← inner-is (a .call) c ec,
+        ← marks-is (a .call) c ec,
+        ← a .call .states-are,
+        ← a .call .labels-are,
+      ) D in
       E (planTree p) (kinds-planTree p h) (labels-planTree p h)
 
 -- ---- the tests of checks 17 and 11

@@ -1,6 +1,6 @@
 // The root: the least cost over the states whose mark is wanted, and the first state that has it.
-use crate::rows::relax::lesser;
 use crate::rows::NO_WAY;
+use crate::rows::relax::lesser;
 ghost use mathlib.Core.Path.{_≡_};
 ghost use Prim.Native.Nat.{_<_};
 ghost use lib.Dec.{eqb};

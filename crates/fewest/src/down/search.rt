@@ -1,7 +1,7 @@
 // The first way into a state at its cost: left state, right state and label.
+use crate::rows::NO_WAY;
 use crate::rows::relax::change_cost;
 use formats::rules::rule;
-use crate::rows::NO_WAY;
 ghost use mathlib.Core.Path.{_≡_};
 ghost use mathlib.Core.Bool.{true};
 ghost use Prim.Native.Nat.{_+_, _<_};

@@ -1,8 +1,8 @@
 // The least number of changes, and the list of changes.
-use crate::list::entries::list_changes;
 use crate::down::labels::labels_down;
 use crate::down::root::root_least;
 use crate::down::root::root_state;
+use crate::list::entries::list_changes;
 use crate::passes::up::costs_up;
 use formats::limits::CHANGE_LIMIT;
 ghost use mathlib.Core.Path.{_≡_};

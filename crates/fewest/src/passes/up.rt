@@ -1,9 +1,9 @@
 // The pass up: each node's size and costs, in rising node number.
 use crate::passes::cells::put_row;
 use crate::passes::cells::stock;
+use crate::rows::NO_WAY;
 use crate::rows::leaves::relax_leaf;
 use crate::rows::relax::relax_left;
-use crate::rows::NO_WAY;
 use formats::limits::STATE_LIMIT;
 ghost use mathlib.Core.Path.{_≡_};
 ghost use Prim.Native.Nat.{_-_, _≤_};

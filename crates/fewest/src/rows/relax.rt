@@ -1,6 +1,6 @@
 // An inner node's row, way by way: the cost of a state is lowered to that of each way into it.
-use formats::rules::rule;
 use crate::rows::NO_WAY;
+use formats::rules::rule;
 ghost use mathlib.Core.Path.{_≡_};
 ghost use Prim.Native.Nat.{_≤_, _<_, min};
 ghost use Rattle.state_sets.specs.StateSets.{member};
