@@ -2,25 +2,25 @@
 --     one-is-allowed   where the least number is 1, the change that is told is a bit of the masks
 --     allowed-is-one   where a bit of the masks is 1, and the change is permitted, the least number is at most 1
 -- So a panel may ask for the masks first: a plan that is not cleared has a way of one change exactly where some permitted bit is 1.
-use Prim.Native.Nat.{ℕ, zero, suc, _+_, _≤_, _<_}
+use Prim.Native.Nat.{ℕ, _+_, _≤_, _<_}
 use mathlib.Core.Path.{_≡_, refl, sym, ap, ap₂, _∙_, subst}
-use mathlib.Core.Bool.{Bool, true, false, _&&_, _||_}
+use mathlib.Core.Bool.{true}
 use mathlib.Core.List.{List, [], _∷_}
 use native.Mathlib.Decide.{decLt}
 use native.Mathlib.Omega.{arith}
-use lib.Dec.{ltb, eqb}
+use lib.Dec.{ltb}
 use lib.ListN.{length, getD, set, take}
-use borrow.Author.Tests.{eq-eqb, ltb-true, lt-ltb}
+use borrow.Author.Tests.{ltb-true}
 use Rattle.list_laws.specs.Tests.{allBelow}
-use Rattle.list_laws.proofs.BoolLaws.{and-left, and-right, and-both, or-first, or-second}
+use Rattle.list_laws.proofs.BoolLaws.{and-left}
 use Rattle.trees.specs.Tree.{Tree, size, kindsOf, labelsOf}
-use Rattle.trees.specs.Automaton.{Automaton, accepts}
+use Rattle.trees.specs.Automaton.{accepts}
 use Rattle.trees.specs.Postorder.{treeOf}
 use Rattle.trees.specs.Changes.{changed}
 use Rattle.trees.proofs.NodeLaws.{length-labels, length-kinds}
 use Rattle.trees.proofs.PostorderLaws.{tree-postorder, treeOf-kinds, treeOf-labels}
 use Rattle.trees.proofs.RunLaws.{changed-length}
-use Rattle.formats.specs.Plan.{nodeCount, labelsIn, kindsIn, planTree}
+use Rattle.formats.specs.Plan.{nodeCount, labelsIn, planTree}
 use Rattle.formats.specs.Rules.{labelCount, ruleAutomaton}
 use Rattle.formats.specs.Passing.{PlanPasses}
 use Rattle.formats.proofs.RuleLaws.{RulesPass}
@@ -30,9 +30,9 @@ use Rattle.state_sets.specs.StateSets.{member}
 use Rattle.runs.specs.FreshRun.{rootAccepted}
 use Rattle.allowed.specs.Answers.{AllowedDone}
 use Rattle.capi.proofs.allowed_calls.Theorems.{mask-is-the-run}
-use Rattle.fewest.specs.Relabelling.{differences, mayTake, permitted, Relabelling}
-use Rattle.fewest.proofs.costs.ListLaws.{differences-changed}
-use Rattle.fewest.specs.Answers.{wantedAutomaton, mayBe, ListTold, LeastTold, FewestTold}
+use Rattle.fewest.specs.Relabelling.{differences, permitted, Relabelling}
+use Rattle.fewest.proofs.costs.ListLaws.{differences-changed, permitted-set}
+use Rattle.fewest.specs.Answers.{wantedAutomaton, mayBe, ListTold, FewestTold}
 use Rattle.fewest.proofs.call.CallLaws.{table-yes}
 use Rattle.fewest.proofs.Theorems.{cleared-is, list-is-the-run}
 
@@ -44,30 +44,6 @@ one-of (x ∷ xs) e = refl
 first-below : (n x : ℕ) → allBelow n (x ∷ []) ≡ true → x < n
 unfolding allBelow
 first-below n x e = ltb-true x n (and-left (ltb x n) true e)
-
--- one permitted change is a permitted relabelling
-permitted-self : (k : ℕ) (may : ℕ → ℕ → Bool) (w : ℕ) (ls : List ℕ) → allBelow k ls ≡ true → permitted k may w ls ls ≡ true
-unfolding permitted allBelow
-permitted-self k may w [] h = refl
-permitted-self k may w (a ∷ ls) h =
-    and-both (mayTake k may w a a) (permitted k may (w + 1) ls ls)
-    (and-both (ltb a k) (eqb a a || may w a) (and-left (ltb a k) (allBelow k ls) h) (or-first (eqb a a) (may w a) (eq-eqb a a refl)))
-    (permitted-self k may (w + 1) ls (and-right (ltb a k) (allBelow k ls) h))
-
-permitted-set : (k : ℕ) (may : ℕ → ℕ → Bool) (w : ℕ) (ls : List ℕ) (v b : ℕ) → allBelow k ls ≡ true → b < k → may (w + v) b ≡ true
-    → permitted k may w ls (set ls v b) ≡ true
-unfolding permitted allBelow
-permitted-set k may w [] v b h l m = refl
-permitted-set k may w (a ∷ ls) zero b h l m =
-    let z : w + 0 ≡ w = omega arith in
-    and-both (mayTake k may w a b) (permitted k may (w + 1) ls ls)
-    (and-both (ltb b k) (eqb a b || may w b) (lt-ltb b k l) (or-second (eqb a b) (may w b) (ap (λ (x : ℕ). may x b) (sym z) ∙ m)))
-    (permitted-self k may (w + 1) ls (and-right (ltb a k) (allBelow k ls) h))
-permitted-set k may w (a ∷ ls) (suc v) b h l m =
-    let z : w + 1 + v ≡ w + suc v = omega arith in
-    and-both (mayTake k may w a a) (permitted k may (w + 1) ls (set ls v b))
-    (and-both (ltb a k) (eqb a a || may w a) (and-left (ltb a k) (allBelow k ls) h) (or-first (eqb a a) (may w a) (eq-eqb a a refl)))
-    (permitted-set k may (w + 1) ls v b (and-right (ltb a k) (allBelow k ls) h) l (ap (λ (x : ℕ). may x b) z ∙ m))
 
 module _ (p r may : List ℕ) (want : ℕ) (w : want ≡ 0 → ⊥) (work nodes labels : List ℕ) (least count : ℕ) (work′ nodes′ labels′ : List ℕ)
     (least′ count′ : ℕ) (T : FewestTold p r may want work nodes labels least count 0 work′ nodes′ labels′ least′ count′)

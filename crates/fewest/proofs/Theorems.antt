@@ -4,24 +4,23 @@
 --     list-is-the-run              put as a question to a fresh run, the list that is told for want 1 is answered with yes
 --     zero-is-clear, clear-is-zero 0 exactly where the plan is as wanted already
 --     no-list-is-shorter           where no sets are told, no list of changes that does it has fewer entries, repeats or not
-use Prim.Native.Nat.{ℕ, zero, suc, _+_, _*_, _/_, _%_, _^_, _≤_, _<_}
-use mathlib.Core.Path.{_≡_, refl, sym, ap, ap₂, _∙_, subst}
-use mathlib.Core.Bool.{Bool, true, false, cond, not, _&&_, _||_}
-use mathlib.Core.List.{List, [], _∷_}
+use Prim.Native.Nat.{ℕ, zero, suc, _+_, _*_, _≤_, _<_}
+use mathlib.Core.Path.{_≡_, refl, sym, ap, ap₂, _∙_}
+use mathlib.Core.Bool.{Bool, true, cond, not, _&&_}
+use mathlib.Core.List.{List}
 use native.Mathlib.Decide.{ℕ-discrete, decLt}
 use native.Mathlib.Omega.{arith}
-use lib.Dec.{leb, ltb, eqb}
-use lib.ListN.{length, getD, set, take}
-use borrow.Author.Tests.{eq-eqb, ne-eqb, ltb-true, lt-ltb}
+use lib.Dec.{eqb}
+use lib.ListN.{length, getD, take}
+use borrow.Author.Tests.{eq-eqb, ne-eqb}
 use Rattle.list_laws.specs.Tests.{allBelow}
-use Rattle.list_laws.proofs.BoolLaws.{and-left, and-right, and-both, or-first, or-second}
-use Rattle.trees.specs.Tree.{Tree, leaf, node, size, kindsOf, labelsOf}
-use Rattle.trees.specs.Automaton.{Automaton, state, accepts}
+use Rattle.list_laws.proofs.BoolLaws.{and-left, and-right}
+use Rattle.trees.specs.Tree.{Tree, leaf, node, kindsOf, labelsOf}
+use Rattle.trees.specs.Automaton.{state, accepts}
 use Rattle.trees.specs.Postorder.{treeOf}
 use Rattle.trees.specs.Changes.{changed}
-use Rattle.formats.specs.Plan.{nodeCount, labelsIn, kindsIn, planTree}
+use Rattle.formats.specs.Plan.{labelsIn, planTree}
 use Rattle.formats.specs.Rules.{stateCount, labelCount, innerStates, ruleMarks, ruleAutomaton}
-use Rattle.formats.specs.Checks.{firstNo, ruleTableChecks}
 use Rattle.formats.specs.Passing.{PlanPasses}
 use Rattle.formats.proofs.RuleLaws.{RulesPass}
 use Rattle.formats.proofs.PlanLaws.{kinds-planTree, labels-planTree}
@@ -32,11 +31,9 @@ use Rattle.runs.specs.FreshRun.{rootAccepted}
 use Rattle.trees.proofs.NodeLaws.{length-labels, length-kinds}
 use Rattle.trees.proofs.PostorderLaws.{tree-postorder, treeOf-is, treeOf-kinds, treeOf-labels}
 use Rattle.trees.proofs.RunLaws.{changed-length}
-use Rattle.fewest.specs.Relabelling.{differences, mayTake, permitted, Relabelling}
-use Rattle.fewest.specs.Fewest.{IsFewest, NoneClears}
-use Rattle.fewest.proofs.costs.ListLaws.{differences-self, differences-changed}
-use Rattle.fewest.specs.Relabelling.{everyLabel, stockOf}
-use Rattle.fewest.specs.Answers.{wantedMark, wantedAutomaton, mayBe, fewestChecks, ListTold, LeastTold, FewestTold}
+use Rattle.fewest.specs.Relabelling.{everyLabel, stockOf, differences, Relabelling}
+use Rattle.fewest.proofs.costs.ListLaws.{differences-self, differences-changed, permitted-self, permitted-all, changed-below}
+use Rattle.fewest.specs.Answers.{wantedMark, wantedAutomaton, mayBe, FewestTold}
 use Rattle.fewest.proofs.call.CallLaws.{table-yes}
 
 -- ---- what is wanted
@@ -87,41 +84,6 @@ unfolding stockOf
 every-label may e v b h =
     ap (λ (c : Bool). member (cond c everyLabel (getD may v 0)) b) (eq-eqb (length may) 0 e)
     ∙ all-at 64 (member everyLabel) every-member b h
-
-permitted-all : (k : ℕ) (may : ℕ → ℕ → Bool) → ((v b : ℕ) → b < k → may v b ≡ true) → (v : ℕ) (ls bs : List ℕ) → allBelow k bs ≡ true
-    → permitted k may v ls bs ≡ true
-unfolding permitted allBelow
-permitted-all k may f v [] bs h = refl
-permitted-all k may f v (a ∷ ls) [] h = refl
-permitted-all k may f v (a ∷ ls) (b ∷ bs) h =
-    and-both (mayTake k may v a b) (permitted k may (v + 1) ls bs)
-    (and-both (ltb b k) (eqb a b || may v b) (and-left (ltb b k) (allBelow k bs) h)
-    (or-second (eqb a b) (may v b) (f v b (ltb-true b k (and-left (ltb b k) (allBelow k bs) h)))))
-    (permitted-all k may f (v + 1) ls bs (and-right (ltb b k) (allBelow k bs) h))
-
-set-below : (k : ℕ) (ls : List ℕ) (v b : ℕ) → allBelow k ls ≡ true → ltb b k ≡ true → allBelow k (set ls v b) ≡ true
-unfolding allBelow
-set-below k [] v b h l = refl
-set-below k (a ∷ ls) zero b h l = and-both (ltb b k) (allBelow k ls) l (and-right (ltb a k) (allBelow k ls) h)
-set-below k (a ∷ ls) (suc v) b h l =
-    and-both (ltb a k) (allBelow k (set ls v b)) (and-left (ltb a k) (allBelow k ls) h)
-    (set-below k ls v b (and-right (ltb a k) (allBelow k ls) h) l)
-
-changed-below : (k : ℕ) (ls vs bs : List ℕ) → allBelow k ls ≡ true → allBelow k bs ≡ true → allBelow k (changed ls vs bs) ≡ true
-unfolding changed allBelow
-changed-below k ls [] bs h g = h
-changed-below k ls (v ∷ vs) [] h g = h
-changed-below k ls (v ∷ vs) (b ∷ bs) h g =
-    changed-below k (set ls v b) vs bs (set-below k ls v b h (and-left (ltb b k) (allBelow k bs) g))
-    (and-right (ltb b k) (allBelow k bs) g)
-
-permitted-self : (k : ℕ) (may : ℕ → ℕ → Bool) (v : ℕ) (ls : List ℕ) → allBelow k ls ≡ true → permitted k may v ls ls ≡ true
-unfolding permitted allBelow
-permitted-self k may v [] h = refl
-permitted-self k may v (a ∷ ls) h =
-    and-both (mayTake k may v a a) (permitted k may (v + 1) ls ls)
-    (and-both (ltb a k) (eqb a a || may v a) (and-left (ltb a k) (allBelow k ls) h) (or-first (eqb a a) (may v a) (eq-eqb a a refl)))
-    (permitted-self k may (v + 1) ls (and-right (ltb a k) (allBelow k ls) h))
 
 -- ---- an accepted call
 

@@ -3,33 +3,31 @@
 --     plan-args .. parts-written     of the parts that are handed on
 --     first-no .. all-yes       the checks, by the way the code's tests went
 --     done-refused, done-written     the call's answers
-use Prim.Native.Nat.{ℕ, zero, suc, _+_, _-_, _*_, _≤_, _<_}
+use Prim.Native.Nat.{ℕ, _+_, _-_, _*_, _≤_, _<_}
 use mathlib.Core.Path.{_≡_, refl, sym, ap, ap₂, _∙_, subst}
 use mathlib.Core.Bool.{Bool, true, false, cond, _&&_, _||_}
-use mathlib.Core.List.{List, [], _∷_, _++_}
-use native.Mathlib.Decide.{ℕ-discrete}
+use mathlib.Core.List.{List, [], _∷_}
 use native.Mathlib.Omega.{arith}
 use lib.Dec.{leb, eqb}
-use lib.ListN.{length, getD, take, drop}
+use lib.ListN.{length}
 use borrow.Author.Tests.{eq-eqb, ne-eqb, eqb-true, le-leb, lt-leb, leb-true}
-use Rattle.list_laws.proofs.BoolLaws.{and-left, and-right, true-false}
-use Rattle.trees.specs.Tree.{Tree, kindsOf, labelsOf, size}
+use Rattle.list_laws.proofs.BoolLaws.{and-left, and-right}
+use Rattle.trees.specs.Tree.{size}
 use Rattle.formats.specs.Limits.{changeLimit}
 use Rattle.formats.specs.Plan.{nodeCount, labelsIn, kindsIn, planTree}
 use Rattle.formats.specs.Rules.{stateCount, labelCount, leafStates, innerStates, ruleMarks}
 use Rattle.formats.specs.Checks.{Check, check, firstNo, ruleTableChecks}
 use Rattle.formats.specs.Passing.{PlanPasses}
-use Rattle.formats.proofs.CheckLaws.{firstNo-yes, firstNo-no, firstNo-none, firstNo-append-zero, firstNo-append-no, firstNo-append-left, firstNo-append-right, firstNo-head, firstNo-tail}
+use Rattle.formats.proofs.CheckLaws.{firstNo-yes, firstNo-no, firstNo-none, firstNo-append-zero, firstNo-append-no, firstNo-append-left, firstNo-head, firstNo-tail}
 use Rattle.formats.proofs.PlanLaws.{length-kindsIn, kinds-planTree, labels-planTree, size-planTree}
 use Rattle.formats.proofs.InputLaws.{rule-table-passes, rule-table-numbered}
 use Rattle.fewest.specs.Fewest.{fewest}
-use Rattle.fewest.specs.inner.Cost.{Problem}
 use Rattle.allowed.specs.inner.Inputs.{PassArgs}
 use Rattle.allowed.proofs.InputsLaws.{call-args, kindsPart, labelsPart, leavesPart, innerPart, marksPart, kinds-is, labels-is}
 use Rattle.allowed.proofs.InputsLaws.{leaves-is, inner-is, marks-is}
 use Rattle.allowed.proofs.InputsLaws.{parts-given as inputs-given}
 use Rattle.fewest.specs.inner.list.Shown.{shownNodes, shownLabels, over}
-use Rattle.fewest.specs.inner.list.Written.{markedProblem, WriteArgs, FewestShown, FewestWritten}
+use Rattle.fewest.specs.inner.list.Written.{WriteArgs, FewestShown, FewestWritten}
 use Rattle.fewest.specs.Answers.{wantedMark, mayFits, fewestRoom, fewestChecks}
 use Rattle.fewest.specs.inner.Done.{planProblem, FewestDone}
 use Rattle.fewest.specs.inner.Parts.{partsProblem, PlanArgs}

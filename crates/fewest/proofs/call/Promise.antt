@@ -1,14 +1,14 @@
 -- What the call writes is what it promises.
 --     changes-rise, shown-relabels   the list rises, and is permitted
 --     promised                       Done's equations give Answers' promise
-use Prim.Native.Nat.{ℕ, zero, suc, _+_, _-_, _*_, _≤_, _<_}
-use mathlib.Core.Path.{_≡_, refl, sym, ap, ap₂, _∙_, subst}
-use mathlib.Core.Bool.{Bool, true, false, cond, _&&_, _||_}
-use mathlib.Core.List.{List, [], _∷_, _++_}
+use Prim.Native.Nat.{ℕ, _+_, _-_, _*_, _≤_, _<_}
+use mathlib.Core.Path.{_≡_, refl, sym, ap, _∙_, subst}
+use mathlib.Core.Bool.{Bool, true, false, cond}
+use mathlib.Core.List.{List, [], _∷_}
 use native.Mathlib.Decide.{decLt}
 use native.Mathlib.Omega.{arith}
 use lib.Dec.{leb, eqb}
-use lib.ListN.{length, getD, take, drop}
+use lib.ListN.{length, getD, take}
 use lib.Seq.{take-at}
 use borrow.Author.Tests.{eq-eqb, ne-eqb, le-leb, lt-leb}
 use Rattle.list_laws.proofs.AppendLaws.{getD-past}
@@ -18,25 +18,24 @@ use Rattle.trees.specs.Postorder.{treeOf}
 use Rattle.trees.specs.Changes.{changed}
 use Rattle.trees.proofs.NodeLaws.{length-labels}
 use Rattle.trees.proofs.PostorderLaws.{treeOf-is}
-use Rattle.formats.specs.Plan.{nodeCount, planTree}
+use Rattle.formats.specs.Plan.{planTree}
 use Rattle.formats.specs.Rules.{stateCount, labelCount}
 use Rattle.formats.specs.Checks.{firstNo, ruleTableChecks}
-use Rattle.formats.specs.Passing.{PlanPasses}
 use Rattle.formats.proofs.PlanLaws.{size-planTree}
 use Rattle.formats.proofs.InputLaws.{rule-table-passes}
 use Rattle.questions.specs.ready.StaysInside.{StaysInside}
-use Rattle.fewest.specs.Least.{leastTo, placeOfLeast}
+use Rattle.fewest.specs.Least.{placeOfLeast}
 use Rattle.fewest.specs.Relabelling.{Relabelling, changedNodes, changedLabels}
-use Rattle.fewest.specs.Fewest.{IsFewest, NoneClears, clearingCost, fewest, clearedTree}
-use Rattle.fewest.specs.inner.Cost.{Problem, cost, witness}
+use Rattle.fewest.specs.Fewest.{IsFewest, clearingCost, fewest, clearedTree}
+use Rattle.fewest.specs.inner.Cost.{Problem, cost}
 use Rattle.fewest.proofs.costs.LeastLaws.{least-far, Found, least-found}
 use Rattle.fewest.proofs.costs.ListLaws.{changes-make}
-use Rattle.fewest.proofs.costs.CostLaws.{Attained, cost-attained}
+use Rattle.fewest.proofs.costs.CostLaws.{cost-attained}
 use Rattle.fewest.proofs.costs.Theorems.{fewest-is-least, none-clears, ClearingList, shown-clears}
 use Rattle.allowed.proofs.InputsLaws.{pass-args}
 use Rattle.fewest.proofs.down.WitnessLaws.{witness-size, witness-kinds}
 use Rattle.fewest.specs.inner.list.Shown.{shownNodes, shownLabels, over}
-use Rattle.fewest.specs.Answers.{wantedAutomaton, mayBe, fewestChecks, rising, ListTold, LeastTold, FewestTold}
+use Rattle.fewest.specs.Answers.{wantedAutomaton, rising, ListTold, LeastTold, FewestTold}
 use Rattle.fewest.specs.inner.Done.{planProblem, FewestDone}
 use Rattle.fewest.proofs.call.CallLaws.{table-yes}
 

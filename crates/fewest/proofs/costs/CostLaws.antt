@@ -2,18 +2,16 @@
 --     same-shape       trees of the same kinds, node by node
 --     cost-least       no relabelling that ends in state s has fewer differences than the cost of s
 --     cost-attained    below far the witness ends in state s, is permitted, and differs in so many labels
-use Prim.Native.Nat.{ℕ, zero, suc, _+_, _≤_, _<_}
+use Prim.Native.Nat.{ℕ, _+_, _≤_, _<_}
 use mathlib.Core.Path.{_≡_, refl, sym, ap, ap₂, _∙_, subst}
 use mathlib.Core.Bool.{Bool, true, false, cond, _&&_, _||_}
 use mathlib.Core.List.{List, [], _∷_, _++_}
-use mathlib.Core.Logic.{_⊎_, inl, inr}
-use native.Mathlib.Decide.{ℕ-discrete}
 use native.Mathlib.Omega.{arith}
 use lib.Dec.{eqb, ltb}
-use lib.ListN.{length, getD}
+use lib.ListN.{length}
 use lib.Seq.{ext-getD}
 use borrow.Author.Tests.{eqb-true, eq-eqb, ltb-true, lt-ltb}
-use Rattle.list_laws.proofs.BoolLaws.{and-left, and-right, and-both, true-false, or-first, or-second}
+use Rattle.list_laws.proofs.BoolLaws.{and-left, and-right, and-both, true-false}
 use Rattle.trees.specs.Tree.{Tree, leaf, node, size, kindsOf, labelsOf, labelAt}
 use Rattle.trees.specs.Automaton.{Automaton, state}
 use Rattle.trees.proofs.NodeLaws.{length-labels, length-kinds}
@@ -22,7 +20,7 @@ use Rattle.trees.proofs.RunLaws.{state-below}
 use Rattle.questions.specs.ready.StaysInside.{StaysInside}
 use Rattle.choices.proofs.assignments.WeighLaws.{relabelled, relabelled-kinds, relabelled-size, relabelled-at}
 use Rattle.fewest.specs.Relabelling.{differ, differences, mayTake, permitted}
-use Rattle.fewest.specs.Least.{leastTo, placeOfLeast}
+use Rattle.fewest.specs.Least.{placeOfLeast}
 use Rattle.fewest.specs.inner.Cost.{Problem, changeCost, leafCost, innerCost, leastLabel, leastRight, leastLeft, cost}
 use Rattle.fewest.specs.inner.Cost.{leftChoice, rightChoice, labelChoice, witness}
 use Rattle.fewest.proofs.costs.LeastLaws.{least-le, Found, least-found}

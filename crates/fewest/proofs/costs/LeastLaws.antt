@@ -1,12 +1,10 @@
 -- The laws of least values.
 --     least-le, least-far    it is not above any of them, nor above far
 --     least-found            below far it is one of them, at its place
-use Prim.Native.Nat.{ℕ, zero, suc, min, _+_, _≤_, _<_}
-use mathlib.Core.Path.{_≡_, refl, sym, ap, ap₂, _∙_}
-use mathlib.Core.Bool.{Bool, true, false, cond}
+use Prim.Native.Nat.{ℕ, zero, suc, min, _≤_, _<_}
+use mathlib.Core.Path.{_≡_, refl, ap, ap₂}
 use native.Mathlib.Decide.{ℕ-discrete}
 use native.Mathlib.Omega.{arith}
-use lib.Dec.{ltb}
 use borrow.Author.Tests.{lt-ltb, le-ltb}
 use Rattle.list_laws.proofs.Choice.{le-or}
 use Rattle.fewest.specs.Least.{leastTo, placeOfLeast}

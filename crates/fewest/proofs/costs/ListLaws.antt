@@ -2,20 +2,21 @@
 --     differences-append, permitted-append   of two lists end to end
 --     differences-most                       at most as many as there are places
 --     differences-self, permitted-self       a list and itself
+--     permitted-set, permitted-all           one permitted change; any labels, where every node may take every label
+--     changed-below                          labels below k, changed to labels below k
 --     changes-number .. changes-make         the list of changes that makes one list of another
 --     differences-changed                    a list of m changes makes at most m differences
 use Prim.Native.Nat.{ℕ, zero, suc, _+_, _≤_, _<_}
-use mathlib.Core.Path.{_≡_, refl, sym, ap, ap₂, _∙_}
+use mathlib.Core.Path.{_≡_, refl, sym, ap, _∙_}
 use mathlib.Core.Bool.{Bool, true, false, cond, _&&_, _||_}
 use mathlib.Core.List.{List, [], _∷_, _++_, append-assoc}
-use native.Mathlib.Decide.{ℕ-discrete}
 use native.Mathlib.Omega.{arith}
 use lib.Dec.{eqb, ltb}
-use lib.ListN.{length, getD, set, length-set, length-append}
+use lib.ListN.{length, set, length-append}
 use lib.Seq.{set-append-seam}
-use borrow.Author.Tests.{eqb-true, eq-eqb, ne-eqb, lt-ltb}
+use borrow.Author.Tests.{eqb-true, eq-eqb, ne-eqb, lt-ltb, ltb-true}
 use Rattle.list_laws.specs.Tests.{allBelow, holds, distinct}
-use Rattle.list_laws.proofs.BoolLaws.{and-assoc, and-left, and-right, and-both}
+use Rattle.list_laws.proofs.BoolLaws.{and-assoc, and-left, and-right, and-both, or-first, or-second}
 use Rattle.trees.specs.Changes.{changed}
 use Rattle.fewest.specs.Relabelling.{differ, differences, mayTake, permitted, changedNodes, changedLabels}
 
@@ -181,3 +182,56 @@ differences-more ls cs (v ∷ vs) (b ∷ bs) = omega (arith, differences-more ls
 
 pub differences-changed : (ls vs bs : List ℕ) → differences ls (changed ls vs bs) ≤ length vs
 differences-changed ls vs bs = omega (arith, differences-more ls ls vs bs, differences-self ls)
+
+-- ---- labels that are permitted
+
+pub permitted-all : (k : ℕ) (may : ℕ → ℕ → Bool) → ((v b : ℕ) → b < k → may v b ≡ true) → (v : ℕ) (ls bs : List ℕ) → allBelow k bs ≡ true
+    → permitted k may v ls bs ≡ true
+unfolding permitted allBelow
+permitted-all k may f v [] bs h = refl
+permitted-all k may f v (a ∷ ls) [] h = refl
+permitted-all k may f v (a ∷ ls) (b ∷ bs) h =
+    and-both (mayTake k may v a b) (permitted k may (v + 1) ls bs)
+    (and-both (ltb b k) (eqb a b || may v b) (and-left (ltb b k) (allBelow k bs) h)
+    (or-second (eqb a b) (may v b) (f v b (ltb-true b k (and-left (ltb b k) (allBelow k bs) h)))))
+    (permitted-all k may f (v + 1) ls bs (and-right (ltb b k) (allBelow k bs) h))
+
+set-below : (k : ℕ) (ls : List ℕ) (v b : ℕ) → allBelow k ls ≡ true → ltb b k ≡ true → allBelow k (set ls v b) ≡ true
+unfolding allBelow
+set-below k [] v b h l = refl
+set-below k (a ∷ ls) zero b h l = and-both (ltb b k) (allBelow k ls) l (and-right (ltb a k) (allBelow k ls) h)
+set-below k (a ∷ ls) (suc v) b h l =
+    and-both (ltb a k) (allBelow k (set ls v b)) (and-left (ltb a k) (allBelow k ls) h)
+    (set-below k ls v b (and-right (ltb a k) (allBelow k ls) h) l)
+
+pub changed-below : (k : ℕ) (ls vs bs : List ℕ) → allBelow k ls ≡ true → allBelow k bs ≡ true → allBelow k (changed ls vs bs) ≡ true
+unfolding changed allBelow
+changed-below k ls [] bs h g = h
+changed-below k ls (v ∷ vs) [] h g = h
+changed-below k ls (v ∷ vs) (b ∷ bs) h g =
+    changed-below k (set ls v b) vs bs (set-below k ls v b h (and-left (ltb b k) (allBelow k bs) g))
+    (and-right (ltb b k) (allBelow k bs) g)
+
+pub permitted-self : (k : ℕ) (may : ℕ → ℕ → Bool) (v : ℕ) (ls : List ℕ) → allBelow k ls ≡ true → permitted k may v ls ls ≡ true
+unfolding permitted allBelow
+permitted-self k may v [] h = refl
+permitted-self k may v (a ∷ ls) h =
+    and-both (mayTake k may v a a) (permitted k may (v + 1) ls ls)
+    (and-both (ltb a k) (eqb a a || may v a) (and-left (ltb a k) (allBelow k ls) h) (or-first (eqb a a) (may v a) (eq-eqb a a refl)))
+    (permitted-self k may (v + 1) ls (and-right (ltb a k) (allBelow k ls) h))
+
+-- one permitted change is a permitted relabelling
+pub permitted-set : (k : ℕ) (may : ℕ → ℕ → Bool) (w : ℕ) (ls : List ℕ) (v b : ℕ) → allBelow k ls ≡ true → b < k → may (w + v) b ≡ true
+    → permitted k may w ls (set ls v b) ≡ true
+unfolding permitted allBelow
+permitted-set k may w [] v b h l m = refl
+permitted-set k may w (a ∷ ls) zero b h l m =
+    let z : w + 0 ≡ w = omega arith in
+    and-both (mayTake k may w a b) (permitted k may (w + 1) ls ls)
+    (and-both (ltb b k) (eqb a b || may w b) (lt-ltb b k l) (or-second (eqb a b) (may w b) (ap (λ (x : ℕ). may x b) (sym z) ∙ m)))
+    (permitted-self k may (w + 1) ls (and-right (ltb a k) (allBelow k ls) h))
+permitted-set k may w (a ∷ ls) (suc v) b h l m =
+    let z : w + 1 + v ≡ w + suc v = omega arith in
+    and-both (mayTake k may w a a) (permitted k may (w + 1) ls (set ls v b))
+    (and-both (ltb a k) (eqb a a || may w a) (and-left (ltb a k) (allBelow k ls) h) (or-first (eqb a a) (may w a) (eq-eqb a a refl)))
+    (permitted-set k may (w + 1) ls v b (and-right (ltb a k) (allBelow k ls) h) l (ap (λ (x : ℕ). may x b) z ∙ m))

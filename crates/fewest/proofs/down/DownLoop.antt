@@ -2,33 +2,31 @@
 --     leaf-next, inner-next     the turn of a leaf, and of an inner node
 --     down-next, turn-args      one node more, and what its turn needs
 use Prim.Native.Nat.{ℕ, _+_, _-_, _*_, _≤_, _<_}
-use mathlib.Core.Path.{_≡_, refl, sym, ap, ap₂, _∙_, subst}
-use mathlib.Core.Bool.{Bool, true, false, cond}
-use mathlib.Core.List.{List, []}
-use mathlib.Core.Logic.{_⊎_, inl, inr}
+use mathlib.Core.Path.{_≡_, sym, ap, ap₂, _∙_, subst}
+use mathlib.Core.Bool.{Bool, true}
+use mathlib.Core.List.{List}
+use mathlib.Core.Logic.{inl, inr}
 use native.Mathlib.Decide.{ℕ-discrete}
 use native.Mathlib.Omega.{arith}
 use lib.Dec.{eqb}
 use lib.ListN.{length, getD, set, length-set}
 use Rattle.list_laws.proofs.RowLaws.{stride}
 use Rattle.trees.specs.Tree.{Tree, kindsOf, labelsOf, size, kindAt, labelAt}
-use Rattle.trees.specs.Automaton.{Automaton, state}
+use Rattle.trees.specs.Automaton.{state}
 use Rattle.trees.specs.Numbering.{sub, parent}
-use Rattle.trees.proofs.NodeLaws.{Inner, inner, Up, up, sub-size, size-pos}
-use Rattle.trees.proofs.PostorderLaws.{postorder-tree, size-of, kind-of}
+use Rattle.trees.proofs.NodeLaws.{Inner, inner, Up, up, size-pos}
+use Rattle.trees.proofs.PostorderLaws.{size-of, kind-of}
 use Rattle.trees.proofs.RunLaws.{Children, children, state-below}
 use Rattle.state_sets.specs.StateSets.{member}
-use Rattle.fewest.specs.Least.{leastTo, placeOfLeast}
 use Rattle.fewest.specs.inner.Cost.{Problem, leafCost, leastLeft, leftChoice, rightChoice, labelChoice, cost, witness}
-use Rattle.fewest.specs.inner.Rows.{LeafArgs}
 use Rattle.fewest.specs.inner.Rows.{leafCost as leafLabelCost}
 use Rattle.fewest.specs.Relabelling.{stockOf}
 use Rattle.fewest.specs.inner.Problems.{problemFor, costAt}
 use Rattle.fewest.specs.inner.passes.Cells.{sizeCell, costCell, leftIn}
 use Rattle.allowed.specs.inner.Inputs.{PassArgs}
 use Rattle.fewest.proofs.passes.CostAtLaws.{cost-leaf, cost-inner, cost-far}
-use Rattle.fewest.specs.inner.down.Search.{anyOf, First, leftHit, Chosen}
-use Rattle.fewest.specs.inner.down.Down.{ownCost, ChoiceAt, placed, LeafDown, InnerDown, NodeDown, LeafDownArgs, InnerDownArgs, NodeDownArgs, Told, Down}
+use Rattle.fewest.specs.inner.down.Search.{anyOf, leftHit}
+use Rattle.fewest.specs.inner.down.Down.{ownCost, ChoiceAt, placed, LeafDown, InnerDown, NodeDown, InnerDownArgs, NodeDownArgs, Told, Down}
 use Rattle.fewest.proofs.down.AnyLaws.{first-place}
 use Rattle.fewest.proofs.down.ColumnLaws.{col-same, col-other, col-cost, col-past}
 use Rattle.fewest.proofs.down.WayLaws.{found, left-is, right-is, label-is}

@@ -3,22 +3,21 @@
 --     left-is, right-is, label-is   its left state, right state and label are those of `witness`
 --     none-under                    over states that cost more than c no label costs c
 use Prim.Native.Nat.{ℕ, _+_, _-_, _*_, _≤_, _<_}
-use mathlib.Core.Path.{_≡_, refl, sym, ap, ap₂, _∙_, subst}
-use mathlib.Core.Bool.{Bool, true, false, cond}
+use mathlib.Core.Path.{_≡_, sym, ap, ap₂, _∙_}
+use mathlib.Core.Bool.{Bool, true, false}
 use mathlib.Core.List.{List}
 use native.Mathlib.Omega.{arith}
 use lib.Dec.{eqb}
-use lib.ListN.{length, getD}
+use lib.ListN.{getD}
 use borrow.Author.Tests.{eqb-true, eq-eqb, ne-eqb}
 use Rattle.list_laws.proofs.Choice.{by-eq}
 use Rattle.state_sets.specs.StateSets.{member}
-use Rattle.fewest.specs.Least.{leastTo, placeOfLeast}
-use Rattle.fewest.specs.inner.Cost.{Problem, innerCost, leastLabel, leastRight, leastLeft, leftChoice, rightChoice, labelChoice}
-use Rattle.fewest.proofs.costs.LeastLaws.{least-le, Found, least-found}
+use Rattle.fewest.specs.inner.Cost.{innerCost, leastLabel, leastRight, leastLeft, leftChoice, rightChoice, labelChoice}
+use Rattle.fewest.proofs.costs.LeastLaws.{least-le}
 use Rattle.fewest.specs.inner.Rows.{labelCost, changeOf, RowArgs}
 use Rattle.fewest.specs.inner.Rows.{leafCost as leafLabelCost}
 use Rattle.fewest.specs.inner.Problems.{problemFor}
-use Rattle.fewest.specs.inner.down.Search.{anyOf, First, labelHit, rightHit, leftHit, Chosen, RightSearch, LeftSearch}
+use Rattle.fewest.specs.inner.down.Search.{anyOf, labelHit, rightHit, leftHit, Chosen, RightSearch, LeftSearch}
 use Rattle.fewest.proofs.down.AnyLaws.{any-no, any-ext, any-least, first-place}
 
 pub none-under : (inn : List ℕ) (s k p q a : ℕ) (may : ℕ → Bool) (base j c : ℕ) → c < base → c < 65536

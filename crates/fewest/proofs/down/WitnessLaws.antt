@@ -7,17 +7,17 @@ use Prim.Native.Nat.{ℕ, zero, suc, _+_, _-_, _≤_, _<_}
 use mathlib.Core.Path.{_≡_, refl, sym, ap, ap₂, _∙_, subst}
 use mathlib.Core.List.{List, [], _∷_, _++_}
 use lib.ListN.{getD}
-use mathlib.Core.Logic.{_⊎_, inl, inr}
+use mathlib.Core.Logic.{inl, inr}
 use native.Mathlib.Decide.{ℕ-discrete}
 use native.Mathlib.Omega.{arith}
 use Rattle.trees.specs.Tree.{Tree, leaf, node, size, kindsOf, kindAt, labelAt}
-use Rattle.trees.specs.Automaton.{Automaton, state, rootLabel}
+use Rattle.trees.specs.Automaton.{state, rootLabel}
 use Rattle.trees.specs.Numbering.{sub, parent}
-use Rattle.trees.proofs.NodeLaws.{sub-leaf, sub-size, sub-root, size-pos, Up, up}
+use Rattle.trees.proofs.NodeLaws.{sub-leaf, sub-size, sub-root, Up, up}
 use Rattle.trees.proofs.RunLaws.{Children, children, label-sub}
 use Rattle.fewest.specs.Least.{placeOfLeast}
-use Rattle.fewest.specs.inner.Cost.{Problem, changeCost, leafCost, leastLeft, cost, leftChoice, rightChoice, labelChoice, witness}
-use Rattle.fewest.proofs.costs.CostLaws.{Attained, InnerFound, inner-found, cost-attained}
+use Rattle.fewest.specs.inner.Cost.{Problem, leafCost, cost, leftChoice, rightChoice, labelChoice, witness}
+use Rattle.fewest.proofs.costs.CostLaws.{InnerFound, inner-found, cost-attained}
 use Rattle.fewest.specs.inner.Problems.{costAt}
 use Rattle.fewest.proofs.passes.CostAtLaws.{cost-inner}
 

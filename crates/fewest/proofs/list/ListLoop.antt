@@ -1,22 +1,22 @@
 -- The turns of the loop that lists the changes.
 --     list-start, list-next, entry-in    before the first node, one node more, and that its entry has room
 --     nodes-whole, labels-whole          at the end: the changes between two lists
-use Prim.Native.Nat.{ℕ, zero, suc, _+_, _-_, _*_, _≤_, _<_}
-use mathlib.Core.Path.{_≡_, refl, sym, ap, ap₂, _∙_, subst}
+use Prim.Native.Nat.{ℕ, zero, suc, _+_, _-_, _≤_, _<_}
+use mathlib.Core.Path.{_≡_, refl, sym, ap, ap₂, _∙_}
 use mathlib.Core.Bool.{Bool, true, false, cond}
 use mathlib.Core.List.{List, [], _∷_, _++_, append-assoc, append-nil}
 use native.Mathlib.Decide.{ℕ-discrete}
 use native.Mathlib.Numerals.{add-one}
 use native.Mathlib.Omega.{arith}
 use lib.Dec.{eqb}
-use lib.ListN.{length, getD, set, drop, length-append, length-drop}
+use lib.ListN.{length, getD, set, drop, length-append}
 use lib.Seq.{drop-cons, set-at}
 use borrow.Author.Tests.{eq-eqb, ne-eqb}
 use Rattle.list_laws.specs.Rows.{tabulate}
 use Rattle.list_laws.proofs.RowLaws.{length-tabulate, tabulate-of}
 use Rattle.fewest.specs.Relabelling.{changedNodes, changedLabels}
 use Rattle.fewest.proofs.costs.ListLaws.{changes-paired}
-use Rattle.fewest.specs.inner.list.Lists.{nodesTo, labelsTo, ChangeArgs, ChangePut, Listed}
+use Rattle.fewest.specs.inner.list.Lists.{nodesTo, labelsTo, ChangePut, Listed}
 
 -- ---- the changes of lists in a row
 

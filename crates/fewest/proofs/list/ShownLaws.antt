@@ -5,34 +5,31 @@
 --     written-short, written-long   the list, and none where it would be longer than 64
 use Prim.Native.Nat.{ℕ, zero, suc, _+_, _-_, _*_, _≤_, _<_}
 use mathlib.Core.Path.{_≡_, refl, sym, ap, ap₂, _∙_, subst}
-use mathlib.Core.Bool.{Bool, true, false, cond, _&&_, _||_}
+use mathlib.Core.Bool.{Bool, true, false, cond, _||_}
 use mathlib.Core.List.{List, [], _∷_, _++_}
 use native.Mathlib.Decide.{ℕ-discrete}
 use native.Mathlib.Omega.{arith}
 use lib.Dec.{eqb, ltb, leb}
 use lib.ListN.{length, getD, set, drop}
-use borrow.Author.Tests.{eqb-true, eq-eqb, ne-eqb, ltb-true, le-leb, lt-leb}
+use borrow.Author.Tests.{ltb-true, le-leb, lt-leb}
 use Rattle.list_laws.proofs.BoolLaws.{and-left, and-right}
 use Rattle.list_laws.proofs.RowLaws.{stride}
 use Rattle.trees.specs.Tree.{Tree, kindsOf, labelsOf, size, labelAt}
-use Rattle.trees.specs.Automaton.{Automaton, state}
-use Rattle.trees.specs.Numbering.{sub, parent}
 use Rattle.trees.proofs.NodeLaws.{sub-root, size-pos, length-labels, up}
-use Rattle.trees.proofs.PostorderLaws.{postorder-tree, size-of, some-node}
+use Rattle.trees.proofs.PostorderLaws.{postorder-tree, size-of}
 use Rattle.questions.specs.ready.StaysInside.{StaysInside}
-use Rattle.fewest.specs.Least.{leastTo, placeOfLeast}
+use Rattle.fewest.specs.Least.{placeOfLeast}
 use Rattle.fewest.specs.Relabelling.{mayTake, permitted, changedNodes, changedLabels}
 use Rattle.fewest.specs.Fewest.{clearingCost, fewest, clearedTree}
 use Rattle.fewest.specs.inner.Cost.{Problem, cost, witness}
-use Rattle.fewest.proofs.costs.LeastLaws.{least-ext, least-far, Found, least-found}
-use Rattle.fewest.proofs.costs.CostLaws.{Attained, cost-attained}
+use Rattle.fewest.proofs.costs.LeastLaws.{least-ext, Found, least-found}
+use Rattle.fewest.proofs.costs.CostLaws.{cost-attained}
 use Rattle.fewest.proofs.costs.ListLaws.{changes-paired}
-use Rattle.fewest.proofs.costs.Theorems.{ClearingList, shown-clears}
-use Rattle.fewest.specs.Relabelling.{stockOf}
-use Rattle.fewest.specs.inner.Problems.{problemFor, costAt}
-use Rattle.fewest.specs.inner.passes.Cells.{sizeCell, costCell}
+use Rattle.fewest.proofs.costs.Theorems.{shown-clears}
+use Rattle.fewest.specs.inner.Problems.{costAt}
+use Rattle.fewest.specs.inner.passes.Cells.{sizeCell}
 use Rattle.allowed.specs.inner.Inputs.{PassArgs}
-use Rattle.fewest.specs.inner.passes.Up.{CostsUp, Up, UpGiven}
+use Rattle.fewest.specs.inner.passes.Up.{CostsUp, Up}
 use Rattle.fewest.specs.inner.down.Search.{First}
 use Rattle.fewest.specs.inner.down.Root.{rootCost}
 use Rattle.fewest.specs.inner.down.Down.{Told, Down, DownGiven}
@@ -41,7 +38,7 @@ use Rattle.fewest.proofs.down.ColumnLaws.{col-same, col-other, col-cost
 use Rattle.fewest.proofs.down.WitnessLaws.{root-state, witness-size}
 use Rattle.fewest.specs.inner.list.Shown.{shownNodes, shownLabels, over}
 use Rattle.fewest.specs.inner.list.Lists.{nodesTo, labelsTo, Listed, ListArgs}
-use Rattle.fewest.specs.inner.list.Written.{markedProblem, rootLeast, LeastArgs, RootTold, ShowGiven, ListShown, ShowDone, FewestShown}
+use Rattle.fewest.specs.inner.list.Written.{markedProblem, rootLeast, RootTold, ShowGiven, ListShown, ShowDone, FewestShown}
 use Rattle.fewest.proofs.list.ListLoop.{nodes-whole, labels-whole}
 
 -- the costs of the root are those of the whole tree

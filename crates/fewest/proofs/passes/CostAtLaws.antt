@@ -2,7 +2,7 @@
 --     cost-leaf, cost-inner   of a leaf, and of an inner node from those of its children
 --     cost-far                none is above far
 use Prim.Native.Nat.{ℕ, _+_, _-_, _≤_, _<_}
-use mathlib.Core.Path.{_≡_, refl, sym, ap, _∙_}
+use mathlib.Core.Path.{_≡_, ap, _∙_}
 use native.Mathlib.Omega.{arith}
 use Rattle.trees.specs.Tree.{Tree, leaf, node, size, kindAt, labelAt}
 use Rattle.trees.specs.Numbering.{sub}

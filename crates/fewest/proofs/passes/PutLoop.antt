@@ -2,14 +2,14 @@
 --     part-start, part-next, part-done   before the first cost, one cost more, and the size at last
 --     row-filled                         a row lowered from 65,536s
 use Prim.Native.Nat.{ℕ, _+_, _-_, _*_, _≤_, _<_}
-use mathlib.Core.Path.{_≡_, refl, sym, ap, _∙_}
+use mathlib.Core.Path.{_≡_, refl, _∙_}
 use mathlib.Core.List.{List}
 use native.Mathlib.Decide.{ℕ-discrete}
 use native.Mathlib.Omega.{arith}
 use lib.ListN.{length, getD, set, replicate, length-set, length-replicate, getD-replicate}
 use lib.Seq.{getD-set-same, getD-set-other}
 use Rattle.fewest.specs.inner.Rows.{Relaxed, CostRow}
-use Rattle.fewest.specs.inner.passes.Cells.{RowDone, PutArgs}
+use Rattle.fewest.specs.inner.passes.Cells.{RowDone}
 
 pub record RowPart (at i : ℕ) (row before after : List ℕ) : Type 0 where
   pub long : length after ≡ length before

@@ -3,12 +3,11 @@
 --     up-start, up-next        before the first node, and one node more
 --     turn-args                what a turn needs
 use Prim.Native.Nat.{ℕ, _+_, _-_, _*_, _≤_, _<_}
-use mathlib.Core.Path.{_≡_, refl, sym, ap, ap₂, _∙_, subst}
-use mathlib.Core.Bool.{Bool, true, false, cond}
-use mathlib.Core.List.{List, []}
+use mathlib.Core.Path.{_≡_, refl, sym, ap, ap₂, _∙_}
+use mathlib.Core.Bool.{Bool, true}
+use mathlib.Core.List.{List}
 use native.Mathlib.Decide.{ℕ-discrete}
 use native.Mathlib.Omega.{arith}
-use lib.Dec.{eqb}
 use lib.ListN.{length, getD, take, drop, length-drop}
 use lib.Seq.{getD-take, getD-drop, length-take-le}
 use borrow.Author.Tests.{eq-eqb, ne-eqb}
@@ -20,15 +19,15 @@ use Rattle.trees.proofs.PostorderLaws.{postorder-tree, size-of, kind-of}
 use Rattle.trees.proofs.RunLaws.{Children, children, size-leaf, size-inner}
 use Rattle.state_sets.specs.StateSets.{member}
 use Rattle.fewest.specs.Least.{leastTo}
-use Rattle.fewest.specs.inner.Cost.{Problem, leafCost, innerCost, leastLabel, leastRight, leastLeft}
+use Rattle.fewest.specs.inner.Cost.{leafCost, innerCost}
 use Rattle.fewest.proofs.costs.LeastLaws.{least-far, least-ext}
-use Rattle.fewest.specs.inner.Rows.{labelCost, labelsCost, leafCosts, innerCosts, leftCost, CostRow, LeftArgs, Relaxed}
+use Rattle.fewest.specs.inner.Rows.{labelCost, labelsCost, leafCosts, innerCosts, leftCost, CostRow, Relaxed}
 use Rattle.fewest.specs.inner.Rows.{leafCost as leafLabelCost}
 use Rattle.fewest.specs.Relabelling.{stockOf}
 use Rattle.fewest.specs.inner.Problems.{problemFor, costAt}
 use Rattle.fewest.specs.inner.passes.Cells.{sizeCell, costCell, leftIn, innerSize, RowDone}
 use Rattle.allowed.specs.inner.Inputs.{PassArgs}
-use Rattle.fewest.specs.inner.passes.Up.{nodeSize, nodeCosts, LeafTurnArgs, InnerTurnArgs, NodeTurnArgs, CostsUp, Up, UpGiven}
+use Rattle.fewest.specs.inner.passes.Up.{nodeSize, nodeCosts, InnerTurnArgs, NodeTurnArgs, CostsUp, Up}
 use Rattle.fewest.proofs.passes.CostAtLaws.{cost-leaf, cost-inner, cost-far}
 
 -- ---- the children's costs, handed on as parts

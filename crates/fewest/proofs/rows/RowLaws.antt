@@ -2,15 +2,14 @@
 --     bit-is                a shift and a mask tell membership
 --     relax-start, relax-next   one label more; step-start, step-next   one state more
 use Prim.Native.Nat.{ℕ, zero, suc, _+_, _*_, _/_, _%_, _^_, _≤_, _<_, min}
-use mathlib.Core.Path.{_≡_, refl, sym, ap, ap₂, _∙_, subst}
-use mathlib.Core.Bool.{Bool, true, false, cond}
+use mathlib.Core.Path.{_≡_, refl, sym, ap, _∙_}
+use mathlib.Core.Bool.{Bool, cond}
 use mathlib.Core.List.{List}
 use native.Mathlib.Decide.{ℕ-discrete}
 use native.Mathlib.Numerals.{add-one}
 use native.Mathlib.Nat.{mul-le-mul-right}
 use native.Mathlib.Omega.{arith}
 use lib.Bits.{bitAnd, and-mask}
-use lib.Dec.{eqb}
 use lib.ListN.{length, getD, set, length-set}
 use lib.Seq.{getD-set-same, getD-set-other}
 use borrow.Author.Tests.{eq-eqb, ne-eqb}
@@ -20,10 +19,9 @@ use Rattle.formats.specs.inner.InnerChecks.{RuleArgs}
 use Rattle.formats.proofs.RuleLaws.{rule-in}
 use Rattle.state_sets.specs.StateSets.{member}
 use Rattle.fewest.specs.Least.{leastTo}
-use Rattle.fewest.specs.inner.Cost.{Problem, innerCost, leastLabel}
-use Rattle.fewest.proofs.costs.LeastLaws.{least-far, least-ext}
+use Rattle.fewest.proofs.costs.LeastLaws.{least-far}
 use Rattle.fewest.specs.Least.{noWay}
-use Rattle.fewest.specs.inner.Rows.{changeOf, labelCost, labelsCost, rightCost, leftCost, leafCost, Relaxed, CostRow, RowArgs, RightArgs, LeftArgs, LeafArgs}
+use Rattle.fewest.specs.inner.Rows.{changeOf, labelCost, labelsCost, leafCost, Relaxed, CostRow, RowArgs, RightArgs, LeftArgs, LeafArgs}
 
 -- ---- labels in a set
 

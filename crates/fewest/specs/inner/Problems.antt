@@ -4,10 +4,9 @@
 --   states that `acc` tells; 65,536 stands for "no way": no plan has so many nodes
 -- costAt P t v j == the fewest changes at and below node v of t that give it state j
 use Prim.Native.Nat.{ℕ, _+_, _-_, _*_}
-use mathlib.Core.Bool.{Bool, cond}
+use mathlib.Core.Bool.{Bool}
 use mathlib.Core.List.{List}
-use lib.Dec.{eqb}
-use lib.ListN.{length, getD}
+use lib.ListN.{getD}
 use Rattle.trees.specs.Tree.{Tree, size}
 use Rattle.trees.specs.Numbering.{sub}
 use Rattle.state_sets.specs.StateSets.{member}

@@ -1,16 +1,9 @@
 -- `check_fewest` meets its contract: each return cites the law of its answer.
-use Prim.Native.Nat.{ℕ, _+_, _-_, _*_, _≤_, _<_}
-use mathlib.Core.Path.{_≡_, refl, sym, ap, ap₂, _∙_, subst}
-use mathlib.Core.Bool.{Bool, true, false}
-use mathlib.Core.List.{List}
-use native.Mathlib.Nat.{mul-le-mul-right}
-use lib.ListN.{length, getD}
-use borrow.Author.Tests.{eq-eqb, ne-eqb, not-true, not-false}
-use Rattle.formats.specs.Plan.{nodeCount}
-use Rattle.formats.specs.Rules.{stateCount}
-use Rattle.formats.specs.Checks.{firstNo, ruleTableChecks}
+use Prim.Native.Nat.{ℕ, _-_}
+use mathlib.Core.Path.{sym, ap, ap₂, _∙_}
+use borrow.Author.Tests.{not-true, not-false}
 use Rattle.formats.proofs.InputLaws.{rule-table-passes}
-use Rattle.fewest.specs.Answers.{wantedMark, mayFits, fewestRoom, fewestChecks}
+use Rattle.fewest.specs.Answers.{mayFits, fewestRoom}
 use Rattle.fewest.proofs.call.CallLaws.{first-no, no-sets, no-room, all-yes}
 use native.Mathlib.Omega.{arith}
 use borrow.Author.Needs.{needs}
@@ -18,9 +11,6 @@ use Rattle.fewest.proofs.call.check_fewest.Statement.{statement}
 use Rattle.fewest.proofs.call.check_fewest.Tie as tie
 use Rattle.fewest.proofs.call.check_fewest.Reads as reads
 use Rattle.fewest.proofs.call.check_fewest.Lts as lts
-
-check-rule-inputs-requires : tie.Need-check-rule-inputs-requires
-check-rule-inputs-requires c κs = search needs
 
 returns : tie.Need-returns
 returns c =
@@ -36,9 +26,6 @@ read32-requires-2 : tie.Need-read32-requires-2
 read32-requires-2 c κs =
     let g = c .before .before .before .before .before .args in
     omega (arith, rule-table-passes (g .plan .now) (g .rules .now) (sym (c .before .before .check-rule-inputs .ensures) ∙ c .before .if1 .left) .1 .long)
-
-may-fits-requires : tie.Need-may-fits-requires
-may-fits-requires c κs = search needs
 
 returns-2 : tie.Need-returns-2
 returns-2 c =
@@ -66,13 +53,5 @@ returns-4 c =
 pub check-fewest-spec : {M : Type 1} → statement M
 check-fewest-spec =
     tie.close
-    (tie.spec
-    check-rule-inputs-requires
-    returns
-    read32-requires
-    read32-requires-2
-    may-fits-requires
-    returns-2
-    room-fits-requires
-    returns-3
-    returns-4)
+    (tie.spec (λ c κs. search needs) returns read32-requires read32-requires-2 (λ c κs. search needs) returns-2
+    room-fits-requires returns-3 returns-4)

@@ -1,16 +1,8 @@
 -- `fewest_changes` meets its contract: a refusal where a check fails, else the least number and the changes.
-use Prim.Native.Nat.{ℕ, _+_, _-_, _*_, _≤_, _<_}
-use mathlib.Core.Path.{_≡_, refl, sym, ap, ap₂, _∙_, subst}
-use mathlib.Core.Bool.{Bool, true, false}
-use mathlib.Core.List.{List}
-use native.Mathlib.Nat.{mul-le-mul-right}
-use lib.ListN.{length, getD}
-use borrow.Author.Tests.{eq-eqb, ne-eqb, not-true, not-false}
-use Rattle.formats.specs.Plan.{nodeCount}
-use Rattle.formats.specs.Rules.{stateCount}
-use Rattle.formats.specs.Checks.{firstNo, ruleTableChecks}
+use Prim.Native.Nat.{_-_}
+use mathlib.Core.Path.{sym, _∙_}
+use lib.ListN.{length}
 use Rattle.formats.proofs.InputLaws.{rule-table-passes}
-use Rattle.fewest.specs.Answers.{wantedMark, mayFits, fewestRoom, fewestChecks}
 use Rattle.fewest.proofs.call.CallLaws.{table-yes, write-args, done-refused, done-written}
 use Rattle.fewest.proofs.call.Promise.{promised}
 use native.Mathlib.Omega.{arith}
@@ -19,9 +11,6 @@ use Rattle.fewest.proofs.call.fewest_changes.Statement.{statement}
 use Rattle.fewest.proofs.call.fewest_changes.Tie as tie
 use Rattle.fewest.proofs.call.fewest_changes.Reads as reads
 use Rattle.fewest.proofs.call.fewest_changes.Lts as lts
-
-check-fewest-requires : tie.Need-check-fewest-requires
-check-fewest-requires c κs = search needs
 
 returns : tie.Need-returns
 returns c =
@@ -44,22 +33,10 @@ read32-requires-3 c κs =
     let g = c .before .before .before .before .before .before .before .before .before .before .args in
     omega (arith, rule-table-passes (g .plan .now) (g .rules .now) (table-yes (g .plan .now) (g .rules .now) (length (g .may .now)) (length (g .work .now)) (length (g .nodes .now)) (length (g .labels .now)) (sym (c .before .before .before .check-fewest .ensures) ∙ c .before .before .if1 .left)) .1 .long)
 
-wanted-mark-requires : tie.Need-wanted-mark-requires
-wanted-mark-requires c κs = search needs
-
 write-plan-requires : tie.Need-write-plan-requires
 write-plan-requires c κs =
     let g = c .before .before .before .before .before .before .before .before .before .before .before .before .before .before .before .before .args in
     rw (c .before .before .before .before .before .before .before .read32 .ensures, c .before .before .before .before .before .before .read322 .ensures, c .before .before .before .before .before .read323 .ensures) (write-args (g .plan .now) (g .rules .now) (g .may .now) (length (g .work .now)) (length (g .nodes .now)) (length (g .labels .now)) (sym (c .before .before .before .before .before .before .before .before .before .check-fewest .ensures) ∙ c .before .before .before .before .before .before .before .before .if1 .left))
-
-same-length : tie.Need-same-length
-same-length c = search needs
-
-same-length-2 : tie.Need-same-length-2
-same-length-2 c = search needs
-
-same-length-3 : tie.Need-same-length-3
-same-length-3 c = search needs
 
 returns-2 : tie.Need-returns-2
 returns-2 c =
@@ -71,15 +48,5 @@ returns-2 c =
 pub fewest-changes-spec : {M : Type 1} → statement M
 fewest-changes-spec =
     tie.close
-    (tie.spec
-    check-fewest-requires
-    returns
-    read32-requires
-    read32-requires-2
-    read32-requires-3
-    wanted-mark-requires
-    write-plan-requires
-    same-length
-    same-length-2
-    same-length-3
-    returns-2)
+    (tie.spec (λ c κs. search needs) returns read32-requires read32-requires-2 read32-requires-3
+    (λ c κs. search needs) write-plan-requires (λ c. search needs) (λ c. search needs) (λ c. search needs) returns-2)

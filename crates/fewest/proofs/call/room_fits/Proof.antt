@@ -1,16 +1,6 @@
 -- `room_fits` meets its contract.
-use Prim.Native.Nat.{ℕ, _+_, _-_, _*_, _≤_, _<_}
-use mathlib.Core.Path.{_≡_, refl, sym, ap, ap₂, _∙_, subst}
-use mathlib.Core.Bool.{Bool, true, false}
-use mathlib.Core.List.{List}
+use Prim.Native.Nat.{_+_, _-_, _≤_}
 use native.Mathlib.Nat.{mul-le-mul-right}
-use lib.ListN.{length, getD}
-use borrow.Author.Tests.{eq-eqb, ne-eqb, not-true, not-false}
-use Rattle.formats.specs.Plan.{nodeCount}
-use Rattle.formats.specs.Rules.{stateCount}
-use Rattle.formats.specs.Checks.{firstNo, ruleTableChecks}
-use Rattle.formats.proofs.InputLaws.{rule-table-passes}
-use Rattle.fewest.specs.Answers.{wantedMark, mayFits, fewestRoom, fewestChecks}
 use Rattle.fewest.proofs.call.CallLaws.{room-work, room-nodes, room-labels}
 use native.Mathlib.Omega.{arith}
 use borrow.Author.Needs.{needs}
@@ -18,9 +8,6 @@ use Rattle.fewest.proofs.call.room_fits.Statement.{statement}
 use Rattle.fewest.proofs.call.room_fits.Tie as tie
 use Rattle.fewest.proofs.call.room_fits.Reads as reads
 use Rattle.fewest.proofs.call.room_fits.Lts as lts
-
-add-if1 : tie.Need-add-if1
-add-if1 c = search needs
 
 mul-if1 : tie.Need-mul-if1
 mul-if1 c =
@@ -47,9 +34,4 @@ returns-3 c =
 pub room-fits-spec : {M : Type 1} → statement M
 room-fits-spec =
     tie.close
-    (tie.spec
-    add-if1
-    mul-if1
-    returns
-    returns-2
-    returns-3)
+    (tie.spec (λ c. search needs) mul-if1 returns returns-2 returns-3)

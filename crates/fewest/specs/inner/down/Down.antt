@@ -18,7 +18,7 @@ use mathlib.Core.List.{List}
 use lib.Dec.{eqb}
 use lib.ListN.{length, getD, set}
 use Rattle.trees.specs.Tree.{Tree, kindsOf, labelsOf, size, labelAt}
-use Rattle.trees.specs.Automaton.{Automaton, state}
+use Rattle.trees.specs.Automaton.{state}
 use Rattle.trees.specs.Numbering.{sub, parent}
 use Rattle.state_sets.specs.StateSets.{member}
 use Rattle.fewest.specs.Least.{noWay}

@@ -5,7 +5,7 @@
 -- RootTold == the root is told the first state that costs m; RootTellArgs == what it needs
 -- ShowDone == from rows that the pass up left: the list of changes to the relabelling that is shown; ShowGiven == what it needs
 -- FewestShown, FewestWritten == the least number, and the list that is shown; WriteArgs == what it needs
-use Prim.Native.Nat.{ℕ, _+_, _-_, _*_, _≤_, _<_}
+use Prim.Native.Nat.{ℕ, _+_, _-_, _*_, _≤_}
 use mathlib.Core.Path.{_≡_}
 use mathlib.Core.List.{List}
 use lib.Dec.{eqb}
@@ -20,7 +20,7 @@ use Rattle.fewest.specs.Relabelling.{stockOf}
 use Rattle.fewest.specs.inner.Problems.{problemFor}
 use Rattle.fewest.specs.inner.passes.Up.{Up, UpGiven}
 use Rattle.fewest.specs.inner.down.Search.{First}
-use Rattle.fewest.specs.inner.down.Root.{rootCost, RootArgs}
+use Rattle.fewest.specs.inner.down.Root.{rootCost}
 use Rattle.fewest.specs.inner.list.Shown.{shownNodes, shownLabels, over}
 
 abbrev pub markedProblem : List ℕ → List ℕ → List ℕ → List ℕ → ℕ → ℕ → ℕ → Problem

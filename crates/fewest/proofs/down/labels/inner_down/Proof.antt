@@ -1,12 +1,5 @@
 -- `inner_down` meets its contract.
-use Prim.Native.Nat.{ℕ, _+_, _-_, _*_, _≤_, _<_}
-use mathlib.Core.Path.{_≡_, refl, sym, ap, _∙_, subst}
-use mathlib.Core.Bool.{Bool, true, false}
-use mathlib.Core.List.{List}
-use lib.Dec.{eqb, ltb}
-use lib.ListN.{length, getD, set, length-set}
-use borrow.Author.Tests.{eq-eqb, ne-eqb, lt-ltb, le-ltb}
-use Rattle.state_sets.specs.StateSets.{member}
+use Prim.Native.Nat.{_-_}
 use native.Mathlib.Omega.{arith}
 use borrow.Author.Needs.{needs}
 use Rattle.fewest.proofs.down.labels.inner_down.Statement.{statement}
@@ -34,9 +27,6 @@ place-requires c κs =
       label-low = omega (arith, d .label-in, p .labels);
     }
 
-same-length : tie.Need-same-length
-same-length c = search needs
-
 returns : tie.Need-returns
 returns c =
     let d = c .before .before .before .before .choice-at .result in
@@ -45,8 +35,4 @@ returns c =
 pub inner-down-spec : {M : Type 1} → statement M
 inner-down-spec =
     tie.close
-    (tie.spec
-    choice-at-requires
-    place-requires
-    same-length
-    returns)
+    (tie.spec choice-at-requires place-requires (λ c. search needs) returns)

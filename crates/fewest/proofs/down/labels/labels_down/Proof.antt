@@ -1,12 +1,7 @@
 -- `labels_down` meets its contract. The loop's invariant: the nodes from v on have had their turns.
-use Prim.Native.Nat.{ℕ, _+_, _-_, _*_, _≤_, _<_}
-use mathlib.Core.Path.{_≡_, refl, sym, ap, _∙_, subst}
-use mathlib.Core.Bool.{Bool, true, false}
-use mathlib.Core.List.{List}
-use lib.Dec.{eqb, ltb}
-use lib.ListN.{length, getD, set, length-set}
-use borrow.Author.Tests.{eq-eqb, ne-eqb, lt-ltb, le-ltb}
-use Rattle.state_sets.specs.StateSets.{member}
+use Prim.Native.Nat.{ℕ, _+_, _-_, _≤_}
+use mathlib.Core.Path.{_≡_, refl, subst}
+use lib.ListN.{length}
 use Rattle.trees.specs.Tree.{Tree, kindsOf, labelsOf}
 use Rattle.trees.proofs.PostorderLaws.{postorder-tree}
 use Rattle.fewest.specs.Relabelling.{stockOf}
@@ -31,9 +26,6 @@ loop-holds : tie.Need-loop-holds Inv-loop μ-loop
 loop-holds c =
     (omega arith, refl, λ acc t g before x y low T. T)
 
-sub-v : tie.Need-sub-v Inv-loop μ-loop
-sub-v c = search needs
-
 node-down-requires : tie.Need-node-down-requires Inv-loop μ-loop
 node-down-requires c κs =
     let g = c .before .before .before .before .before .before .before .before .before .args in
@@ -49,9 +41,6 @@ node-down-requires c κs =
     (q .first) (l .work)) e (l .inv .2 (q .acc) (T .0) (q .target) (q .first) (T .1) (T .2) (q .low (T .0) (T .1) (T .2))
     (q .ready (T .0) (T .1) (T .2))))
 
-loop-less : tie.Need-loop-less Inv-loop μ-loop
-loop-less c = search needs
-
 loop-again : tie.Need-loop-again Inv-loop μ-loop
 loop-again c =
     let g = c .before .before .before .before .before .before .before .before .before .before .before .before .args in
@@ -66,9 +55,6 @@ loop-again c =
           (subst (λ (i : ℕ). Down (g .kinds .now) (g .labels .now) (g .leaves .now) (g .inner .now) (g .may .now) (g .s) (g .k) i (g .work .now) (l .work)) e (l .inv .2)) (c .before .before .node-down .ensures),
     )
 
-same-length : tie.Need-same-length Inv-loop μ-loop
-same-length c = search needs
-
 returns : tie.Need-returns Inv-loop μ-loop
 returns c =
     let g = c .before .before .before .before .before .before .before .before .args in
@@ -79,13 +65,5 @@ returns c =
 pub labels-down-spec : {M : Type 1} → statement M
 labels-down-spec =
     tie.close
-    (tie.spec
-    Inv-loop
-    μ-loop
-    loop-holds
-    sub-v
-    node-down-requires
-    loop-less
-    loop-again
-    same-length
-    returns)
+    (tie.spec Inv-loop μ-loop loop-holds (λ c. search needs) node-down-requires (λ c. search needs) loop-again
+    (λ c. search needs) returns)

@@ -1,11 +1,7 @@
 -- `node_down` meets its contract, by the node's kind.
-use Prim.Native.Nat.{ℕ, _+_, _-_, _*_, _≤_, _<_}
-use mathlib.Core.Path.{_≡_, refl, sym, ap, _∙_, subst}
-use mathlib.Core.Bool.{Bool, true, false}
-use mathlib.Core.List.{List}
-use lib.Dec.{eqb, ltb}
-use lib.ListN.{length, getD, set, length-set}
-use borrow.Author.Tests.{eq-eqb, ne-eqb, lt-ltb, le-ltb}
+use Prim.Native.Nat.{ℕ, _-_}
+use mathlib.Core.Path.{sym, subst}
+use lib.ListN.{getD}
 use Rattle.state_sets.specs.StateSets.{member}
 use Rattle.fewest.specs.inner.down.Down.{LeafDown, InnerDown, InnerDownArgs}
 use native.Mathlib.Omega.{arith}
@@ -14,24 +10,6 @@ use Rattle.fewest.proofs.down.labels.node_down.Statement.{statement}
 use Rattle.fewest.proofs.down.labels.node_down.Tie as tie
 use Rattle.fewest.proofs.down.labels.node_down.Reads as reads
 use Rattle.fewest.proofs.down.labels.node_down.Lts as lts
-
-shared-slice-read-a : tie.Need-shared-slice-read-a
-shared-slice-read-a c = search needs
-
-cast-a : tie.Need-cast-a
-cast-a c = search needs
-
-stock-requires : tie.Need-stock-requires
-stock-requires c κs = search needs
-
-shared-slice-read-if1 : tie.Need-shared-slice-read-if1
-shared-slice-read-if1 c = search needs
-
-leaf-down-requires : tie.Need-leaf-down-requires
-leaf-down-requires c κs = search needs
-
-same-length : tie.Need-same-length
-same-length c = search needs
 
 returns : tie.Need-returns
 returns c =
@@ -48,9 +26,6 @@ inner-down-requires c κs =
     subst (λ (m : ℕ). InnerDownArgs (g .work .now) (g .inner .now) (g .s) (g .k) (g .v) (getD (g .labels .now) (g .v) 0) (member m))
     (sym (c .before .before .before .stock .ensures)) (c .before .before .before .before .before .before .before .before .before .before .before .pre .inner (c .before .if1 .left))
 
-same-length-2 : tie.Need-same-length-2
-same-length-2 c = search needs
-
 returns-2 : tie.Need-returns-2
 returns-2 c =
     let g = c .before .before .before .before .before .before .before .before .before .before .before .before .before .before .args in
@@ -63,14 +38,5 @@ returns-2 c =
 pub node-down-spec : {M : Type 1} → statement M
 node-down-spec =
     tie.close
-    (tie.spec
-    shared-slice-read-a
-    cast-a
-    stock-requires
-    shared-slice-read-if1
-    leaf-down-requires
-    same-length
-    returns
-    inner-down-requires
-    same-length-2
-    returns-2)
+    (tie.spec (λ c. search needs) (λ c. search needs) (λ c κs. search needs) (λ c. search needs)
+    (λ c κs. search needs) (λ c. search needs) returns inner-down-requires (λ c. search needs) returns-2)

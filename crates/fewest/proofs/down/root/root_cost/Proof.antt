@@ -1,12 +1,7 @@
 -- `root_cost` meets its contract.
-use Prim.Native.Nat.{ℕ, _+_, _-_, _*_, _≤_, _<_}
-use mathlib.Core.Path.{_≡_, refl, sym, ap, _∙_, subst}
-use mathlib.Core.Bool.{Bool, true, false}
-use mathlib.Core.List.{List}
-use lib.Dec.{eqb, ltb}
-use lib.ListN.{length, getD, set, length-set}
-use borrow.Author.Tests.{eq-eqb, ne-eqb, lt-ltb, le-ltb}
-use Rattle.state_sets.specs.StateSets.{member}
+use Prim.Native.Nat.{_-_}
+use lib.ListN.{getD}
+use borrow.Author.Tests.{eq-eqb, ne-eqb}
 use Rattle.fewest.specs.inner.down.Root.{rootCost}
 use native.Mathlib.Omega.{arith}
 use borrow.Author.Needs.{needs}
@@ -14,18 +9,6 @@ use Rattle.fewest.proofs.down.root.root_cost.Statement.{statement}
 use Rattle.fewest.proofs.down.root.root_cost.Tie as tie
 use Rattle.fewest.proofs.down.root.root_cost.Reads as reads
 use Rattle.fewest.proofs.down.root.root_cost.Lts as lts
-
-shared-slice-read-if1 : tie.Need-shared-slice-read-if1
-shared-slice-read-if1 c = search needs
-
-add-result : tie.Need-add-result
-add-result c = search needs
-
-mul-result : tie.Need-mul-result
-mul-result c = search needs
-
-shared-slice-read-result : tie.Need-shared-slice-read-result
-shared-slice-read-result c = search needs
 
 returns : tie.Need-returns
 unfolding rootCost
@@ -42,10 +25,4 @@ returns-2 c =
 pub root-cost-spec : {M : Type 1} → statement M
 root-cost-spec =
     tie.close
-    (tie.spec
-    shared-slice-read-if1
-    add-result
-    mul-result
-    shared-slice-read-result
-    returns
-    returns-2)
+    (tie.spec (λ c. search needs) (λ c. search needs) (λ c. search needs) (λ c. search needs) returns returns-2)

@@ -1,12 +1,6 @@
 -- `root_least` meets its contract. The loop's invariant: the least of the costs below j.
-use Prim.Native.Nat.{ℕ, _+_, _-_, _*_, _≤_, _<_}
-use mathlib.Core.Path.{_≡_, refl, sym, ap, _∙_, subst}
-use mathlib.Core.Bool.{Bool, true, false}
-use mathlib.Core.List.{List}
-use lib.Dec.{eqb, ltb}
-use lib.ListN.{length, getD, set, length-set}
-use borrow.Author.Tests.{eq-eqb, ne-eqb, lt-ltb, le-ltb}
-use Rattle.state_sets.specs.StateSets.{member}
+use Prim.Native.Nat.{ℕ, _-_, _≤_}
+use mathlib.Core.Path.{_≡_, refl, ap, _∙_}
 use native.Mathlib.Numerals.{add-one}
 use Rattle.fewest.specs.Least.{leastTo}
 use Rattle.fewest.specs.inner.down.Root.{rootCost}
@@ -29,18 +23,6 @@ unfolding leastTo
 loop-holds c =
     (omega arith, refl)
 
-root-cost-requires : tie.Need-root-cost-requires Inv-loop μ-loop
-root-cost-requires c κs = search needs
-
-lesser-requires : tie.Need-lesser-requires Inv-loop μ-loop
-lesser-requires c κs = search needs
-
-add-j : tie.Need-add-j Inv-loop μ-loop
-add-j c = search needs
-
-loop-less : tie.Need-loop-less Inv-loop μ-loop
-loop-less c = search needs
-
 loop-again : tie.Need-loop-again Inv-loop μ-loop
 unfolding leastTo
 loop-again c =
@@ -58,13 +40,5 @@ returns c =
 pub root-least-spec : {M : Type 1} → statement M
 root-least-spec =
     tie.close
-    (tie.spec
-    Inv-loop
-    μ-loop
-    loop-holds
-    root-cost-requires
-    lesser-requires
-    add-j
-    loop-less
-    loop-again
-    returns)
+    (tie.spec Inv-loop μ-loop loop-holds (λ c κs. search needs) (λ c κs. search needs) (λ c. search needs)
+    (λ c. search needs) loop-again returns)

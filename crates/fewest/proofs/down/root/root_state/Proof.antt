@@ -1,16 +1,11 @@
 -- `root_state` meets its contract. The loop's invariant: none of the numbers below j does.
-use Prim.Native.Nat.{ℕ, _+_, _-_, _*_, _≤_, _<_}
-use mathlib.Core.Path.{_≡_, refl, sym, ap, _∙_, subst}
-use mathlib.Core.Bool.{Bool, true, false}
-use mathlib.Core.List.{List}
-use lib.Dec.{eqb, ltb}
-use lib.ListN.{length, getD, set, length-set}
-use borrow.Author.Tests.{eq-eqb, ne-eqb, lt-ltb, le-ltb}
-use Rattle.state_sets.specs.StateSets.{member}
-use Rattle.fewest.specs.inner.Rows.{labelCost, leafCost}
-use Rattle.fewest.specs.inner.down.Search.{anyOf, First, labelHit, rightHit, leftHit}
+use Prim.Native.Nat.{ℕ, _-_, _≤_, _<_}
+use mathlib.Core.Path.{_≡_, sym, _∙_}
+use mathlib.Core.Bool.{false}
+use lib.Dec.{eqb}
+use borrow.Author.Tests.{eq-eqb, ne-eqb}
 use Rattle.fewest.specs.inner.down.Root.{rootCost}
-use Rattle.fewest.proofs.down.AnyLaws.{any-first, first-found, first-start, first-next, first-here, first-none}
+use Rattle.fewest.proofs.down.AnyLaws.{first-start, first-next, first-here, first-none}
 use native.Mathlib.Omega.{arith}
 use borrow.Author.Needs.{needs}
 use Rattle.fewest.proofs.down.root.root_state.Statement.{statement}
@@ -40,12 +35,6 @@ returns c =
     let l = c .before .before .before .loop in
     first-here (g .s) (λ j. eqb (rootCost (g .work .now) (g .marks .now) (g .at) (g .mark) j) (g .c)) (l .j) (c .before .before .loop-test .taken) (l .inv .1) (eq-eqb (rootCost (g .work .now) (g .marks .now) (g .at) (g .mark) (l .j)) (g .c) (sym (c .before .root-cost .ensures) ∙ c .if1 .taken))
 
-add-j : tie.Need-add-j Inv-loop μ-loop
-add-j c = search needs
-
-loop-less : tie.Need-loop-less Inv-loop μ-loop
-loop-less c = search needs
-
 loop-again : tie.Need-loop-again Inv-loop μ-loop
 loop-again c =
     let g = c .before .before .before .before .before .before .args in
@@ -62,13 +51,5 @@ returns-2 c =
 pub root-state-spec : {M : Type 1} → statement M
 root-state-spec =
     tie.close
-    (tie.spec
-    Inv-loop
-    μ-loop
-    loop-holds
-    root-cost-requires
-    returns
-    add-j
-    loop-less
-    loop-again
+    (tie.spec Inv-loop μ-loop loop-holds root-cost-requires returns (λ c. search needs) (λ c. search needs) loop-again
     returns-2)

@@ -1,16 +1,9 @@
 -- `choose` meets its contract.
-use Prim.Native.Nat.{ℕ, _+_, _-_, _*_, _≤_, _<_}
-use mathlib.Core.Path.{_≡_, refl, sym, ap, _∙_, subst}
-use mathlib.Core.Bool.{Bool, true, false}
-use mathlib.Core.List.{List}
-use lib.Dec.{eqb, ltb}
-use lib.ListN.{length, getD, set, length-set}
-use borrow.Author.Tests.{eq-eqb, ne-eqb, lt-ltb, le-ltb}
+use Prim.Native.Nat.{_+_, _-_, _<_}
+use lib.ListN.{getD}
 use Rattle.state_sets.specs.StateSets.{member}
-use Rattle.fewest.specs.inner.Rows.{labelCost, leafCost}
-use Rattle.fewest.specs.inner.down.Search.{anyOf, First, labelHit, rightHit, leftHit}
-use Rattle.fewest.specs.inner.down.Root.{rootCost}
-use Rattle.fewest.proofs.down.AnyLaws.{any-first, first-found, first-start, first-next, first-here, first-none}
+use Rattle.fewest.specs.inner.down.Search.{labelHit, rightHit, leftHit}
+use Rattle.fewest.proofs.down.AnyLaws.{first-found}
 use Rattle.fewest.proofs.down.WayLaws.{row-args, right-search}
 use native.Mathlib.Omega.{arith}
 use borrow.Author.Needs.{needs}
@@ -100,15 +93,5 @@ returns c =
 pub choose-spec : {M : Type 1} → statement M
 choose-spec =
     tie.close
-    (tie.spec
-    find-left-requires
-    add-x
-    mul-x
-    shared-slice-read-x
-    find-right-requires
-    add-find-label
-    mul-find-label
-    shared-slice-read-find-label
-    add-find-label-2
-    find-label-requires
-    returns)
+    (tie.spec find-left-requires add-x mul-x shared-slice-read-x find-right-requires add-find-label mul-find-label
+    shared-slice-read-find-label add-find-label-2 find-label-requires returns)

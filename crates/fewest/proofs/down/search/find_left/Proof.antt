@@ -1,16 +1,12 @@
 -- `find_left` meets its contract. The loop's invariant: none of the numbers below p does.
-use Prim.Native.Nat.{ℕ, _+_, _-_, _*_, _≤_, _<_}
-use mathlib.Core.Path.{_≡_, refl, sym, ap, _∙_, subst}
-use mathlib.Core.Bool.{Bool, true, false}
-use mathlib.Core.List.{List}
-use lib.Dec.{eqb, ltb}
-use lib.ListN.{length, getD, set, length-set}
-use borrow.Author.Tests.{eq-eqb, ne-eqb, lt-ltb, le-ltb}
+use Prim.Native.Nat.{ℕ, _+_, _-_, _≤_, _<_}
+use mathlib.Core.Path.{_≡_, sym, _∙_}
+use mathlib.Core.Bool.{false}
+use lib.ListN.{getD}
+use borrow.Author.Tests.{lt-ltb, le-ltb}
 use Rattle.state_sets.specs.StateSets.{member}
-use Rattle.fewest.specs.inner.Rows.{labelCost, leafCost}
-use Rattle.fewest.specs.inner.down.Search.{anyOf, First, labelHit, rightHit, leftHit}
-use Rattle.fewest.specs.inner.down.Root.{rootCost}
-use Rattle.fewest.proofs.down.AnyLaws.{any-first, first-found, first-start, first-next, first-here, first-none}
+use Rattle.fewest.specs.inner.down.Search.{rightHit, leftHit}
+use Rattle.fewest.proofs.down.AnyLaws.{any-first, first-start, first-next, first-here, first-none}
 use Rattle.fewest.proofs.down.WayLaws.{right-search}
 use native.Mathlib.Omega.{arith}
 use borrow.Author.Needs.{needs}
@@ -31,15 +27,6 @@ loop-holds c =
     let g = c .before .before .args in
     (omega arith, first-start (leftHit (g .work .now) (g .inner .now) (g .s) (g .k) (g .from) (g .at) (g .a) (member (g .labels)) (g .j) (g .c)))
 
-add-find-right : tie.Need-add-find-right Inv-loop μ-loop
-add-find-right c = search needs
-
-mul-find-right : tie.Need-mul-find-right Inv-loop μ-loop
-mul-find-right c = search needs
-
-shared-slice-read-find-right : tie.Need-shared-slice-read-find-right Inv-loop μ-loop
-shared-slice-read-find-right c = search needs
-
 find-right-requires : tie.Need-find-right-requires Inv-loop μ-loop
 find-right-requires c κs =
     let g = c .before .before .before .before .before .args in
@@ -50,12 +37,6 @@ returns c =
     let g = c .before .before .before .before .before .before .before .args in
     let l = c .before .before .before .before .loop in
     first-here (g .s) (leftHit (g .work .now) (g .inner .now) (g .s) (g .k) (g .from) (g .at) (g .a) (member (g .labels)) (g .j) (g .c)) (l .p) (c .before .before .before .loop-test .taken) (l .inv .1) (sym (any-first (g .s) (rightHit (g .work .now) (g .inner .now) (g .s) (g .k) (l .p) (getD (g .work .now) (g .from + l .p) 0) (g .at) (g .a) (member (g .labels)) (g .j) (g .c)) (c .before .find-right .result) (c .before .find-right .ensures)) ∙ lt-ltb (c .before .find-right .result) (g .s) (c .if1 .taken))
-
-add-p : tie.Need-add-p Inv-loop μ-loop
-add-p c = search needs
-
-loop-less : tie.Need-loop-less Inv-loop μ-loop
-loop-less c = search needs
 
 loop-again : tie.Need-loop-again Inv-loop μ-loop
 loop-again c =
@@ -73,16 +54,5 @@ returns-2 c =
 pub find-left-spec : {M : Type 1} → statement M
 find-left-spec =
     tie.close
-    (tie.spec
-    Inv-loop
-    μ-loop
-    loop-holds
-    add-find-right
-    mul-find-right
-    shared-slice-read-find-right
-    find-right-requires
-    returns
-    add-p
-    loop-less
-    loop-again
-    returns-2)
+    (tie.spec Inv-loop μ-loop loop-holds (λ c. search needs) (λ c. search needs) (λ c. search needs)
+    find-right-requires returns (λ c. search needs) (λ c. search needs) loop-again returns-2)

@@ -1,16 +1,10 @@
 -- `find_right` meets its contract. The loop's invariant: none of the numbers below q does.
-use Prim.Native.Nat.{ℕ, _+_, _-_, _*_, _≤_, _<_}
-use mathlib.Core.Path.{_≡_, refl, sym, ap, _∙_, subst}
-use mathlib.Core.Bool.{Bool, true, false}
-use mathlib.Core.List.{List}
-use lib.Dec.{eqb, ltb}
-use lib.ListN.{length, getD, set, length-set}
-use borrow.Author.Tests.{eq-eqb, ne-eqb, lt-ltb, le-ltb}
+use Prim.Native.Nat.{ℕ, _-_, _≤_, _<_}
+use mathlib.Core.Path.{_≡_, sym, _∙_}
+use mathlib.Core.Bool.{false}
 use Rattle.state_sets.specs.StateSets.{member}
-use Rattle.fewest.specs.inner.Rows.{labelCost, leafCost}
-use Rattle.fewest.specs.inner.down.Search.{anyOf, First, labelHit, rightHit, leftHit}
-use Rattle.fewest.specs.inner.down.Root.{rootCost}
-use Rattle.fewest.proofs.down.AnyLaws.{any-first, first-found, first-start, first-next, first-here, first-none}
+use Rattle.fewest.specs.inner.down.Search.{rightHit}
+use Rattle.fewest.proofs.down.AnyLaws.{first-start, first-next, first-here, first-none}
 use Rattle.fewest.proofs.down.WayLaws.{row-args}
 use native.Mathlib.Omega.{arith}
 use borrow.Author.Needs.{needs}
@@ -31,15 +25,6 @@ loop-holds c =
     let g = c .before .before .args in
     (omega arith, first-start (rightHit (g .work .now) (g .inner .now) (g .s) (g .k) (g .p) (g .x) (g .at) (g .a) (member (g .labels)) (g .j) (g .c)))
 
-add-label-hits : tie.Need-add-label-hits Inv-loop μ-loop
-add-label-hits c = search needs
-
-mul-label-hits : tie.Need-mul-label-hits Inv-loop μ-loop
-mul-label-hits c = search needs
-
-shared-slice-read-label-hits : tie.Need-shared-slice-read-label-hits Inv-loop μ-loop
-shared-slice-read-label-hits c = search needs
-
 add-label-hits-2 : tie.Need-add-label-hits-2 Inv-loop μ-loop
 add-label-hits-2 c =
     omega (arith, c .before .before .before .before .before .pre .left-low, c .before .before .before .before .before .pre .right-low (c .before .before .loop .q) (c .before .loop-test .taken))
@@ -54,12 +39,6 @@ returns c =
     let g = c .before .before .before .before .before .before .before .args in
     let l = c .before .before .before .before .loop in
     first-here (g .s) (rightHit (g .work .now) (g .inner .now) (g .s) (g .k) (g .p) (g .x) (g .at) (g .a) (member (g .labels)) (g .j) (g .c)) (l .q) (c .before .before .before .loop-test .taken) (l .inv .1) (sym (c .before .label-hits .ensures) ∙ c .if1 .taken)
-
-add-q : tie.Need-add-q Inv-loop μ-loop
-add-q c = search needs
-
-loop-less : tie.Need-loop-less Inv-loop μ-loop
-loop-less c = search needs
 
 loop-again : tie.Need-loop-again Inv-loop μ-loop
 loop-again c =
@@ -77,17 +56,5 @@ returns-2 c =
 pub find-right-spec : {M : Type 1} → statement M
 find-right-spec =
     tie.close
-    (tie.spec
-    Inv-loop
-    μ-loop
-    loop-holds
-    add-label-hits
-    mul-label-hits
-    shared-slice-read-label-hits
-    add-label-hits-2
-    label-hits-requires
-    returns
-    add-q
-    loop-less
-    loop-again
-    returns-2)
+    (tie.spec Inv-loop μ-loop loop-holds (λ c. search needs) (λ c. search needs) (λ c. search needs) add-label-hits-2
+    label-hits-requires returns (λ c. search needs) (λ c. search needs) loop-again returns-2)

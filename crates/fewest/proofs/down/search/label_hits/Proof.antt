@@ -1,16 +1,8 @@
 -- `label_hits` meets its contract.
-use Prim.Native.Nat.{ℕ, _+_, _-_, _*_, _≤_, _<_}
-use mathlib.Core.Path.{_≡_, refl, sym, ap, _∙_, subst}
-use mathlib.Core.Bool.{Bool, true, false}
-use mathlib.Core.List.{List}
-use lib.Dec.{eqb, ltb}
-use lib.ListN.{length, getD, set, length-set}
-use borrow.Author.Tests.{eq-eqb, ne-eqb, lt-ltb, le-ltb}
+use Prim.Native.Nat.{_-_}
 use Rattle.state_sets.specs.StateSets.{member}
-use Rattle.fewest.specs.inner.Rows.{labelCost, leafCost}
-use Rattle.fewest.specs.inner.down.Search.{anyOf, First, labelHit, rightHit, leftHit}
-use Rattle.fewest.specs.inner.down.Root.{rootCost}
-use Rattle.fewest.proofs.down.AnyLaws.{any-first, first-found, first-start, first-next, first-here, first-none}
+use Rattle.fewest.specs.inner.down.Search.{labelHit}
+use Rattle.fewest.proofs.down.AnyLaws.{any-first}
 use Rattle.fewest.proofs.down.WayLaws.{none-under}
 use native.Mathlib.Omega.{arith}
 use borrow.Author.Needs.{needs}
@@ -24,9 +16,6 @@ returns c =
     let g = c .before .before .args in
     none-under (g .inner .now) (g .s) (g .k) (g .p) (g .q) (g .a) (member (g .labels)) (g .base) (g .j) (g .c) (c .if1 .taken) (c .before .before .pre .1)
 
-find-label-requires : tie.Need-find-label-requires
-find-label-requires c κs = search needs
-
 returns-2 : tie.Need-returns-2
 returns-2 c =
     let g = c .before .before .before .args in
@@ -35,7 +24,4 @@ returns-2 c =
 pub label-hits-spec : {M : Type 1} → statement M
 label-hits-spec =
     tie.close
-    (tie.spec
-    returns
-    find-label-requires
-    returns-2)
+    (tie.spec returns (λ c κs. search needs) returns-2)

@@ -1,11 +1,8 @@
 -- `list_changes` meets its contract. The loop's invariant: the changes at the nodes below v are listed.
-use Prim.Native.Nat.{ℕ, _+_, _-_, _*_, _≤_, _<_}
-use mathlib.Core.Path.{_≡_, refl, sym, ap, _∙_, subst}
-use mathlib.Core.Bool.{Bool, true, false}
-use mathlib.Core.List.{List}
-use lib.ListN.{length, getD, set, length-set}
+use Prim.Native.Nat.{ℕ, _+_, _-_, _≤_}
+use mathlib.Core.Path.{_≡_, refl, subst}
+use lib.ListN.{length, getD}
 use Rattle.list_laws.proofs.RowLaws.{stride}
-use Rattle.trees.proofs.PostorderLaws.{some-node}
 use Rattle.fewest.specs.inner.passes.Cells.{sizeCell}
 use Rattle.fewest.specs.inner.list.Lists.{Listed}
 use Rattle.fewest.proofs.list.ListLoop.{list-start, list-next, entry-in}
@@ -29,15 +26,9 @@ loop-holds c =
     let g = c .before .before .before .before .args in
     (omega arith, refl, refl, list-start (λ i. getD (g .labels .now) i 0) (sizeCell (g .s) (g .work .now)) (g .nodes .now) (g .out .now))
 
-shared-slice-read-a : tie.Need-shared-slice-read-a Inv-loop μ-loop
-shared-slice-read-a c = search needs
-
 cast-a : tie.Need-cast-a Inv-loop μ-loop
 cast-a c =
     omega (arith, c .shared-slice-known3 .given (c .before .before .loop .v))
-
-add-b : tie.Need-add-b Inv-loop μ-loop
-add-b c = search needs
 
 mul-b : tie.Need-mul-b Inv-loop μ-loop
 mul-b c =
@@ -73,12 +64,6 @@ put-change-requires c κs =
       );
     }
 
-add-v : tie.Need-add-v Inv-loop μ-loop
-add-v c = search needs
-
-loop-less : tie.Need-loop-less Inv-loop μ-loop
-loop-less c = search needs
-
 loop-again : tie.Need-loop-again Inv-loop μ-loop
 loop-again c =
     let g = c .before .before .before .before .before .before .before .before .before .before .before .before .before .before .before .args in
@@ -94,12 +79,6 @@ loop-again c =
           (c .before .before .before .before .put-change .ensures),
     )
 
-same-length : tie.Need-same-length Inv-loop μ-loop
-same-length c = search needs
-
-same-length-2 : tie.Need-same-length-2 Inv-loop μ-loop
-same-length-2 c = search needs
-
 returns : tie.Need-returns Inv-loop μ-loop
 returns c =
     let g = c .before .before .before .before .before .before .args in
@@ -110,20 +89,6 @@ returns c =
 pub list-changes-spec : {M : Type 1} → statement M
 list-changes-spec =
     tie.close
-    (tie.spec
-    Inv-loop
-    μ-loop
-    loop-holds
-    shared-slice-read-a
-    cast-a
-    add-b
-    mul-b
-    mul-b-2
-    shared-slice-read-b
-    put-change-requires
-    add-v
-    loop-less
-    loop-again
-    same-length
-    same-length-2
-    returns)
+    (tie.spec Inv-loop μ-loop loop-holds (λ c. search needs) cast-a (λ c. search needs) mul-b mul-b-2
+    shared-slice-read-b put-change-requires (λ c. search needs) (λ c. search needs) loop-again (λ c. search needs)
+    (λ c. search needs) returns)

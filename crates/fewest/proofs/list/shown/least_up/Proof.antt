@@ -1,12 +1,8 @@
 -- `least_up` meets its contract.
-use Prim.Native.Nat.{ℕ, _+_, _-_, _*_, _≤_, _<_}
-use mathlib.Core.Path.{_≡_, refl, sym, ap, _∙_, subst}
-use mathlib.Core.Bool.{Bool, true, false}
-use mathlib.Core.List.{List}
-use lib.ListN.{length, getD, set, length-set}
+use Prim.Native.Nat.{_+_, _-_}
+use lib.ListN.{length}
 use Rattle.list_laws.proofs.RowLaws.{stride}
 use Rattle.trees.proofs.PostorderLaws.{some-node}
-use Rattle.fewest.specs.inner.passes.Cells.{sizeCell}
 use native.Mathlib.Omega.{arith}
 use borrow.Author.Needs.{needs}
 use Rattle.fewest.proofs.list.shown.least_up.Statement.{statement}
@@ -25,9 +21,6 @@ sub-root-least c =
     let n = length (g .kinds .now) in
     let z = some-node (g .kinds .now) (p .runs .postorder) in
     omega (arith, z)
-
-add-root-least : tie.Need-add-root-least
-add-root-least c = search needs
 
 mul-root-least : tie.Need-mul-root-least
 mul-root-least c =
@@ -53,9 +46,6 @@ root-least-requires c κs =
     let z = some-node (g .kinds .now) (p .runs .postorder) in
     record { few = p .runs .few; room = omega (arith, stride (g .s + 1) (length (g .kinds .now) - 1) (length (g .kinds .now)) (omega (arith, z)), p .room); marks = c .before .before .before .before .before .before .before .before .before .before .before .before .pre .marks }
 
-same-length : tie.Need-same-length
-same-length c = search needs
-
 returns : tie.Need-returns
 returns c =
     record { up = c .before .before .before .before .costs-up .ensures; least = c .root-least .ensures }
@@ -63,12 +53,5 @@ returns c =
 pub least-up-spec : {M : Type 1} → statement M
 least-up-spec =
     tie.close
-    (tie.spec
-    costs-up-requires
-    sub-root-least
-    add-root-least
-    mul-root-least
-    add-root-least-2
-    root-least-requires
-    same-length
-    returns)
+    (tie.spec costs-up-requires sub-root-least (λ c. search needs) mul-root-least add-root-least-2 root-least-requires
+    (λ c. search needs) returns)

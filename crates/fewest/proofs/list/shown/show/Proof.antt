@@ -1,12 +1,8 @@
 -- `show` meets its contract: the root, down, and the list.
-use Prim.Native.Nat.{ℕ, _+_, _-_, _*_, _≤_, _<_}
-use mathlib.Core.Path.{_≡_, refl, sym, ap, _∙_, subst}
-use mathlib.Core.Bool.{Bool, true, false}
-use mathlib.Core.List.{List}
-use lib.ListN.{length, getD, set, length-set}
+use Prim.Native.Nat.{_+_, _-_}
+use lib.ListN.{length}
 use Rattle.list_laws.proofs.RowLaws.{stride}
 use Rattle.trees.proofs.PostorderLaws.{some-node}
-use Rattle.fewest.specs.inner.passes.Cells.{sizeCell}
 use Rattle.fewest.proofs.list.ShownLaws.{down-given, show-list-args, show-few, show-done}
 use native.Mathlib.Omega.{arith}
 use borrow.Author.Needs.{needs}
@@ -45,15 +41,6 @@ cast-result c =
     let L = show-few (g .kinds .now) (g .labels .now) (g .leaves .now) (g .inner .now) (g .marks .now) (g .may .now) (g .s) (g .k) (g .mark) (g .m) (g .work .now) (length (g .nodes .now)) (length (g .out .now)) (c .before .before .before .before .before .before .before .before .before .before .before .before .before .before .before .before .before .before .before .before .before .before .before .before .before .pre) (c .before .before .before .before .before .before .before .before .before .before .before .before .before .before .tell-root .last .0) (c .before .before .before .before .before .before .before .before .before .before .before .before .before .before .tell-root .ensures) (omega arith) (c .before .before .before .before .before .before .before .before .before .before .labels-down .last .1 .1 .1 .1 .1 .1 .1 .0) (c .before .before .before .before .before .before .before .before .before .before .labels-down .ensures) (omega arith) in
     omega (arith, c .before .before .before .before .list-changes .ensures .count, L)
 
-same-length : tie.Need-same-length
-same-length c = search needs
-
-same-length-2 : tie.Need-same-length-2
-same-length-2 c = search needs
-
-same-length-3 : tie.Need-same-length-3
-same-length-3 c = search needs
-
 returns : tie.Need-returns
 returns c =
     let g = c .before .before .before .before .before .before .before .before .before .before .before .before .before .before .before .before .before .before .before .before .before .before .before .before .before .args in
@@ -63,13 +50,5 @@ returns c =
 pub show-spec : {M : Type 1} → statement M
 show-spec =
     tie.close
-    (tie.spec
-    sub-tell-root
-    tell-root-requires
-    labels-down-requires
-    list-changes-requires
-    cast-result
-    same-length
-    same-length-2
-    same-length-3
-    returns)
+    (tie.spec sub-tell-root tell-root-requires labels-down-requires list-changes-requires cast-result
+    (λ c. search needs) (λ c. search needs) (λ c. search needs) returns)

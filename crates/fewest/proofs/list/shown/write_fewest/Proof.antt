@@ -1,12 +1,5 @@
 -- `write_fewest` meets its contract.
-use Prim.Native.Nat.{ℕ, _+_, _-_, _*_, _≤_, _<_}
-use mathlib.Core.Path.{_≡_, refl, sym, ap, _∙_, subst}
-use mathlib.Core.Bool.{Bool, true, false}
-use mathlib.Core.List.{List}
-use lib.ListN.{length, getD, set, length-set}
-use Rattle.list_laws.proofs.RowLaws.{stride}
-use Rattle.trees.proofs.PostorderLaws.{some-node}
-use Rattle.fewest.specs.inner.passes.Cells.{sizeCell}
+use Prim.Native.Nat.{_-_}
 use Rattle.fewest.proofs.list.ShownLaws.{written-short, written-long}
 use native.Mathlib.Omega.{arith}
 use borrow.Author.Needs.{needs}
@@ -18,9 +11,6 @@ use Rattle.fewest.proofs.list.shown.write_fewest.Lts as lts
 least-up-requires : tie.Need-least-up-requires
 least-up-requires c κs =
     c .before .before .before .before .before .before .before .before .before .before .pre .given
-
-same-length : tie.Need-same-length
-same-length c = search needs
 
 returns : tie.Need-returns
 returns c =
@@ -43,15 +33,6 @@ show-requires c κs =
       labels-room = c .before .before .before .before .before .before .before .before .before .before .before .before .before .before .before .before .before .pre .labels-room;
     }
 
-same-length-2 : tie.Need-same-length-2
-same-length-2 c = search needs
-
-same-length-3 : tie.Need-same-length-3
-same-length-3 c = search needs
-
-same-length-4 : tie.Need-same-length-4
-same-length-4 c = search needs
-
 returns-2 : tie.Need-returns-2
 returns-2 c =
     let g = c .before .before .before .before .before .before .before .before .before .before .before .before .before .before .before .before .before .before .before .before .before .before .before .before .args in
@@ -63,12 +44,5 @@ returns-2 c =
 pub write-fewest-spec : {M : Type 1} → statement M
 write-fewest-spec =
     tie.close
-    (tie.spec
-    least-up-requires
-    same-length
-    returns
-    show-requires
-    same-length-2
-    same-length-3
-    same-length-4
-    returns-2)
+    (tie.spec least-up-requires (λ c. search needs) returns show-requires (λ c. search needs) (λ c. search needs)
+    (λ c. search needs) returns-2)

@@ -1,5 +1,4 @@
 -- `stock` meets its contract.
-use mathlib.Core.Path.{_≡_}
 use lib.ListN.{length}
 use borrow.Author.Tests.{eq-eqb, ne-eqb}
 use Rattle.fewest.specs.Relabelling.{stockOf}

@@ -1,6 +1,6 @@
 -- `costs_up` meets its contract. The loop's invariant: the nodes below v have their rows.
-use Prim.Native.Nat.{ℕ, _+_, _-_, _*_, _≤_}
-use mathlib.Core.Path.{_≡_, refl, sym, _∙_, subst}
+use Prim.Native.Nat.{ℕ, _-_, _≤_}
+use mathlib.Core.Path.{_≡_, refl, _∙_, subst}
 use lib.ListN.{length}
 use Rattle.fewest.specs.inner.passes.Up.{Up}
 use Rattle.fewest.proofs.passes.UpLoop.{up-start, up-next, turn-args}
@@ -31,12 +31,6 @@ node-turn-requires c κs =
     turn-args (g .kinds .now) (g .labels .now) (g .leaves .now) (g .inner .now) (g .may .now) (g .s) (g .k) (c .before .before .before .before .before .before .before .before .before .pre .runs) (l .v)
     (g .work .now) (l .work) (c .before .loop-test .taken) (l .inv .2) (c .before .before .before .before .before .before .before .before .before .pre .stocks) (omega (arith, c .before .before .before .before .before .before .before .before .before .pre .room, l .inv .1))
 
-add-v : tie.Need-add-v Inv-loop μ-loop
-add-v c = search needs
-
-loop-less : tie.Need-loop-less Inv-loop μ-loop
-loop-less c = search needs
-
 loop-again : tie.Need-loop-again Inv-loop μ-loop
 loop-again c =
     let g = c .before .before .before .before .before .before .before .before .before .before .before .before .args in
@@ -46,9 +40,6 @@ loop-again c =
       up-next (g .kinds .now) (g .labels .now) (g .leaves .now) (g .inner .now) (g .may .now) (g .s) (g .k) (c .before .before .before .before .before .before .before .before .before .before .before .before .pre .runs) (l .v)
           (g .work .now) (l .work) (c .before .before .before .before .loop-test .taken) (l .inv .2) (c .before .before .node-turn .last .1 .1 .1 .1 .1 .1 .1 .0) (c .before .before .node-turn .ensures),
     )
-
-same-length : tie.Need-same-length Inv-loop μ-loop
-same-length c = search needs
 
 returns : tie.Need-returns Inv-loop μ-loop
 returns c =
@@ -61,13 +52,5 @@ returns c =
 pub costs-up-spec : {M : Type 1} → statement M
 costs-up-spec =
     tie.close
-    (tie.spec
-    Inv-loop
-    μ-loop
-    loop-holds
-    node-turn-requires
-    add-v
-    loop-less
-    loop-again
-    same-length
-    returns)
+    (tie.spec Inv-loop μ-loop loop-holds node-turn-requires (λ c. search needs) (λ c. search needs) loop-again
+    (λ c. search needs) returns)

@@ -1,7 +1,5 @@
 -- `inner_row` meets its contract: the children's rows are handed on as parts.
-use Prim.Native.Nat.{ℕ, _+_, _-_, _*_}
-use mathlib.Core.Path.{_≡_}
-use lib.ListN.{length}
+use Prim.Native.Nat.{_+_, _-_, _*_}
 use Rattle.state_sets.specs.StateSets.{member}
 use Rattle.fewest.specs.inner.Rows.{leftCost, innerCosts}
 use Rattle.fewest.specs.inner.passes.Cells.{costCell, leftIn}
@@ -13,81 +11,6 @@ use Rattle.fewest.proofs.passes.up.inner_row.Tie as tie
 use Rattle.fewest.proofs.passes.up.inner_row.Reads as reads
 use Rattle.fewest.proofs.passes.up.inner_row.Lts as lts
 use Rattle.fewest.proofs.rows.relax.relax_left.Reads as relax-left-reads
-
-sub-y : tie.Need-sub-y
-sub-y c = search needs
-
-add-y : tie.Need-add-y
-add-y c = search needs
-
-mul-y : tie.Need-mul-y
-mul-y c = search needs
-
-mul-y-2 : tie.Need-mul-y-2
-mul-y-2 c = search needs
-
-shared-slice-read-y : tie.Need-shared-slice-read-y
-shared-slice-read-y c = search needs
-
-cast-y : tie.Need-cast-y
-cast-y c = search needs
-
-sub-l : tie.Need-sub-l
-sub-l c = search needs
-
-sub-l-2 : tie.Need-sub-l-2
-sub-l-2 c = search needs
-
-add-l : tie.Need-add-l
-add-l c = search needs
-
-mul-l : tie.Need-mul-l
-mul-l c = search needs
-
-add-l-2 : tie.Need-add-l-2
-add-l-2 c = search needs
-
-sub-r : tie.Need-sub-r
-sub-r c = search needs
-
-add-r : tie.Need-add-r
-add-r c = search needs
-
-mul-r : tie.Need-mul-r
-mul-r c = search needs
-
-add-r-2 : tie.Need-add-r-2
-add-r-2 c = search needs
-
-add-relax-left : tie.Need-add-relax-left
-add-relax-left c = search needs
-
-mul-relax-left : tie.Need-mul-relax-left
-mul-relax-left c = search needs
-
-sub-relax-left : tie.Need-sub-relax-left
-sub-relax-left c = search needs
-
-part-relax-left-start : tie.Need-part-relax-left-start
-part-relax-left-start c = search needs
-
-part-relax-left-end : tie.Need-part-relax-left-end
-part-relax-left-end c = search needs
-
-add-relax-left-2 : tie.Need-add-relax-left-2
-add-relax-left-2 c = search needs
-
-mul-relax-left-2 : tie.Need-mul-relax-left-2
-mul-relax-left-2 c = search needs
-
-sub-relax-left-2 : tie.Need-sub-relax-left-2
-sub-relax-left-2 c = search needs
-
-part-relax-left-start-2 : tie.Need-part-relax-left-start-2
-part-relax-left-start-2 c = search needs
-
-part-relax-left-end-2 : tie.Need-part-relax-left-end-2
-part-relax-left-end-2 c = search needs
 
 relax-left-requires : tie.Need-relax-left-requires
 relax-left-requires c κs =
@@ -105,9 +28,6 @@ relax-left-requires c κs =
       c .before .before .before .before .before .before .before .pre .1,
     )
 
-same-length : tie.Need-same-length
-same-length c = search needs
-
 returns : tie.Need-returns
 returns c =
     let g = c .before .before .before .before .before .before .before .before .before .before .args in
@@ -122,32 +42,9 @@ returns c =
 pub inner-row-spec : {M : Type 1} → statement M
 inner-row-spec =
     tie.close
-    (tie.spec
-    sub-y
-    add-y
-    mul-y
-    mul-y-2
-    shared-slice-read-y
-    cast-y
-    sub-l
-    sub-l-2
-    add-l
-    mul-l
-    add-l-2
-    sub-r
-    add-r
-    mul-r
-    add-r-2
-    add-relax-left
-    mul-relax-left
-    sub-relax-left
-    part-relax-left-start
-    part-relax-left-end
-    add-relax-left-2
-    mul-relax-left-2
-    sub-relax-left-2
-    part-relax-left-start-2
-    part-relax-left-end-2
-    relax-left-requires
-    same-length
-    returns)
+    (tie.spec (λ c. search needs) (λ c. search needs) (λ c. search needs) (λ c. search needs) (λ c. search needs)
+    (λ c. search needs) (λ c. search needs) (λ c. search needs) (λ c. search needs) (λ c. search needs)
+    (λ c. search needs) (λ c. search needs) (λ c. search needs) (λ c. search needs) (λ c. search needs)
+    (λ c. search needs) (λ c. search needs) (λ c. search needs) (λ c. search needs) (λ c. search needs)
+    (λ c. search needs) (λ c. search needs) (λ c. search needs) (λ c. search needs) (λ c. search needs)
+    relax-left-requires (λ c. search needs) returns)

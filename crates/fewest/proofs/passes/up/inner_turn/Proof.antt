@@ -1,8 +1,6 @@
 -- `inner_turn` meets its contract: the row is lowered, then copied.
-use Prim.Native.Nat.{ℕ, _+_, _-_, _*_}
-use mathlib.Core.Path.{_≡_, subst}
-use mathlib.Core.List.{List}
-use lib.ListN.{length}
+use Prim.Native.Nat.{ℕ, _-_}
+use mathlib.Core.Path.{subst}
 use Rattle.state_sets.specs.StateSets.{member}
 use Rattle.fewest.specs.inner.Rows.{innerCosts}
 use Rattle.fewest.specs.inner.passes.Cells.{costCell, leftIn, RowDone}
@@ -18,24 +16,9 @@ use Rattle.fewest.proofs.passes.cells.put_row.Reads as put-row-reads
 use Rattle.fewest.proofs.passes.up.inner_row.Reads as inner-row-reads
 use Rattle.fewest.proofs.passes.up.inner_size.Reads as inner-size-reads
 
-slice-aggregate-inner-row : tie.Need-slice-aggregate-inner-row
-slice-aggregate-inner-row c = search needs
-
 inner-row-requires : tie.Need-inner-row-requires
 inner-row-requires c κs =
     (c .before .before .before .before .pre, far-row (c .before .before .before .before .args .s) (c .before .before .before .before .pre .few))
-
-inner-size-requires : tie.Need-inner-size-requires
-inner-size-requires c κs = search needs
-
-slice-aggregate-put-row : tie.Need-slice-aggregate-put-row
-slice-aggregate-put-row c = search needs
-
-put-row-requires : tie.Need-put-row-requires
-put-row-requires c κs = search needs
-
-same-length : tie.Need-same-length
-same-length c = search needs
 
 returns : tie.Need-returns
 returns c =
@@ -51,11 +34,5 @@ returns c =
 pub inner-turn-spec : {M : Type 1} → statement M
 inner-turn-spec =
     tie.close
-    (tie.spec
-    slice-aggregate-inner-row
-    inner-row-requires
-    inner-size-requires
-    slice-aggregate-put-row
-    put-row-requires
-    same-length
-    returns)
+    (tie.spec (λ c. search needs) inner-row-requires (λ c κs. search needs) (λ c. search needs) (λ c κs. search needs)
+    (λ c. search needs) returns)

@@ -1,6 +1,4 @@
 -- `node_turn` meets its contract, by the node's kind.
-use mathlib.Core.Path.{_≡_}
-use lib.ListN.{getD}
 use Rattle.fewest.proofs.passes.UpLoop.{leaf-turned, inner-turned}
 use native.Mathlib.Omega.{arith}
 use borrow.Author.Needs.{needs}
@@ -12,24 +10,6 @@ use Rattle.fewest.proofs.passes.cells.stock.Reads as stock-reads
 use Rattle.fewest.proofs.passes.up.inner_turn.Reads as inner-turn-reads
 use Rattle.fewest.proofs.passes.up.leaf_turn.Reads as leaf-turn-reads
 
-shared-slice-read-a : tie.Need-shared-slice-read-a
-shared-slice-read-a c = search needs
-
-cast-a : tie.Need-cast-a
-cast-a c = search needs
-
-stock-requires : tie.Need-stock-requires
-stock-requires c κs = search needs
-
-shared-slice-read-if1 : tie.Need-shared-slice-read-if1
-shared-slice-read-if1 c = search needs
-
-leaf-turn-requires : tie.Need-leaf-turn-requires
-leaf-turn-requires c κs = search needs
-
-same-length : tie.Need-same-length
-same-length c = search needs
-
 returns : tie.Need-returns
 returns c =
     let g = c .before .before .before .before .before .before .before .before .before .before .before .before .before .before .args in
@@ -40,9 +20,6 @@ inner-turn-requires : tie.Need-inner-turn-requires
 inner-turn-requires c κs =
     c .before .before .before .before .before .before .before .before .before .before .before .pre .inner (c .before .if1 .left)
 
-same-length-2 : tie.Need-same-length-2
-same-length-2 c = search needs
-
 returns-2 : tie.Need-returns-2
 returns-2 c =
     let g = c .before .before .before .before .before .before .before .before .before .before .before .before .before .before .args in
@@ -52,14 +29,5 @@ returns-2 c =
 pub node-turn-spec : {M : Type 1} → statement M
 node-turn-spec =
     tie.close
-    (tie.spec
-    shared-slice-read-a
-    cast-a
-    stock-requires
-    shared-slice-read-if1
-    leaf-turn-requires
-    same-length
-    returns
-    inner-turn-requires
-    same-length-2
-    returns-2)
+    (tie.spec (λ c. search needs) (λ c. search needs) (λ c κs. search needs) (λ c. search needs)
+    (λ c κs. search needs) (λ c. search needs) returns inner-turn-requires (λ c. search needs) returns-2)

@@ -1,7 +1,6 @@
 -- `relax_leaf` meets its contract. The loop's invariant: the row is lowered by the labels below b.
-use Prim.Native.Nat.{ℕ, _+_, _-_, _≤_, _<_}
-use mathlib.Core.Path.{_≡_, refl, sym, ap, _∙_, subst}
-use lib.ListN.{length, getD, set}
+use Prim.Native.Nat.{ℕ, _-_, _≤_}
+use mathlib.Core.Path.{_≡_, subst}
 use Rattle.state_sets.specs.StateSets.{member}
 use Rattle.fewest.specs.Least.{leastTo}
 use Rattle.fewest.specs.Least.{noWay}
@@ -28,9 +27,6 @@ loop-holds c =
     let g = t .args in
     (omega arith, leaf-start (g .leaves .now) (g .s) (g .k) (g .a) (member (g .labels)) (t .pre .0) (g .row .now) (t .pre .1))
 
-shared-slice-read-to : tie.Need-shared-slice-read-to Inv-loop μ-loop
-shared-slice-read-to c = search needs
-
 cast-to : tie.Need-cast-to Inv-loop μ-loop
 cast-to c =
     let t = c .before .before .before .before .before in
@@ -51,9 +47,6 @@ slice-read-y c =
     let l = c .before .before .before .before .loop in
     omega (arith, t .pre .0 .below (l .b), t .pre .1 .wide, l .inv .1 .wide)
 
-lesser-requires : tie.Need-lesser-requires Inv-loop μ-loop
-lesser-requires c κs = search needs
-
 mul-row : tie.Need-mul-row Inv-loop μ-loop
 mul-row c =
     let t = c .before .before .before .before .before .before .before .before in
@@ -65,12 +58,6 @@ slice-write-row c =
     let l = c .before .before .before .before .before .loop in
     omega (arith, t .pre .0 .below (l .b), t .pre .1 .wide, l .inv .1 .wide)
 
-add-b : tie.Need-add-b Inv-loop μ-loop
-add-b c = search needs
-
-loop-less : tie.Need-loop-less Inv-loop μ-loop
-loop-less c = search needs
-
 loop-again : tie.Need-loop-again Inv-loop μ-loop
 loop-again c =
     let t = c .before .before .before .before .before .before .before .before in
@@ -81,9 +68,6 @@ loop-again c =
           (c .before .before .change-cost .result) (c .lesser .result) (t .pre .1 .wide) (l .inv .1) (c .before .before .change-cost .ensures .0)
           (c .lesser .ensures),
     )
-
-same-length : tie.Need-same-length Inv-loop μ-loop
-same-length c = search needs
 
 returns : tie.Need-returns Inv-loop μ-loop
 returns c =
@@ -97,20 +81,6 @@ returns c =
 pub relax-leaf-spec : {M : Type 1} → statement M
 relax-leaf-spec =
     tie.close
-    (tie.spec
-    Inv-loop
-    μ-loop
-    loop-holds
-    shared-slice-read-to
-    cast-to
-    change-cost-requires
-    mul-y
-    slice-read-y
-    lesser-requires
-    mul-row
-    slice-write-row
-    add-b
-    loop-less
-    loop-again
-    same-length
-    returns)
+    (tie.spec Inv-loop μ-loop loop-holds (λ c. search needs) cast-to change-cost-requires mul-y slice-read-y
+    (λ c κs. search needs) mul-row slice-write-row (λ c. search needs) (λ c. search needs) loop-again
+    (λ c. search needs) returns)

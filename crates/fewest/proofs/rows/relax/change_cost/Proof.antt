@@ -11,9 +11,6 @@ use Rattle.fewest.proofs.rows.relax.change_cost.Lts as lts
 returns : tie.Need-returns
 returns c = let g = c .before .args in (change-same (member (g .labels)) (g .a) (g .b) (c .if1 .taken), omega arith)
 
-shr-if2 : tie.Need-shr-if2
-shr-if2 c = search needs
-
 returns-2 : tie.Need-returns-2
 returns-2 c = let g = c .before .before .args in (change-may (g .labels) (g .a) (g .b) (c .before .if1 .left) (c .if2 .taken), omega arith)
 
@@ -21,4 +18,4 @@ returns-3 : tie.Need-returns-3
 returns-3 c = let g = c .before .before .args in (change-not (g .labels) (g .a) (g .b) (c .before .if1 .left) (c .if2 .left), omega arith)
 
 pub change-cost-spec : {M : Type 1} → statement M
-change-cost-spec = tie.close (tie.spec returns shr-if2 returns-2 returns-3)
+change-cost-spec = tie.close (tie.spec returns (λ c. search needs) returns-2 returns-3)

@@ -1,7 +1,6 @@
 -- `relax_labels` meets its contract. The loop's invariant: the row is lowered by the labels below b.
-use Prim.Native.Nat.{ℕ, _+_, _-_, _*_, _≤_, _<_}
-use mathlib.Core.Path.{_≡_, refl, sym, ap, _∙_, subst}
-use lib.ListN.{length, getD, set}
+use Prim.Native.Nat.{ℕ, _+_, _-_, _*_, _≤_}
+use mathlib.Core.Path.{_≡_, subst}
 use Rattle.state_sets.specs.StateSets.{member}
 use Rattle.fewest.specs.inner.Rows.{Relaxed}
 use Rattle.fewest.proofs.rows.RowLaws.{soFar, rule-args, relax-start, relax-turn}
@@ -42,9 +41,6 @@ cast-to c =
 change-cost-requires : tie.Need-change-cost-requires Inv-loop μ-loop
 change-cost-requires c κs = omega (arith, c .before .loop-test .taken, c .before .before .before .before .before .pre .0 .labels)
 
-mul-y : tie.Need-mul-y Inv-loop μ-loop
-mul-y c = search needs
-
 slice-read-y : tie.Need-slice-read-y Inv-loop μ-loop
 slice-read-y c =
     let t = c .before .before .before .before .before .before .before in
@@ -55,24 +51,12 @@ slice-read-y c =
 add-lesser : tie.Need-add-lesser Inv-loop μ-loop
 add-lesser c = omega (arith, c .before .before .before .before .before .before .before .pre .0 .small, c .before .change-cost .ensures .1)
 
-lesser-requires : tie.Need-lesser-requires Inv-loop μ-loop
-lesser-requires c κs = search needs
-
-mul-row : tie.Need-mul-row Inv-loop μ-loop
-mul-row c = search needs
-
 slice-write-row : tie.Need-slice-write-row Inv-loop μ-loop
 slice-write-row c =
     let t = c .before .before .before .before .before .before .before .before in
     let g = t .args in
     let l = c .before .before .before .before .before .loop in
     omega (arith, c .before .before .before .rule .ensures, t .pre .0 .inner-below ((g .p * g .k + l .b) * g .s + g .q), t .pre .1 .wide, l .inv .1 .wide)
-
-add-b : tie.Need-add-b Inv-loop μ-loop
-add-b c = search needs
-
-loop-less : tie.Need-loop-less Inv-loop μ-loop
-loop-less c = search needs
 
 loop-again : tie.Need-loop-again Inv-loop μ-loop
 loop-again c =
@@ -83,9 +67,6 @@ loop-again c =
       relax-turn (g .inner .now) (g .s) (g .k) (g .p) (g .q) (g .a) (g .base) (member (g .labels)) (t .pre .0) (l .b) (g .row .now) (l .row) (c .before .before .before .rule .result) (c .before .before .change-cost .result) (c .lesser .result)
           (t .pre .1 .wide) (l .inv .1) (c .before .before .before .rule .ensures) (c .before .before .change-cost .ensures .0) (c .lesser .ensures),
     )
-
-same-length : tie.Need-same-length Inv-loop μ-loop
-same-length c = search needs
 
 returns : tie.Need-returns Inv-loop μ-loop
 returns c =
@@ -99,21 +80,6 @@ returns c =
 pub relax-labels-spec : {M : Type 1} → statement M
 relax-labels-spec =
     tie.close
-    (tie.spec
-    Inv-loop
-    μ-loop
-    loop-holds
-    rule-requires
-    cast-to
-    change-cost-requires
-    mul-y
-    slice-read-y
-    add-lesser
-    lesser-requires
-    mul-row
-    slice-write-row
-    add-b
-    loop-less
-    loop-again
-    same-length
-    returns)
+    (tie.spec Inv-loop μ-loop loop-holds rule-requires cast-to change-cost-requires (λ c. search needs) slice-read-y
+    add-lesser (λ c κs. search needs) (λ c. search needs) slice-write-row (λ c. search needs) (λ c. search needs)
+    loop-again (λ c. search needs) returns)

@@ -1,7 +1,7 @@
 -- `relax_left` meets its contract. The loop's invariant: the row is lowered by the left states below p.
-use Prim.Native.Nat.{ℕ, _+_, _-_, _≤_}
+use Prim.Native.Nat.{ℕ, _-_, _≤_}
 use mathlib.Core.Path.{_≡_, subst}
-use lib.ListN.{length, getD}
+use lib.ListN.{getD}
 use Rattle.state_sets.specs.StateSets.{member}
 use Rattle.fewest.specs.Least.{leastTo}
 use Rattle.fewest.specs.Least.{noWay}
@@ -29,9 +29,6 @@ loop-holds c =
     let g = t .args in
     (omega arith, step-start (g .s) (λ p j. rightCost (g .inner .now) (g .s) (g .k) p (g .a) (member (g .labels)) (getD (g .left .now) p 0) (g .right .now) j) (g .row .now) (t .pre .1))
 
-mul-relax-right : tie.Need-mul-relax-right Inv-loop μ-loop
-mul-relax-right c = search needs
-
 shared-slice-read-relax-right : tie.Need-shared-slice-read-relax-right Inv-loop μ-loop
 shared-slice-read-relax-right c =
     omega (arith, c .before .before .loop-test .taken, c .before .before .before .before .before .before .before .before .pre .0 .left .wide)
@@ -44,12 +41,6 @@ relax-right-requires c κs =
       right-args (g .inner .now) (g .s) (g .k) (g .a) (g .left .now) (g .right .now) (t .pre .0) (l .p) (c .before .before .loop-test .taken),
       row-kept (g .s) (λ j. leastTo noWay (l .p) (λ p. rightCost (g .inner .now) (g .s) (g .k) p (g .a) (member (g .labels)) (getD (g .left .now) p 0) (g .right .now) j)) (g .row .now) (l .row) (t .pre .1) (l .inv .1),
     )
-
-add-p : tie.Need-add-p Inv-loop μ-loop
-add-p c = search needs
-
-loop-less : tie.Need-loop-less Inv-loop μ-loop
-loop-less c = search needs
 
 loop-again : tie.Need-loop-again Inv-loop μ-loop
 loop-again c =
@@ -74,15 +65,5 @@ returns c =
 pub relax-left-spec : {M : Type 1} → statement M
 relax-left-spec =
     tie.close
-    (tie.spec
-    Inv-loop
-    μ-loop
-    loop-holds
-    mul-relax-right
-    shared-slice-read-relax-right
-    relax-right-requires
-    add-p
-    loop-less
-    loop-again
-    same-length
-    returns)
+    (tie.spec Inv-loop μ-loop loop-holds (λ c. search needs) shared-slice-read-relax-right relax-right-requires
+    (λ c. search needs) (λ c. search needs) loop-again same-length returns)

@@ -1,7 +1,7 @@
 -- `relax_right` meets its contract. The loop's invariant: the row is lowered by the right states below q.
 use Prim.Native.Nat.{ℕ, _+_, _-_, _≤_}
 use mathlib.Core.Path.{_≡_, subst}
-use lib.ListN.{length, getD}
+use lib.ListN.{getD}
 use Rattle.state_sets.specs.StateSets.{member}
 use Rattle.fewest.specs.Least.{leastTo}
 use Rattle.fewest.specs.Least.{noWay}
@@ -29,9 +29,6 @@ loop-holds c =
     let g = t .args in
     (omega arith, step-start (g .s) (λ q j. labelsCost (g .inner .now) (g .s) (g .k) (g .p) q (g .a) (member (g .labels)) (g .left + getD (g .right .now) q 0) j) (g .row .now) (t .pre .1))
 
-mul-relax-way : tie.Need-mul-relax-way Inv-loop μ-loop
-mul-relax-way c = search needs
-
 shared-slice-read-relax-way : tie.Need-shared-slice-read-relax-way Inv-loop μ-loop
 shared-slice-read-relax-way c = omega (arith, c .before .before .loop-test .taken, c .before .before .before .before .before .before .before .pre .0 .right .wide)
 
@@ -48,12 +45,6 @@ relax-way-requires c κs =
       labels-args (g .inner .now) (g .s) (g .k) (g .p) (g .a) (g .left) (g .right .now) (t .pre .0) (l .q) (c .before .before .loop-test .taken),
       row-kept (g .s) (λ j. leastTo noWay (l .q) (λ q. labelsCost (g .inner .now) (g .s) (g .k) (g .p) q (g .a) (member (g .labels)) (g .left + getD (g .right .now) q 0) j)) (g .row .now) (l .row) (t .pre .1) (l .inv .1),
     )
-
-add-q : tie.Need-add-q Inv-loop μ-loop
-add-q c = search needs
-
-loop-less : tie.Need-loop-less Inv-loop μ-loop
-loop-less c = search needs
 
 loop-again : tie.Need-loop-again Inv-loop μ-loop
 loop-again c =
@@ -78,16 +69,5 @@ returns c =
 pub relax-right-spec : {M : Type 1} → statement M
 relax-right-spec =
     tie.close
-    (tie.spec
-    Inv-loop
-    μ-loop
-    loop-holds
-    mul-relax-way
-    shared-slice-read-relax-way
-    add-relax-way
-    relax-way-requires
-    add-q
-    loop-less
-    loop-again
-    same-length
-    returns)
+    (tie.spec Inv-loop μ-loop loop-holds (λ c. search needs) shared-slice-read-relax-way add-relax-way
+    relax-way-requires (λ c. search needs) (λ c. search needs) loop-again same-length returns)

@@ -1,5 +1,4 @@
 -- `relax_way` meets its contract.
-use mathlib.Core.Path.{_≡_}
 use Rattle.state_sets.specs.StateSets.{member}
 use Rattle.fewest.proofs.rows.RowLaws.{relax-none}
 use native.Mathlib.Omega.{arith}
@@ -16,14 +15,5 @@ returns c =
     let g = t .args in
     relax-none (g .inner .now) (g .s) (g .k) (g .p) (g .q) (g .a) (member (g .labels)) (g .base) (g .row .now) (c .if1 .taken) (t .pre .1)
 
-relax-labels-requires : tie.Need-relax-labels-requires
-relax-labels-requires c κs = search needs
-
-same-length : tie.Need-same-length
-same-length c = search needs
-
-returns-2 : tie.Need-returns-2
-returns-2 c = search needs
-
 pub relax-way-spec : {M : Type 1} → statement M
-relax-way-spec = tie.close (tie.spec returns relax-labels-requires same-length returns-2)
+relax-way-spec = tie.close (tie.spec returns (λ c κs. search needs) (λ c. search needs) (λ c. search needs))
