@@ -1,7 +1,8 @@
 -- The fewest changes and the allowed labels of one plan.
 --     one-is-allowed   where the least number is 1, the change that is told is a bit of the masks
 --     allowed-is-one   where a bit of the masks is 1, and the change is permitted, the least number is at most 1
--- So a panel may ask for the masks first: a plan that is not cleared has a way of one change exactly where some permitted bit is 1.
+-- So a panel may ask for the masks first: a plan that is not cleared has a way of one change exactly where some
+-- permitted bit is 1.
 use Prim.Native.Nat.{ℕ, _+_, _≤_, _<_}
 use mathlib.Core.Path.{_≡_, refl, sym, ap, ap₂, _∙_, subst}
 use mathlib.Core.Bool.{true}

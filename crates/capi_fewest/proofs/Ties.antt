@@ -1,5 +1,5 @@
--- What the contract of the exported call claims, as the prover itself reads it off the source (`Reads.Post`), is what the
--- theorems take (`FewestTold`). A contract that promises less is refused here.
+-- What the contract of the exported call claims, as the prover itself reads it off the source (`Reads.Post`), is what
+-- the theorems take (`FewestTold`). A contract that promises less is refused here.
 --     fewest-tied     the contract is FewestTold
 --     fewest-number   the number is that of the first check that fails: 2 to 10, then 17, then 11
 --     fewest-kept     refused: the three buffers and both numbers are as they were

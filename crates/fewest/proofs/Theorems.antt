@@ -1,30 +1,33 @@
 -- The fewest changes: the main theorems of the call.
 --     cleared-is, not-cleared-is   what is wanted: for want 1 the rules' own yes, for want 0 their no
 --     every-label                  where no sets are told every node may be changed to every label
---     list-is-the-run              put as a question to a fresh run, the list that is told for want 1 is answered with yes
+--     list-is-the-run, list-loses-the-run   put as a question to a fresh run, the list that is told is answered with
+--                                           yes for
+--                                  want 1, with no for want 0
 --     zero-is-clear, clear-is-zero 0 exactly where the plan is as wanted already
---     no-list-is-shorter           where no sets are told, no list of changes that does it has fewer entries, repeats or not
+--     no-list-is-shorter           where no sets are told, no list of changes that does it has fewer entries, repeats
+--                                  or not
 use Prim.Native.Nat.{ℕ, zero, suc, _+_, _*_, _≤_, _<_}
 use mathlib.Core.Path.{_≡_, refl, sym, ap, ap₂, _∙_}
-use mathlib.Core.Bool.{Bool, true, cond, not, _&&_}
+use mathlib.Core.Bool.{Bool, true, false, cond, not, _&&_}
 use mathlib.Core.List.{List}
 use native.Mathlib.Decide.{ℕ-discrete, decLt}
 use native.Mathlib.Omega.{arith}
 use lib.Dec.{eqb}
 use lib.ListN.{length, getD, take}
-use borrow.Author.Tests.{eq-eqb, ne-eqb}
+use borrow.Author.Tests.{eq-eqb, ne-eqb, not-true}
 use Rattle.list_laws.specs.Tests.{allBelow}
 use Rattle.list_laws.proofs.BoolLaws.{and-left, and-right}
 use Rattle.trees.specs.Tree.{Tree, leaf, node, kindsOf, labelsOf}
 use Rattle.trees.specs.Automaton.{state, accepts}
 use Rattle.trees.specs.Postorder.{treeOf}
 use Rattle.trees.specs.Changes.{changed}
+use Rattle.formats.specs.Limits.{labelLimit, changeLimit}
 use Rattle.formats.specs.Plan.{labelsIn, planTree}
 use Rattle.formats.specs.Rules.{stateCount, labelCount, innerStates, ruleMarks, ruleAutomaton}
 use Rattle.formats.specs.Passing.{PlanPasses}
-use Rattle.formats.proofs.RuleLaws.{RulesPass}
+use Rattle.formats.proofs.RuleLaws.{RulesPass, mark-below}
 use Rattle.formats.proofs.PlanLaws.{kinds-planTree, labels-planTree}
-use Rattle.formats.proofs.RuleLaws.{mark-below}
 use Rattle.formats.proofs.InputLaws.{rule-table-passes}
 use Rattle.state_sets.specs.StateSets.{member}
 use Rattle.runs.specs.FreshRun.{rootAccepted}
@@ -32,7 +35,9 @@ use Rattle.trees.proofs.NodeLaws.{length-labels, length-kinds}
 use Rattle.trees.proofs.PostorderLaws.{tree-postorder, treeOf-is, treeOf-kinds, treeOf-labels}
 use Rattle.trees.proofs.RunLaws.{changed-length}
 use Rattle.fewest.specs.Relabelling.{everyLabel, stockOf, differences, Relabelling}
-use Rattle.fewest.proofs.costs.ListLaws.{differences-self, differences-changed, permitted-self, permitted-all, changed-below}
+use Rattle.fewest.proofs.costs.ListLaws.{differences-self, differences-changed, permitted-self, permitted-all}
+use Rattle.fewest.proofs.costs.ListLaws.{changed-below}
+use Rattle.fewest.specs.Least.{noWay}
 use Rattle.fewest.specs.Answers.{wantedMark, wantedAutomaton, mayBe, FewestTold}
 use Rattle.fewest.proofs.call.CallLaws.{table-yes}
 
@@ -79,7 +84,7 @@ every-member : allTo 64 (member everyLabel) ≡ true
 unfolding allTo member
 every-member = refl
 
-pub every-label : (may : List ℕ) → length may ≡ 0 → (v b : ℕ) → b < 64 → mayBe may v b ≡ true
+pub every-label : (may : List ℕ) → length may ≡ 0 → (v b : ℕ) → b < labelLimit → mayBe may v b ≡ true
 unfolding stockOf
 every-label may e v b h =
     ap (λ (c : Bool). member (cond c everyLabel (getD may v 0)) b) (eq-eqb (length may) 0 e)
@@ -93,13 +98,23 @@ module _ (p r may : List ℕ) (want : ℕ) (work nodes labels : List ℕ) (least
   passes = rule-table-passes p r (table-yes p r (length may) (length work) (length nodes) (length labels) (sym (T .number)))
 
   -- "Put as a question they do it": what a fresh run answers
-  pub list-is-the-run : (want ≡ 0 → ⊥) → least′ ≤ 64 → rootAccepted p r (take least′ nodes′) (take least′ labels′) ≡ true
+  pub list-is-the-run : (want ≡ 0 → ⊥) → least′ ≤ changeLimit → rootAccepted p r (take least′ nodes′) (take least′ labels′) ≡ true
   list-is-the-run w h =
       let L = T .told refl .listed h in
       sym (ap₂ (λ (ks ls : List ℕ). accepts (ruleAutomaton r) (treeOf ks (changed ls (take least′ nodes′) (take least′ labels′))))
       (kinds-planTree p (passes .0)) (labels-planTree p (passes .0)))
       ∙ sym (cleared-is r want w (treeOf (kindsOf (planTree p)) (changed (labelsOf (planTree p)) (take least′ nodes′) (take least′ labels′))))
       ∙ L .does
+
+  pub list-loses-the-run : want ≡ 0 → least′ ≤ changeLimit
+      → rootAccepted p r (take least′ nodes′) (take least′ labels′) ≡ false
+  list-loses-the-run w h =
+      let L = T .told refl .listed h in
+      let u : Tree = treeOf (kindsOf (planTree p)) (changed (labelsOf (planTree p)) (take least′ nodes′) (take least′ labels′)) in
+      sym (ap₂ (λ (ks ls : List ℕ). accepts (ruleAutomaton r) (treeOf ks (changed ls (take least′ nodes′) (take least′ labels′))))
+      (kinds-planTree p (passes .0)) (labels-planTree p (passes .0)))
+      ∙ not-true (accepts (ruleAutomaton r) u)
+      (sym (not-cleared-is r (passes .1) u) ∙ sym (ap (λ (x : ℕ). accepts (wantedAutomaton r x) u) w) ∙ L .does)
 
   -- 0 exactly where the plan is as wanted already
   pub zero-is-clear : least′ ≡ 0 → accepts (wantedAutomaton r want) (planTree p) ≡ true
@@ -118,7 +133,7 @@ module _ (p r may : List ℕ) (want : ℕ) (work nodes labels : List ℕ) (least
         labels = permitted-self (labelCount r) (mayBe may) 0 (labelsOf (planTree p))
             (ap (allBelow (labelCount r)) (labels-planTree p (passes .0)) ∙ passes .2);
       } in
-      elim (decLt least′ 65536) [
+      elim (decLt least′ noWay) [
         | yes h ↦ (let z = T .told refl .way h .least (planTree p) R c in omega (arith, z, differences-self (labelsOf (planTree p))))
         | no h ↦ absurd (T .told refl .no-way (omega arith) .1 (planTree p) R c)
       ]
@@ -140,7 +155,7 @@ module _ (p r may : List ℕ) (want : ℕ) (work nodes labels : List ℕ) (least
         labels = permitted-all (labelCount r) (mayBe may) (λ v b h. every-label may e v b (omega (arith, passes .1 .labels-most))) 0
             (labelsOf (planTree p)) (labelsOf (treeOf (kindsOf (planTree p)) ls)) (ap (allBelow (labelCount r)) q ∙ inside);
       } in
-      elim (decLt least′ 65536) [
+      elim (decLt least′ noWay) [
         | yes h ↦ omega (
           arith,
           T .told refl .way h .least (treeOf (kindsOf (planTree p)) ls) R c,

@@ -1,18 +1,21 @@
 -- What the call answers, on every input.
 --
 -- wantedMark want == the mark of the root's state that is wanted: 0 for want 0 (no longer cleared), else 1 (cleared)
--- wantedAutomaton r want == the automaton of rules r with the states of that mark as the accepting ones: for want 1 the rules' own
+-- wantedAutomaton r want == the automaton of rules r with the states of that mark as the accepting ones: for want 1 the
+--   rules' own
 -- mayBe may v b == whether node v may be changed to label b: b is in the set may[v], or `may` is empty
 -- mayFits m n == check 17: no sets of labels, or one for each of n nodes
 -- fewestRoom n s work nodes labels == check 11: room for n (s + 1) numbers of work space, and for 64 changes
 -- fewestChecks p r may work nodes labels == 2 to 10, then 17, then 11; the last four are the lengths of the buffers
 -- rising lo vs == the numbers vs rise, from lo on: each once
--- ListTold A k may t m vs bs == m changes, of different nodes of t, in rising order, to labels below k, each permitted; the tree so
---   changed is accepted
--- LeastTold A k may t m c ns bs == m is the least number of changed labels over ALL permitted relabellings that are accepted, and 65,536
---   where none is; c is m, and the first m entries of ns and bs are such changes, where m is at most 64; else c is 0
--- FewestTold == the answer is the number of the first check that fails, 0 where none does. Accepted: the least number and the changes,
---   and beyond them, and beyond the nodes' rows of the work space, all is as it was. Refused, everything is as it was
+-- ListTold A k may t m vs bs == m changes, of different nodes of t, in rising order, to labels below k, each permitted;
+--   the tree so changed is accepted
+-- LeastTold A k may t m c ns bs == m is the least number of changed labels over ALL permitted relabellings that are
+--   accepted, and 65,536 where none is; c is m, and the first m entries of ns and bs are such changes, where m is at
+--   most 64; else c is 0
+-- FewestTold == the answer is the number of the first check that fails, 0 where none does. Accepted: the least number
+--   and the changes, and beyond them, and beyond the nodes' rows of the work space, all is as it was. Refused,
+--   everything is as it was
 --
 -- No cost, no row and no pass is in it. The numbers left in the nodes' rows of the work space are not told.
 use Prim.Native.Nat.{ℕ, _+_, _*_, _≤_, _<_}
@@ -32,9 +35,8 @@ use Rattle.formats.specs.Rules.{stateCount, labelCount, leafStates, innerStates
 use Rattle.formats.specs.Checks.{Check, check, firstNo, ruleTableChecks}
 use Rattle.state_sets.specs.StateSets.{member}
 use Rattle.fewest.specs.Least.{noWay}
-use Rattle.fewest.specs.Relabelling.{Relabelling}
+use Rattle.fewest.specs.Relabelling.{Relabelling, stockOf}
 use Rattle.fewest.specs.Fewest.{IsFewest, NoneClears}
-use Rattle.fewest.specs.Relabelling.{stockOf}
 
 abbrev pub wantedMark : ℕ → ℕ
 wantedMark want = cond (eqb want 0) 0 1

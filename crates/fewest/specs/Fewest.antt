@@ -1,6 +1,7 @@
 -- The fewest changes that clear a plan.
 --
--- IsFewest A k may t m == m is the least number of changed labels over ALL relabellings of t that A clears: one has m, none fewer
+-- IsFewest A k may t m == m is the least number of changed labels over ALL relabellings of t that A clears: one has m,
+--   none fewer
 -- NoneClears A k may t == no relabelling of t is cleared
 -- fewest P t == that number, worked out up the tree; far where none is cleared with fewer than far changes
 -- clearedTree P t == the relabelling that is shown

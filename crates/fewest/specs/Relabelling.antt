@@ -1,10 +1,12 @@
 -- Other labels for a plan, and how many of them differ.
 --
 -- differences ls bs == at how many places the lists ls and bs differ
--- permitted k may v ls bs == whether bs are labels below k that differ from ls only where `may` says so: node v + i may take the
---   label bs[i]. `may` holds what the panel allows (open nodes, burs at hand); a node may always keep its label
+-- permitted k may v ls bs == whether bs are labels below k that differ from ls only where `may` says so: node v + i may
+--   take the label bs[i]. `may` holds what the panel allows (open nodes, burs at hand); a node may always keep its
+--   label
 -- Relabelling k may t u == u is the tree t with such other labels: the same kinds
--- changedNodes v ls bs, changedLabels ls bs == the list of changes that makes bs of ls: nodes, rising from v on, and their labels
+-- changedNodes v ls bs, changedLabels ls bs == the list of changes that makes bs of ls: nodes, rising from v on, and
+--   their labels
 --
 -- everyLabel == the set of all labels below 64
 -- stockOf may v == the set of labels that node v may take, of a list with one for each node; all where it is empty

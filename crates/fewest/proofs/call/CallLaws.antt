@@ -18,12 +18,14 @@ use Rattle.formats.specs.Plan.{nodeCount, labelsIn, kindsIn, planTree}
 use Rattle.formats.specs.Rules.{stateCount, labelCount, leafStates, innerStates, ruleMarks}
 use Rattle.formats.specs.Checks.{Check, check, firstNo, ruleTableChecks}
 use Rattle.formats.specs.Passing.{PlanPasses}
-use Rattle.formats.proofs.CheckLaws.{firstNo-yes, firstNo-no, firstNo-none, firstNo-append-zero, firstNo-append-no, firstNo-append-left, firstNo-head, firstNo-tail}
+use Rattle.formats.proofs.CheckLaws.{firstNo-yes, firstNo-no, firstNo-none, firstNo-append-zero, firstNo-append-no}
+use Rattle.formats.proofs.CheckLaws.{firstNo-append-left, firstNo-head, firstNo-tail}
 use Rattle.formats.proofs.PlanLaws.{length-kindsIn, kinds-planTree, labels-planTree, size-planTree}
 use Rattle.formats.proofs.InputLaws.{rule-table-passes, rule-table-numbered}
 use Rattle.fewest.specs.Fewest.{fewest}
 use Rattle.allowed.specs.inner.Inputs.{PassArgs}
-use Rattle.allowed.proofs.InputsLaws.{call-args, kindsPart, labelsPart, leavesPart, innerPart, marksPart, kinds-is, labels-is}
+use Rattle.allowed.proofs.InputsLaws.{call-args, kindsPart, labelsPart, leavesPart, innerPart, marksPart, kinds-is}
+use Rattle.allowed.proofs.InputsLaws.{labels-is}
 use Rattle.allowed.proofs.InputsLaws.{leaves-is, inner-is, marks-is}
 use Rattle.allowed.proofs.InputsLaws.{parts-given as inputs-given}
 use Rattle.fewest.specs.inner.list.Shown.{shownNodes, shownLabels, over}

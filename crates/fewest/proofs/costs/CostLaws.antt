@@ -21,7 +21,8 @@ use Rattle.questions.specs.ready.StaysInside.{StaysInside}
 use Rattle.choices.proofs.assignments.WeighLaws.{relabelled, relabelled-kinds, relabelled-size, relabelled-at}
 use Rattle.fewest.specs.Relabelling.{differ, differences, mayTake, permitted}
 use Rattle.fewest.specs.Least.{placeOfLeast}
-use Rattle.fewest.specs.inner.Cost.{Problem, changeCost, leafCost, innerCost, leastLabel, leastRight, leastLeft, cost}
+use Rattle.fewest.specs.inner.Cost.{Problem, changeCost, leafCost, innerCost, leastLabel, leastRight, leastLeft}
+use Rattle.fewest.specs.inner.Cost.{cost}
 use Rattle.fewest.specs.inner.Cost.{leftChoice, rightChoice, labelChoice, witness}
 use Rattle.fewest.proofs.costs.LeastLaws.{least-le, Found, least-found}
 use Rattle.fewest.proofs.costs.ListLaws.{differences-append, permitted-append}

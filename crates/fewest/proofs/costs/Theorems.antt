@@ -1,9 +1,9 @@
 -- The fewest changes that clear a plan: the main theorems.
---     fewest-is-least     where it is below far, `fewest` is the least number of changed labels over ALL relabellings that are cleared,
---                         and the tree that is shown has it
+--     fewest-is-least     where it is below far, `fewest` is the least number of changed labels over ALL relabellings
+--                         that are cleared, and the tree that is shown has it
 --     none-clears         where it is far, and far is above the number of nodes, no relabelling whatever is cleared
---     shown-clears        as a list of changes: so many nodes, different, in the plan, with labels below k; the changed plan is
---                         cleared
+--     shown-clears        as a list of changes: so many nodes, different, in the plan, with labels below k; the changed
+--                         plan is cleared
 use Prim.Native.Nat.{ℕ, _≤_, _<_}
 use mathlib.Core.Path.{_≡_, refl, sym, ap, _∙_}
 use mathlib.Core.Bool.{Bool, true, false, cond}
@@ -25,8 +25,10 @@ use Rattle.fewest.specs.inner.Cost.{Problem, cost, witness}
 use Rattle.fewest.specs.Fewest.{IsFewest, NoneClears, clearingCost, fewest, clearedTree}
 use Rattle.fewest.proofs.costs.LeastLaws.{least-le, Found, least-found}
 use Rattle.fewest.proofs.costs.ListLaws.{differences-most}
-use Rattle.fewest.proofs.costs.ListLaws.{changes-number, changes-paired, changes-make, changes-in, changes-distinct, changes-labels}
-use Rattle.fewest.proofs.costs.CostLaws.{same-shape, same-kinds, same-length, cost-least, Attained, cost-attained}
+use Rattle.fewest.proofs.costs.ListLaws.{changes-number, changes-paired, changes-make, changes-in}
+use Rattle.fewest.proofs.costs.ListLaws.{changes-distinct, changes-labels}
+use Rattle.fewest.proofs.costs.CostLaws.{same-shape, same-kinds, same-length, cost-least, Attained}
+use Rattle.fewest.proofs.costs.CostLaws.{cost-attained}
 
 module _ (P : Problem) (S : StaysInside (P .automaton)) (t : Tree) where
   -- no relabelling that is cleared has fewer differences

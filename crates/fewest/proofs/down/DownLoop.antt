@@ -18,7 +18,8 @@ use Rattle.trees.proofs.NodeLaws.{Inner, inner, Up, up, size-pos}
 use Rattle.trees.proofs.PostorderLaws.{size-of, kind-of}
 use Rattle.trees.proofs.RunLaws.{Children, children, state-below}
 use Rattle.state_sets.specs.StateSets.{member}
-use Rattle.fewest.specs.inner.Cost.{Problem, leafCost, leastLeft, leftChoice, rightChoice, labelChoice, cost, witness}
+use Rattle.fewest.specs.inner.Cost.{Problem, leafCost, leastLeft, leftChoice, rightChoice, labelChoice, cost}
+use Rattle.fewest.specs.inner.Cost.{witness}
 use Rattle.fewest.specs.inner.Rows.{leafCost as leafLabelCost}
 use Rattle.fewest.specs.Relabelling.{stockOf}
 use Rattle.fewest.specs.inner.Problems.{problemFor, costAt}
@@ -26,11 +27,13 @@ use Rattle.fewest.specs.inner.passes.Cells.{sizeCell, costCell, leftIn}
 use Rattle.allowed.specs.inner.Inputs.{PassArgs}
 use Rattle.fewest.proofs.passes.CostAtLaws.{cost-leaf, cost-inner, cost-far}
 use Rattle.fewest.specs.inner.down.Search.{anyOf, leftHit}
-use Rattle.fewest.specs.inner.down.Down.{ownCost, ChoiceAt, placed, LeafDown, InnerDown, NodeDown, InnerDownArgs, NodeDownArgs, Told, Down}
+use Rattle.fewest.specs.inner.down.Down.{ownCost, ChoiceAt, placed, LeafDown, InnerDown, NodeDown, InnerDownArgs}
+use Rattle.fewest.specs.inner.down.Down.{NodeDownArgs, Told, Down}
 use Rattle.fewest.proofs.down.AnyLaws.{first-place}
 use Rattle.fewest.proofs.down.ColumnLaws.{col-same, col-other, col-cost, col-past}
 use Rattle.fewest.proofs.down.WayLaws.{found, left-is, right-is, label-is}
-use Rattle.fewest.proofs.down.WitnessLaws.{Stands, stands, leaf-label, InnerWay, inner-way, leftWay, rightWay, labelWay}
+use Rattle.fewest.proofs.down.WitnessLaws.{Stands, stands, leaf-label, InnerWay, inner-way, leftWay, rightWay}
+use Rattle.fewest.proofs.down.WitnessLaws.{labelWay}
 
 module _ (ks ls lv inn may : List ℕ) (s k : ℕ) (G : PassArgs ks ls lv inn s k) where
   -- ---- one tree

@@ -12,10 +12,10 @@ use lib.ListN.{getD}
 use borrow.Author.Tests.{eqb-true, eq-eqb, ne-eqb}
 use Rattle.list_laws.proofs.Choice.{by-eq}
 use Rattle.state_sets.specs.StateSets.{member}
-use Rattle.fewest.specs.inner.Cost.{innerCost, leastLabel, leastRight, leastLeft, leftChoice, rightChoice, labelChoice}
+use Rattle.fewest.specs.inner.Cost.{innerCost, leastLabel, leastRight, leastLeft, leftChoice, rightChoice}
+use Rattle.fewest.specs.inner.Cost.{labelChoice}
 use Rattle.fewest.proofs.costs.LeastLaws.{least-le}
-use Rattle.fewest.specs.inner.Rows.{labelCost, changeOf, RowArgs}
-use Rattle.fewest.specs.inner.Rows.{leafCost as leafLabelCost}
+use Rattle.fewest.specs.inner.Rows.{labelCost, changeOf, RowArgs, leafCost as leafLabelCost}
 use Rattle.fewest.specs.inner.Problems.{problemFor}
 use Rattle.fewest.specs.inner.down.Search.{anyOf, labelHit, rightHit, leftHit, Chosen, RightSearch, LeftSearch}
 use Rattle.fewest.proofs.down.AnyLaws.{any-no, any-ext, any-least, first-place}

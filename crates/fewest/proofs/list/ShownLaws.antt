@@ -1,6 +1,7 @@
 -- From the rows of costs to the list that is shown.
 --     least-is                  the root's least cost is `fewest`
---     state-is, ready           the state that the root is told is that of the tree that is shown, and where the pass down begins
+--     state-is, ready           the state that the root is told is that of the tree that is shown, and where the pass
+--                               down begins
 --     list-args, list-shown     what the list needs, and what it is
 --     written-short, written-long   the list, and none where it would be longer than 64
 use Prim.Native.Nat.{ℕ, zero, suc, _+_, _-_, _*_, _≤_, _<_}
@@ -38,7 +39,8 @@ use Rattle.fewest.proofs.down.ColumnLaws.{col-same, col-other, col-cost
 use Rattle.fewest.proofs.down.WitnessLaws.{root-state, witness-size}
 use Rattle.fewest.specs.inner.list.Shown.{shownNodes, shownLabels, over}
 use Rattle.fewest.specs.inner.list.Lists.{nodesTo, labelsTo, Listed, ListArgs}
-use Rattle.fewest.specs.inner.list.Written.{markedProblem, rootLeast, RootTold, ShowGiven, ListShown, ShowDone, FewestShown}
+use Rattle.fewest.specs.inner.list.Written.{markedProblem, rootLeast, RootTold, ShowGiven, ListShown, ShowDone}
+use Rattle.fewest.specs.inner.list.Written.{FewestShown}
 use Rattle.fewest.proofs.list.ListLoop.{nodes-whole, labels-whole}
 
 -- the costs of the root are those of the whole tree

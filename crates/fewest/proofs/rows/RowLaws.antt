@@ -18,10 +18,10 @@ use Rattle.list_laws.proofs.RowLaws.{stride}
 use Rattle.formats.specs.inner.InnerChecks.{RuleArgs}
 use Rattle.formats.proofs.RuleLaws.{rule-in}
 use Rattle.state_sets.specs.StateSets.{member}
-use Rattle.fewest.specs.Least.{leastTo}
+use Rattle.fewest.specs.Least.{leastTo, noWay}
 use Rattle.fewest.proofs.costs.LeastLaws.{least-far}
-use Rattle.fewest.specs.Least.{noWay}
-use Rattle.fewest.specs.inner.Rows.{changeOf, labelCost, labelsCost, leafCost, Relaxed, CostRow, RowArgs, RightArgs, LeftArgs, LeafArgs}
+use Rattle.fewest.specs.inner.Rows.{changeOf, labelCost, labelsCost, leafCost, Relaxed, CostRow, RowArgs}
+use Rattle.fewest.specs.inner.Rows.{RightArgs, LeftArgs, LeafArgs}
 
 -- ---- labels in a set
 

@@ -2,12 +2,13 @@
 --
 -- Problem == an automaton, a count of labels, what may be changed, and the number `far` that stands for "no way"
 -- changeCost P v a b == what it costs that node v, of label a, has label b: 0 for its own, 1 where it may, else far
--- cost P t lo s == the least number of changes below and at the root of t that give it state s, where t's nodes are numbered from
---   lo; far where that takes far changes or more, or no choice does
--- witness P t lo s == the tree with these changes: of several the one with the least left state, then the least right state, then
---   the least label
+-- cost P t lo s == the least number of changes below and at the root of t that give it state s, where t's nodes are
+--   numbered from lo; far where that takes far changes or more, or no choice does
+-- witness P t lo s == the tree with these changes: of several the one with the least left state, then the least right
+--   state, then the least label
 --
--- cost is seed document 000's evaluation of a regular question in the numbers with min and +, in place of S-10's + and times.
+-- cost is seed document 000's evaluation of a regular question in the numbers with min and +, in place of S-10's + and
+-- times.
 use Prim.Native.Nat.{ℕ, _+_}
 use mathlib.Core.Bool.{Bool, cond}
 use lib.Dec.{eqb}

@@ -1,7 +1,8 @@
 -- What the call writes, exactly: the least number and the list of changes as they are worked out.
 --
--- planProblem r may want == the problem of rules r, where node v may be changed to the labels in may[v], to all where `may` is empty
--- FewestDone == Answers' FewestTold with the number and the list themselves; tied to it by proofs/Promise
+-- planProblem r may want == the problem of rules r, where node v may be changed to the labels in may[v], to all where
+--   `may` is empty
+-- FewestDone == Answers' FewestTold with the number and the list themselves; tied to it by proofs/call/Promise
 use Prim.Native.Nat.{ℕ, _+_, _*_, _≤_}
 use mathlib.Core.Path.{_≡_}
 use mathlib.Core.Bool.{cond}
@@ -9,17 +10,16 @@ use mathlib.Core.List.{List}
 use lib.Dec.{eqb}
 use lib.ListN.{length, getD}
 use Rattle.formats.specs.Plan.{nodeCount, planTree}
-use Rattle.formats.specs.Rules.{stateCount, labelCount, leafStates, innerStates, ruleMarks}
+use Rattle.formats.specs.Rules.{stateCount}
 use Rattle.formats.specs.Checks.{firstNo}
 use Rattle.fewest.specs.Fewest.{fewest}
 use Rattle.fewest.specs.inner.Cost.{Problem}
 use Rattle.fewest.specs.inner.list.Shown.{shownNodes, shownLabels, over}
-use Rattle.fewest.specs.inner.list.Written.{markedProblem}
+use Rattle.fewest.specs.inner.Parts.{partsProblem}
 use Rattle.fewest.specs.Answers.{wantedMark, fewestChecks}
 
 abbrev pub planProblem : List ℕ → List ℕ → ℕ → Problem
-planProblem r may want =
-    markedProblem (leafStates r) (innerStates r) (ruleMarks r) may (stateCount r) (labelCount r) (wantedMark want)
+planProblem r may want = partsProblem r may (wantedMark want)
 
 pub record FewestDone (p r may : List ℕ) (want : ℕ) (work nodes labels : List ℕ) (least count answer : ℕ)
     (work′ nodes′ labels′ : List ℕ) (least′ count′ : ℕ) : Type 0 where

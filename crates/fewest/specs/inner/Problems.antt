@@ -1,7 +1,7 @@
 -- The problem of the fewest changes, of the runs of a rule table and the labels that each node may take.
 --
--- problemFor s k lv inn stock acc == the problem of s states, k labels, leaf states lv, inner states inn, the sets `stock` and the
---   states that `acc` tells; 65,536 stands for "no way": no plan has so many nodes
+-- problemFor s k lv inn stock acc == the problem of s states, k labels, leaf states lv, inner states inn, the sets
+--   `stock` and the states that `acc` tells; 65,536 stands for "no way": no plan has so many nodes
 -- costAt P t v j == the fewest changes at and below node v of t that give it state j
 use Prim.Native.Nat.{ℕ, _+_, _-_, _*_}
 use mathlib.Core.Bool.{Bool}

@@ -2,14 +2,15 @@
 --
 -- changeOf m a b == the cost of label b at a node of label a that may take the labels of the set m
 -- labelCost inn s k p q a m base j b == the cost of state j by label b, over states p and q that cost `base` together
--- labelsCost, rightCost, leftCost == the least of these over all labels; over all right states, costing g q; over all left states,
---   costing f p
+-- labelsCost, rightCost, leftCost == the least of these over all labels; over all right states, costing g q; over all
+--   left states, costing f p
 -- leafCost lv a m j b == the cost of state j of a leaf by label b; leafCosts == the least over all labels
 -- innerCosts == leftCost with the children's costs as functions
 -- Relaxed s c before after == each of the s costs of `before` is lowered to c where c is lower
 -- CostRow s row == s costs, none above 65,536; RowArgs, RightArgs, LeftArgs == what the loops need
 --
--- 65,536 stands for "no way": no plan has so many nodes. Tied to `innerCost` and `leastLeft` of crate fewest by proofs/RowLaws.
+-- 65,536 stands for "no way": no plan has so many nodes. Tied to `innerCost` and `leastLeft` (Cost) by
+-- proofs/rows/RowLaws.
 use Prim.Native.Nat.{ℕ, _+_, _*_, _≤_, _<_, min}
 use mathlib.Core.Path.{_≡_}
 use mathlib.Core.Bool.{Bool, cond}

@@ -77,8 +77,8 @@ fn relax_way(
     relax_labels(row, inner, s, k, p, q, a, labels, base);
 }
 
-// Lowers the row by every right state and label, beside the left state p, which costs `left`; the right states cost what
-// `right` has.
+// Lowers the row by every right state and label, beside the left state p, which costs `left`; the right states cost
+// what `right` has.
 pub fn relax_right(
     row: &mut [u32],
     inner: &[u8],

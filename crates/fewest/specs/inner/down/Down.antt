@@ -1,15 +1,17 @@
--- The pass down: each node's state goes to its children as theirs, and its label is told, in falling node number. The first number
--- of a node's row, its size after the pass up, becomes its state when its parent has its turn, and its label at its own turn: a
--- node's size is last read by its parent. The costs stay.
+-- The pass down: each node's state goes to its children as theirs, and its label is told, in falling node number. The
+-- first number of a node's row, its size after the pass up, becomes its state when its parent has its turn, and its
+-- label at its own turn: a node's size is last read by its parent. The costs stay.
 --
 -- ownCost s b v == the cost of node v's state
 -- ChoiceAt b inn s k v a may p q l == p, q and l are the first way into node v's state
 -- placed s b v p q l == the rows after v's children are told the states p and q, and v its label l
--- LeafDown, InnerDown, NodeDown == what the turn of a leaf, of an inner node and of a node leaves; ..Args == what it needs
--- Told P t g s i before after == of the relabelling `witness` of t that ends in state g: the nodes from i on have their labels; those
---   below i whose parent is i or a later node, and the root, their states; the others their sizes; costs are t's; beyond the
---   nodes all is as it was
--- Down ks ls lv inn may s k i entry after == from the rows at entry the turns of the nodes from i on lead to those after
+-- LeafDown, InnerDown, NodeDown == what the turn of a leaf, of an inner node and of a node leaves; ..Args == what it
+--   needs
+-- Told P t g s i before after == of the relabelling `witness` of t that ends in state g: the nodes from i on have their
+--   labels; those below i whose parent is i or a later node, and the root, their states; the others their sizes; costs
+--   are t's; beyond the nodes all is as it was
+-- Down ks ls lv inn may s k i entry after == from the rows at entry the turns of the nodes from i on lead to those
+--   after
 -- DownGiven == what the pass needs: rows as the pass up and the root's state leave them
 use Prim.Native.Nat.{ℕ, _+_, _-_, _*_, _≤_, _<_}
 use mathlib.Core.Path.{_≡_}

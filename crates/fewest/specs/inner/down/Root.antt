@@ -1,6 +1,7 @@
 -- The root.
 --
--- rootCost W mk at mark j == the cost of state j at the root, whose costs stand in W from `at` on; 65,536 where its mark is another
+-- rootCost W mk at mark j == the cost of state j at the root, whose costs stand in W from `at` on; 65,536 where its
+--   mark is another
 -- RootArgs W mk s at == what the loops over the states need
 use Prim.Native.Nat.{ℕ, _+_, _≤_}
 use mathlib.Core.Path.{_≡_}

@@ -2,9 +2,9 @@
 --
 -- anyOf n f == whether f holds of some number below n
 -- First n f r == r is the first number below n of which f holds, and n where there is none
--- labelHit, rightHit, leftHit == whether state j is had at cost c: by label b, over states p and q that cost `base` together; by
---   some label, over left state p, which costs x, and right state q; by some right state and label, over left state p. The costs of
---   the left and of the right states stand in W from `from` and from `at` on
+-- labelHit, rightHit, leftHit == whether state j is had at cost c: by label b, over states p and q that cost `base`
+--   together; by some label, over left state p, which costs x, and right state q; by some right state and label, over
+--   left state p. The costs of the left and of the right states stand in W from `from` and from `at` on
 -- Chosen == p, q and b are the first way: first left state, then first right state, then first label
 -- RightSearch, LeftSearch == what the searches need
 use Prim.Native.Nat.{ℕ, zero, suc, _+_, _*_, _≤_, _<_}

@@ -1,7 +1,8 @@
 -- The list of changes, as the loop writes it.
 --
 -- nodesTo f g v, labelsTo f g v == the changes from labels f to labels g at the nodes below v
--- ChangePut a b c v .. == entry c is the change of node v to b where a and b differ; else nothing is altered. ChangeArgs == what it needs
+-- ChangePut a b c v .. == entry c is the change of node v to b where a and b differ; else nothing is altered.
+--   ChangeArgs == what it needs
 -- Listed f g v before .. == the buffers begin with these changes, and c is their number
 -- ListArgs ls W s m n == what the loop needs; m and n are the lengths of the buffers
 use Prim.Native.Nat.{ℕ, _+_, _*_, _≤_, _<_}

@@ -1,7 +1,7 @@
 -- The list of changes that is shown.
 --
--- shownNodes P t, shownLabels P t == the changes from t to the relabelling that is shown, in rising node number; none where they are
---   more than 64
+-- shownNodes P t, shownLabels P t == the changes from t to the relabelling that is shown, in rising node number; none
+--   where they are more than 64
 -- over xs d == the buffer d with xs at its front; behind them what was there
 use Prim.Native.Nat.{ℕ}
 use mathlib.Core.Bool.{cond}

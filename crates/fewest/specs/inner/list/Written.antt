@@ -3,7 +3,8 @@
 -- markedProblem lv inn mk may s k mark == the problem of these runs, where the root is to have a state of that mark
 -- LeastDone == the rows are as the pass up leaves them, and r is the root's least cost; LeastArgs == what it needs
 -- RootTold == the root is told the first state that costs m; RootTellArgs == what it needs
--- ShowDone == from rows that the pass up left: the list of changes to the relabelling that is shown; ShowGiven == what it needs
+-- ShowDone == from rows that the pass up left: the list of changes to the relabelling that is shown; ShowGiven == what
+--   it needs
 -- FewestShown, FewestWritten == the least number, and the list that is shown; WriteArgs == what it needs
 use Prim.Native.Nat.{ℕ, _+_, _-_, _*_, _≤_}
 use mathlib.Core.Path.{_≡_}
@@ -13,10 +14,9 @@ use lib.ListN.{length, getD, set}
 use Rattle.trees.specs.Tree.{Tree, kindsOf, labelsOf, size}
 use Rattle.formats.specs.Limits.{changeLimit}
 use Rattle.fewest.specs.Least.{noWay, leastTo}
-use Rattle.fewest.specs.Relabelling.{changedNodes, changedLabels}
+use Rattle.fewest.specs.Relabelling.{changedNodes, changedLabels, stockOf}
 use Rattle.fewest.specs.Fewest.{fewest, clearedTree}
 use Rattle.fewest.specs.inner.Cost.{Problem}
-use Rattle.fewest.specs.Relabelling.{stockOf}
 use Rattle.fewest.specs.inner.Problems.{problemFor}
 use Rattle.fewest.specs.inner.passes.Up.{Up, UpGiven}
 use Rattle.fewest.specs.inner.down.Search.{First}

@@ -2,8 +2,10 @@
 --
 -- nodeSize, nodeCosts == the size and the costs that node v gets, by its kind, from the rows of its children
 -- LeafTurnArgs, InnerTurnArgs, NodeTurnArgs == what a turn needs
--- CostsUp P t s i before after == the rows of the nodes below i are the tree's sizes and costs, and those from i on are as they were
--- Up ks ls lv inn may s k i before after == that, for the tree with kinds ks and labels ls, whatever states are wanted at the root
+-- CostsUp P t s i before after == the rows of the nodes below i are the tree's sizes and costs, and those from i on are
+--   as they were
+-- Up ks ls lv inn may s k i before after == that, for the tree with kinds ks and labels ls, whatever states are wanted
+--   at the root
 -- UpGiven == what the pass needs; m is the length of the work space
 use Prim.Native.Nat.{ℕ, _+_, _-_, _*_, _≤_, _<_}
 use mathlib.Core.Path.{_≡_}

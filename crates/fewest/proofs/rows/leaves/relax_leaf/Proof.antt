@@ -2,8 +2,7 @@
 use Prim.Native.Nat.{ℕ, _-_, _≤_}
 use mathlib.Core.Path.{_≡_, subst}
 use Rattle.state_sets.specs.StateSets.{member}
-use Rattle.fewest.specs.Least.{leastTo}
-use Rattle.fewest.specs.Least.{noWay}
+use Rattle.fewest.specs.Least.{leastTo, noWay}
 use Rattle.fewest.specs.inner.Rows.{leafCost, Relaxed}
 use Rattle.fewest.proofs.rows.RowLaws.{leaf-start, leaf-turn}
 use native.Mathlib.Omega.{arith}
