@@ -25,6 +25,7 @@ use Rattle.trees.specs.Changes.{changed}
 use Rattle.formats.specs.Limits.{labelLimit, changeLimit}
 use Rattle.formats.specs.Plan.{labelsIn, planTree}
 use Rattle.formats.specs.Rules.{stateCount, labelCount, innerStates, ruleMarks, ruleAutomaton}
+use Rattle.formats.specs.Checks.{firstNo, ruleTableChecks}
 use Rattle.formats.specs.Passing.{PlanPasses}
 use Rattle.formats.proofs.RuleLaws.{RulesPass, mark-below}
 use Rattle.formats.proofs.PlanLaws.{kinds-planTree, labels-planTree}
@@ -35,18 +36,14 @@ use Rattle.trees.proofs.NodeLaws.{length-labels, length-kinds}
 use Rattle.trees.proofs.PostorderLaws.{tree-postorder, treeOf-is, treeOf-kinds, treeOf-labels}
 use Rattle.trees.proofs.RunLaws.{changed-length}
 use Rattle.fewest.specs.Relabelling.{everyLabel, stockOf, differences, Relabelling}
-use Rattle.fewest.proofs.costs.ListLaws.{differences-self, differences-changed, permitted-self, permitted-all}
+use Rattle.fewest.proofs.costs.ListLaws.{differences-self, differences-changed, permitted-all}
 use Rattle.fewest.proofs.costs.ListLaws.{changed-below}
 use Rattle.fewest.specs.Least.{noWay}
 use Rattle.fewest.specs.Answers.{wantedMark, wantedAutomaton, mayBe, FewestTold}
 use Rattle.fewest.proofs.call.CallLaws.{table-yes}
+use Rattle.fewest.proofs.call.EarlyLaws.{states-same, keeps-labels}
 
 -- ---- what is wanted
-
-states-same : (r : List ℕ) (want : ℕ) (u : Tree) → state (wantedAutomaton r want) u ≡ state (ruleAutomaton r) u
-states-same r want (leaf a) = refl
-states-same r want (node x a y) =
-    ap₂ (λ (p q : ℕ). getD (innerStates r) ((p * labelCount r + a) * stateCount r + q) 0) (states-same r want x) (states-same r want y)
 
 -- want 1: the rules' own yes
 pub cleared-is : (r : List ℕ) (want : ℕ) → (want ≡ 0 → ⊥) → (u : Tree) → accepts (wantedAutomaton r want) u ≡ accepts (ruleAutomaton r) u
@@ -94,8 +91,11 @@ every-label may e v b h =
 
 module _ (p r may : List ℕ) (want : ℕ) (work nodes labels : List ℕ) (least count : ℕ) (work′ nodes′ labels′ : List ℕ) (least′ count′ : ℕ)
     (T : FewestTold p r may want work nodes labels least count 0 work′ nodes′ labels′ least′ count′) where
+  checked : firstNo (ruleTableChecks p r) ≡ 0
+  checked = table-yes p r (length may) (length work) (length nodes) (length labels) (sym (T .number))
+
   passes : PlanPasses p × RulesPass r × (allBelow (labelCount r) (labelsIn p) ≡ true)
-  passes = rule-table-passes p r (table-yes p r (length may) (length work) (length nodes) (length labels) (sym (T .number)))
+  passes = rule-table-passes p r checked
 
   -- "Put as a question they do it": what a fresh run answers
   pub list-is-the-run : (want ≡ 0 → ⊥) → least′ ≤ changeLimit → rootAccepted p r (take least′ nodes′) (take least′ labels′) ≡ true
@@ -128,11 +128,7 @@ module _ (p r may : List ℕ) (want : ℕ) (work nodes labels : List ℕ) (least
 
   pub clear-is-zero : accepts (wantedAutomaton r want) (planTree p) ≡ true → least′ ≡ 0
   clear-is-zero c =
-      let R : Relabelling (labelCount r) (mayBe may) (planTree p) (planTree p) = record {
-        kinds = refl;
-        labels = permitted-self (labelCount r) (mayBe may) 0 (labelsOf (planTree p))
-            (ap (allBelow (labelCount r)) (labels-planTree p (passes .0)) ∙ passes .2);
-      } in
+      let R : Relabelling (labelCount r) (mayBe may) (planTree p) (planTree p) = keeps-labels p r may checked in
       elim (decLt least′ noWay) [
         | yes h ↦ (let z = T .told refl .way h .least (planTree p) R c in omega (arith, z, differences-self (labelsOf (planTree p))))
         | no h ↦ absurd (T .told refl .no-way (omega arith) .1 (planTree p) R c)

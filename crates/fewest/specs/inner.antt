@@ -2,6 +2,7 @@ pub mod Cost
 pub mod Rows
 pub mod Problems
 pub mod Parts
+pub mod Marked
 pub mod Done
 pub mod down
 pub mod list

@@ -1,5 +1,6 @@
 // The call: the fewest changes that clear a plan, or that make it no longer cleared, from plan and rules alone.
 use crate::list::shown::write_fewest;
+use crate::run::root_mark;
 use formats::bytes::read32;
 use formats::inputs::check_rule_inputs;
 use formats::layout::LABEL_COUNT_AT;
@@ -13,8 +14,10 @@ ghost use Rattle.formats.specs.Plan.{planTree};
 ghost use Rattle.formats.specs.Rules.{stateCount};
 ghost use Rattle.formats.specs.Checks.{firstNo};
 ghost use Rattle.formats.specs.inner.InnerChecks.{Sizes};
+ghost use Rattle.allowed.specs.inner.Inputs.{CallArgs};
 ghost use Rattle.fewest.specs.inner.list.Written.{FewestShown};
 ghost use Rattle.fewest.specs.Answers.{wantedMark, mayFits, fewestRoom, fewestChecks, FewestTold};
+ghost use Rattle.fewest.specs.inner.Marked.{PlanMarked};
 ghost use Rattle.fewest.specs.inner.Parts.{partsProblem, PlanArgs};
 
 // The mark that is wanted at the root: 0 for want 0, else 1.
@@ -77,6 +80,25 @@ fn check_fewest(
     0
 }
 
+// The mark of the root's state in the run over the plan as it is, of a plan and rules that pass their checks. The first
+// numbers of the work space are written, one for each node.
+fn plan_mark(plan: &[u8], rules: &[u8], n: usize, s: usize, k: usize, work: &mut [u32]) -> u8
+    requires { ⌜ CallArgs (now plan) (now rules) n s k (length (now work)) ⌝ }
+    ensures { λ x. ⌜ PlanMarked (now (plan .entry)) (now (rules .entry)) (now (work .entry)) x (now (work .exit)) ⌝ }
+{
+    let end = RULES_HEAD + k + inner_count(s, k);
+    root_mark(
+        &plan[PLAN_HEAD + n..],
+        &plan[PLAN_HEAD..PLAN_HEAD + n],
+        &rules[RULES_HEAD..RULES_HEAD + k],
+        &rules[RULES_HEAD + k..end],
+        &rules[end..],
+        s,
+        k,
+        work,
+    )
+}
+
 // The fewest changes of a plan and rules that pass their checks. Labels, kinds and states are handed on as parts.
 fn write_plan(
     plan: &[u8],
@@ -115,8 +137,8 @@ fn write_plan(
 }
 
 // The least number of nodes that must be relabelled so that the plan is cleared (want 1) or no longer is (want 0), and
-// the changes where they are at most 64. It returns the number of the first check that fails, of 2 to 11 and 17; then
-// nothing is written.
+// the changes where they are at most 64. Where the plan is as wanted already, the run over it is the whole work. It
+// returns the number of the first check that fails, of 2 to 11 and 17; then nothing is written.
 pub fn fewest_changes(
     plan: &[u8],
     rules: &[u8],
@@ -147,6 +169,11 @@ pub fn fewest_changes(
     let s = read32(rules, 0);
     let k = read32(rules, LABEL_COUNT_AT);
     let mark = wanted_mark(want);
+    if plan_mark(plan, rules, n, s, k, work) == mark {
+        *least = 0;
+        *count = 0;
+        return 0;
+    }
     let c = write_plan(plan, rules, may, n, s, k, mark, work, nodes, labels, least);
     *count = c;
     0
