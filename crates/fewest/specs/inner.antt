@@ -1,5 +1,6 @@
 pub mod Cost
 pub mod Rows
+pub mod Images
 pub mod Problems
 pub mod Parts
 pub mod Marked

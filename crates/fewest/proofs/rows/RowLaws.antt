@@ -100,10 +100,10 @@ module _ (inn : List ℕ) (s k p q a base : ℕ) (may : ℕ → Bool) (R : RowAr
 
 -- ---- states that cost 65,536 or more together lower nothing
 
-least-ge : (n : ℕ) (f : ℕ → ℕ) → ((b : ℕ) → b < n → 65536 ≤ f b) → 65536 ≤ leastTo noWay n f
+pub least-ge : (m : ℕ) → m ≤ noWay → (n : ℕ) (f : ℕ → ℕ) → ((b : ℕ) → b < n → m ≤ f b) → m ≤ leastTo noWay n f
 unfolding leastTo
-least-ge zero f h = omega arith
-least-ge (suc n) f h = omega (arith, least-ge n f (λ b l. h b (omega arith)), h n (omega arith))
+least-ge m e zero f h = e
+least-ge m e (suc n) f h = omega (arith, least-ge m e n f (λ b l. h b (omega arith)), h n (omega arith))
 
 pub relax-none : (inn : List ℕ) (s k p q a : ℕ) (may : ℕ → Bool) (base : ℕ) (row : List ℕ) → 65536 ≤ base → CostRow s row
     → Relaxed s (labelsCost inn s k p q a may base) row row
@@ -113,7 +113,7 @@ relax-none inn s k p q a may base row h C = record {
   costs = λ j l. omega (
     arith,
     C .low j l,
-    least-ge k (labelCost inn s k p q a may base j) (λ b m.
+    least-ge 65536 (omega arith) k (labelCost inn s k p q a may base j) (λ b m.
         by-eq (λ (x : ℕ). 65536 ≤ x) (getD inn ((p * k + b) * s + q) 0) j (λ e. omega arith) (λ e. omega arith)),
   );
 }

@@ -1,9 +1,11 @@
 // An inner node's row, way by way: the cost of a state is lowered to that of each way into it.
 use crate::rows::NO_WAY;
+use crate::rows::images::relax_image;
 use formats::rules::rule;
 ghost use mathlib.Core.Path.{_≡_};
 ghost use Prim.Native.Nat.{_≤_, _<_, min};
 ghost use Rattle.state_sets.specs.StateSets.{member};
+ghost use Rattle.fewest.specs.inner.Images.{ImagesFit};
 ghost use Rattle.fewest.specs.inner.Rows.{changeOf, labelsCost, rightCost, leftCost, Relaxed, CostRow, RowArgs, RightArgs, LeftArgs};
 
 // The cost of label b at a node of label a that may take the labels of the set.
@@ -56,10 +58,11 @@ pub fn relax_labels(
     }
 }
 
-// The same; nothing is lowered where the states cost 65,536 or more together.
+// The same, by the states' image where there is one; nothing is lowered where the states cost 65,536 or more together.
 fn relax_way(
     row: &mut [u32],
     inner: &[u8],
+    images: &[u16],
     s: usize,
     k: usize,
     p: usize,
@@ -68,13 +71,17 @@ fn relax_way(
     labels: u64,
     base: u32,
 )
-    requires { ⌜ RowArgs (now inner) s k p q a base × CostRow s (now row) ⌝ }
+    requires { ⌜ RowArgs (now inner) s k p q a base × CostRow s (now row) × ImagesFit (now inner) s k a (member labels) (now images) ⌝ }
     ensures { λ _. ⌜ Relaxed s (labelsCost (now (inner .entry)) s k p q a (member labels) base) (now (row .entry)) (now (row .exit)) ⌝ }
 {
     if NO_WAY <= base {
         return;
     }
-    relax_labels(row, inner, s, k, p, q, a, labels, base);
+    if images.len() == 0 {
+        relax_labels(row, inner, s, k, p, q, a, labels, base);
+        return;
+    }
+    relax_image(row, inner, s, k, p, q, a, labels, base, images[p * s + q]);
 }
 
 // Lowers the row by every right state and label, beside the left state p, which costs `left`; the right states cost
@@ -82,6 +89,7 @@ fn relax_way(
 pub fn relax_right(
     row: &mut [u32],
     inner: &[u8],
+    images: &[u16],
     s: usize,
     k: usize,
     p: usize,
@@ -90,13 +98,14 @@ pub fn relax_right(
     a: usize,
     labels: u64,
 )
-    requires { ⌜ RightArgs (now inner) s k p a left (now right) × CostRow s (now row) ⌝ }
+    requires { ⌜ RightArgs (now inner) s k p a left (now right) × CostRow s (now row)
+        × ImagesFit (now inner) s k a (member labels) (now images) ⌝ }
     ensures { λ _. ⌜ Relaxed s (rightCost (now (inner .entry)) s k p a (member labels) left (now (right .entry))) (now (row .entry))
         (now (row .exit)) ⌝ }
 {
     let mut q: usize = 0;
     while q < s {
-        relax_way(row, inner, s, k, p, q, a, labels, left + right[q]);
+        relax_way(row, inner, images, s, k, p, q, a, labels, left + right[q]);
         q += 1;
     }
 }
@@ -105,6 +114,7 @@ pub fn relax_right(
 pub fn relax_left(
     row: &mut [u32],
     inner: &[u8],
+    images: &[u16],
     s: usize,
     k: usize,
     left: &[u32],
@@ -112,13 +122,14 @@ pub fn relax_left(
     a: usize,
     labels: u64,
 )
-    requires { ⌜ LeftArgs (now inner) s k a (now left) (now right) × CostRow s (now row) ⌝ }
+    requires { ⌜ LeftArgs (now inner) s k a (now left) (now right) × CostRow s (now row)
+        × ImagesFit (now inner) s k a (member labels) (now images) ⌝ }
     ensures { λ _. ⌜ Relaxed s (leftCost (now (inner .entry)) s k a (member labels) (now (left .entry)) (now (right .entry)))
         (now (row .entry)) (now (row .exit)) ⌝ }
 {
     let mut p: usize = 0;
     while p < s {
-        relax_right(row, inner, s, k, p, left[p], right, a, labels);
+        relax_right(row, inner, images, s, k, p, left[p], right, a, labels);
         p += 1;
     }
 }

@@ -14,9 +14,9 @@ use Rattle.fewest.proofs.rows.relax.relax_left.Reads as relax-left-read
 
 relax-left-requires : tie.Need-relax-left-requires
 relax-left-requires c κs =
-    let g = c .before .before .before .before .before .before .before .args in
+    let g = c .before .before .before .before .before .before .before .before .args in
     let b = g .work .now in
-    let p = c .before .before .before .before .before .before .before .pre .0 in (
+    let p = c .before .before .before .before .before .before .before .before .pre .0 in (
       record {
         few = p .few;
         labels = p .labels;
@@ -25,12 +25,13 @@ relax-left-requires c κs =
         left = part-row (g .s) b (leftIn (g .s) b (g .v) * (g .s + 1) + 1) (omega (arith, p .left-room)) (p .left-low);
         right = part-row (g .s) b ((g .v - 1) * (g .s + 1) + 1) (omega (arith, p .right-room)) (p .right-low);
       },
-      c .before .before .before .before .before .before .before .pre .1,
+      c .before .before .before .before .before .before .before .before .pre .1,
+      c .before .before .before .before .before .before .before .before .pre .2,
     )
 
 returns : tie.Need-returns
 returns c =
-    let g = c .before .before .before .before .before .before .before .before .before .before .args in
+    let g = c .before .before .before .before .before .before .before .before .before .before .before .args in
     let b = g .work .now in
     let x = leftIn (g .s) b (g .v) * (g .s + 1) + 1 in
     let y = (g .v - 1) * (g .s + 1) + 1 in

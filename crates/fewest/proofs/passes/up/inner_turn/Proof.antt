@@ -18,16 +18,17 @@ use Rattle.fewest.proofs.passes.up.inner_size.Reads as inner-size-reads
 
 inner-row-requires : tie.Need-inner-row-requires
 inner-row-requires c κs =
-    (c .before .before .before .before .pre, far-row (c .before .before .before .before .args .s) (c .before .before .before .before .pre .few))
+    let t = c .before .before .before .before .before in
+    (t .pre .0, far-row (t .args .s) (t .pre .0 .few), t .pre .1)
 
 returns : tie.Need-returns
 returns c =
-    let g = c .before .before .before .before .before .before .before .before .before .before .before .before .before .args in
+    let g = c .before .before .before .before .before .before .before .before .before .before .before .before .before .before .args in
     let b = g .work .now in
     subst (λ (z : ℕ). RowDone (g .s) (g .v) z (innerCosts (g .inner .now) (g .s) (g .k) (g .a) (member (g .labels))
     (costCell (g .s) b (leftIn (g .s) b (g .v))) (costCell (g .s) b (g .v - 1))) b (c .before .before .put-row .last .0)) (c .before .before .before .before .before .inner-size .ensures)
     (row-filled (g .s) (g .v) (c .before .before .before .before .before .inner-size .result) (innerCosts (g .inner .now) (g .s) (g .k) (g .a) (member (g .labels))
-    (costCell (g .s) b (leftIn (g .s) b (g .v))) (costCell (g .s) b (g .v - 1))) (c .before .before .before .before .before .before .before .before .inner-row .last .0) b (c .before .before .put-row .last .0) (c .before .before .before .before .before .before .before .before .before .before .before .before .before .pre .few)
+    (costCell (g .s) b (leftIn (g .s) b (g .v))) (costCell (g .s) b (g .v - 1))) (c .before .before .before .before .before .before .before .before .inner-row .last .0) b (c .before .before .put-row .last .0) (c .before .before .before .before .before .before .before .before .before .before .before .before .before .before .pre .0 .few)
     (costs-low (g .inner .now) (g .s) (g .k) (g .a) (member (g .labels)) (costCell (g .s) b (leftIn (g .s) b (g .v))) (costCell (g .s) b (g .v - 1)))
     (c .before .before .before .before .before .before .before .before .inner-row .ensures) (c .before .before .put-row .ensures))
 

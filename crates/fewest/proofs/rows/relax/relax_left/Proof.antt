@@ -15,35 +15,36 @@ use Rattle.fewest.proofs.rows.relax.relax_left.Lts as lts
 use Rattle.fewest.proofs.rows.relax.relax_right.Reads as relax-right-reads
 
 abbrev Inv-loop : tie.InvT-loop
-Inv-loop row₀ inner s k left right a labels p₀ row p =
+Inv-loop row₀ inner images s k left right a labels p₀ row p =
     (p ≤ s)
     × Relaxed s (λ j. leastTo noWay p (λ p. rightCost inner s k p a (member labels) (getD left p 0) right j)) row₀ row
 
 abbrev μ-loop : tie.MeasureT-loop
-μ-loop row₀ inner s k left right a labels p₀ row p = s - p
+μ-loop row₀ inner images s k left right a labels p₀ row p = s - p
 
 loop-holds : tie.Need-loop-holds Inv-loop μ-loop
 loop-holds c =
-    let t = c .before .before .before .before in
+    let t = c .before .before .before .before .before in
     let g = t .args in
     (omega arith, step-start (g .s) (λ p j. rightCost (g .inner .now) (g .s) (g .k) p (g .a) (member (g .labels)) (getD (g .left .now) p 0) (g .right .now) j) (g .row .now) (t .pre .1))
 
 shared-slice-read-relax-right : tie.Need-shared-slice-read-relax-right Inv-loop μ-loop
 shared-slice-read-relax-right c =
-    omega (arith, c .before .before .loop-test .taken, c .before .before .before .before .before .before .before .before .pre .0 .left .wide)
+    omega (arith, c .before .before .loop-test .taken, c .before .before .before .before .before .before .before .before .before .pre .0 .left .wide)
 
 relax-right-requires : tie.Need-relax-right-requires Inv-loop μ-loop
 relax-right-requires c κs =
-    let t = c .before .before .before .before .before .before .before .before in
+    let t = c .before .before .before .before .before .before .before .before .before in
     let g = t .args in
     let l = c .before .before .before .loop in (
       right-args (g .inner .now) (g .s) (g .k) (g .a) (g .left .now) (g .right .now) (t .pre .0) (l .p) (c .before .before .loop-test .taken),
       row-kept (g .s) (λ j. leastTo noWay (l .p) (λ p. rightCost (g .inner .now) (g .s) (g .k) p (g .a) (member (g .labels)) (getD (g .left .now) p 0) (g .right .now) j)) (g .row .now) (l .row) (t .pre .1) (l .inv .1),
+      t .pre .2,
     )
 
 loop-again : tie.Need-loop-again Inv-loop μ-loop
 loop-again c =
-    let t = c .before .before .before .before .before .before .before .before .before .before .before in
+    let t = c .before .before .before .before .before .before .before .before .before .before .before .before in
     let g = t .args in
     let l = c .before .before .before .before .before .before .loop in (
       omega (arith, c .before .before .before .before .before .loop-test .taken),
@@ -55,7 +56,7 @@ same-length c = omega (arith, c .before .loop .inv .1 .wide)
 
 returns : tie.Need-returns Inv-loop μ-loop
 returns c =
-    let t = c .before .before .before .before .before .before in
+    let t = c .before .before .before .before .before .before .before in
     let g = t .args in
     let l = c .before .loop in
     let e : l .p ≡ g .s = omega (arith, l .inv .0, c .loop-test .left) in
