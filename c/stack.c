@@ -31,6 +31,7 @@ static uint16_t over_nodes[WHATIF_MAX_CHANGES];
 static uint8_t over_labels[WHATIF_MAX_CHANGES];
 static uint64_t counts[WHATIF_MAX_STATES], masks[N];
 static uint16_t sets[N];
+static uint32_t work[WHATIF_FEWEST_WORK(N, STATES)];
 static uint16_t colour_numbers[WHATIF_COLOUR_BRANCH_NUMBERS(N, STATES)];
 static uint8_t colour_bytes[WHATIF_COLOUR_BYTES(N, WHATIF_MAX_COLOUR_STATES)];
 static uint32_t answer, out[5];
@@ -66,6 +67,7 @@ static _Alignas(64) uint8_t stack[ROOM];
     CALL(ask, 3 * 1024) \
     CALL(allowed, 1 * 1024) \
     CALL(clearing, 1 * 1024) \
+    CALL(fewest, 1 * 1024) \
     CALL(branch_build, 5 * 1024) \
     CALL(branch_check, 3 * 1024) \
     CALL(branch, 1 * 1024) \
@@ -101,6 +103,10 @@ static void make_ask(void) {
 }
 static void make_allowed(void) { answer = whatif_allowed(RULES, masks, N); }
 static void make_clearing(void) { answer = whatif_clearing(RULES, sets, N); }
+static void make_fewest(void) {
+    answer = whatif_fewest(RULES, NULL, 0, 1, work, WHATIF_FEWEST_WORK(N, STATES), over_nodes, WHATIF_MAX_CHANGES,
+                           over_labels, WHATIF_MAX_CHANGES, out, out + 1);
+}
 static void make_branch_build(void) { answer = whatif_branch_build(BRANCH, TABLES); }
 static void make_branch_check(void) { answer = whatif_branch_check(BRANCH, TABLES, out); }
 static void make_branch(void) { answer = whatif_branch(BRANCH, TABLES, N - 1, 1, out, out + 1, out + 2, out + 3); }
@@ -179,6 +185,7 @@ static const struct call {
     EXPORTED(ask),
     EXPORTED(allowed),
     EXPORTED(clearing),
+    EXPORTED(fewest),
     EXPORTED(load),
     EXPORTED(start),
     EXPORTED(cancel),

@@ -20,6 +20,7 @@
  *     the labels along one path                  whatif_branch_build once, then whatif_branch
  *     many questions, any number of states       whatif_build once, then whatif_ask
  *     which labels would do, at each node        whatif_allowed; why: whatif_clearing
+ *     the least that must change                 whatif_fewest
  *     how many choices of labels clear a plan    whatif_build once, then whatif_count
  *     two rule tables joined, or compared        whatif_merge, whatif_agree
  *     a bridge planner's file                    whatif_plan_of_planner, whatif_planner_of_plan
@@ -98,6 +99,8 @@ extern "C" {
 #define WHATIF_MAX_COLOUR_STATES 4u
 /* The greatest depth of a node, root 0. It follows from the limit on nodes and is no check of its own. */
 #define WHATIF_MAX_DEPTH 32767u
+/* What whatif_fewest tells where no relabelling does it: more than any plan has nodes. */
+#define WHATIF_NO_WAY 65536u
 /* The most nodes of a planner's file: its plan has twice as many and one. */
 #define WHATIF_MAX_PLANNER_NODES 32767u
 
@@ -110,6 +113,8 @@ extern "C" {
 #define WHATIF_BRANCH_BYTES(s, k) ((size_t)16 + (size_t)(s) * (size_t)(k) + (size_t)(s))
 #define WHATIF_NODE_TABLE_LEN(n) ((size_t)4 * (size_t)(n))
 #define WHATIF_STATE_TABLE_LEN(n, s) (((size_t)(s) + (size_t)1) * (size_t)(n))
+/* Elements of the work space (uint32_t) of whatif_fewest for n nodes and s states. It may be longer. */
+#define WHATIF_FEWEST_WORK(n, s) (((size_t)(s) + (size_t)1) * (size_t)(n))
 /* Bytes of a planner's file of n nodes, and of its plan, which has 2n+1. */
 #define WHATIF_PLANNER_BYTES(n) ((size_t)12 + (size_t)2 * (size_t)(n))
 #define WHATIF_PLANNER_PLAN_BYTES(n) ((size_t)14 + (size_t)4 * (size_t)(n))
@@ -277,6 +282,26 @@ uint32_t whatif_allowed(const uint8_t *plan, size_t plan_len, const uint8_t *rul
 WHATIF_NODISCARD
 uint32_t whatif_clearing(const uint8_t *plan, size_t plan_len, const uint8_t *rules, size_t rules_len, uint16_t *sets,
                          size_t sets_len);
+
+/*
+ * Fewest changes: how many nodes must be relabelled at least so that the plan is cleared, or no longer is?
+ * Lent:    the plan and the rule table, read. may, read: node v may be relabelled to a where bit a of may[v] is 1, and may
+ *          always keep its label; may_len is N, or 0, which says every node and every label. want: 1 asks for a plan that
+ *          is cleared, 0 for one that is not; any other number is read as 1. work, WHATIF_FEWEST_WORK(N, S) numbers of
+ *          work space; nodes and labels, room for 64 each, written.
+ * Written: *least, the least number over all relabellings that may permits, however many nodes they change, or
+ *          WHATIF_NO_WAY where none does it. It is 0 where the plan is as wanted already. *count: *least where that is
+ *          at most 64, else 0; so many entries of nodes, rising, each once, and of labels: changes that do it. Of several
+ *          least lists any may be written. What is left in the work space is the library's own. Past these entries and
+ *          past the work space nothing is touched.
+ * Answers: WHATIF_ACCEPTED, or the first of 2, 3, 4, 5, 6, 7, 8, 9, 10, 17, 11: 17 where may_len is neither 0 nor N, 11
+ *          where work, nodes or labels is too short. Refused, everything is as it was.
+ */
+WHATIF_NODISCARD
+uint32_t whatif_fewest(const uint8_t *plan, size_t plan_len, const uint8_t *rules, size_t rules_len,
+                       const uint64_t *may, size_t may_len, uint32_t want, uint32_t *work, size_t work_len,
+                       uint16_t *nodes, size_t nodes_len, uint8_t *labels, size_t labels_len, uint32_t *least,
+                       uint32_t *count);
 
 /*
  * Writes the tables of a plan and a branch table: those on which branch questions are answered.

@@ -385,6 +385,20 @@ static void for_every_node(const struct plan *p) {
     }
 }
 
+static void fewest_of(const struct plan *p, const char *which, enum side side, uint32_t want, size_t sets, uint32_t room) {
+    begin(FEWEST, p->name, which), put(side, 1), put(want, 1), plan_and_rules(p), put((uint32_t)sets, 2);
+    for (size_t v = 0; v < sets; v++)
+        put(5, 4), put(0, 4);
+    put((uint32_t)WHATIF_FEWEST_WORK(p->n, p->s) + room, 2), put(64, 1), put(63 + room, 1), end();
+}
+
+/* Both wants, with a set for each node and without; sets for some nodes, and labels one too short. */
+static void fewest(const struct plan *p) {
+    fewest_of(p, "", BEFORE, 1, 0, 2), fewest_of(p, "-lost", BEFORE, 0, 0, 1);
+    fewest_of(p, "-behind", BEHIND, 1, p->n, 1), fewest_of(p, "-17", BEFORE, 1, p->n - 1, 1);
+    fewest_of(p, "-11", BEFORE, 1, 0, 0);
+}
+
 static void ask_of(const struct plan *p, const char *which, enum side side, const struct question *list) {
     begin(ASK, p->name, which), put(side, 1), changes(list), plan_and_rules(p), tables(p, p->s), end();
 }
@@ -666,6 +680,7 @@ int main(int argc, char **argv) {
     lists_over();
     counts(&sample), counts(&comb);
     for_every_node(&sample), for_every_node(&comb);
+    fewest(&sample), fewest(&comb);
     asks(&sample, &questions[1]), asks(&comb, &far);
     on_screens(&sample, &questions[1]), screens_list(&sample, &questions[3]);
     on_screens(&comb, &far), screens_list(&comb, &far);

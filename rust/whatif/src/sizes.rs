@@ -61,6 +61,12 @@ pub const fn state_table_len(n: usize, s: usize) -> usize {
     (s + 1) * n
 }
 
+/// 32-bit numbers of the work space of the fewest changes, for `n` nodes and `s` states.
+#[must_use]
+pub const fn fewest_work(n: usize, s: usize) -> usize {
+    (s + 1) * n
+}
+
 /// Bytes of a planner's file of `n` nodes.
 #[must_use]
 pub const fn planner_bytes(n: usize) -> usize {

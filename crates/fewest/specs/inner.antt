@@ -1,0 +1,10 @@
+pub mod Cost
+pub mod Rows
+pub mod Images
+pub mod Problems
+pub mod Parts
+pub mod Marked
+pub mod Done
+pub mod down
+pub mod list
+pub mod passes
