@@ -1,4 +1,3 @@
 pub mod RowCells
 pub mod RowLoop
-pub mod Theorems
 pub mod ColourLoop

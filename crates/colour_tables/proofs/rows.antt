@@ -2,3 +2,4 @@ pub mod BitLaws
 pub mod OwnerLaws
 pub mod PlaceLoop
 pub mod TurnLoop
+pub mod TakeLoop

@@ -1,6 +1,6 @@
--- The writers of the tables of colours, one after the other: the node table, the states, each colour's table.
---     node-args, word-args, colour-args   what each needs
---     filled                              what they leave together
+-- The writers of the tables of colours, one after the other: the node table, then states and colours' tables.
+--     node-args, word-args   what each needs
+--     filled                 what they leave together
 use Prim.Native.Nat.{ℕ, _+_, _-_, _*_, _≤_, _<_}
 use mathlib.Core.Path.{_≡_, sym, ap, _∙_}
 use mathlib.Core.List.{List, _++_}
@@ -16,11 +16,10 @@ use Rattle.formats.specs.Checks.{nodeTableLength}
 use Rattle.tables.specs.node_tables.Cells.{NodeTableArgs}
 use Rattle.tables.specs.node_tables.NodeCells.{NodeCells}
 use Rattle.tables.proofs.node_tables.CellLaws.{length-nodeTableOf, take-table, link-cells}
-use Rattle.colour_tables.proofs.LayoutLaws.{part-at, numbers-over, copies-over}
+use Rattle.colour_tables.proofs.LayoutLaws.{numbers-over, copies-over}
 use Rattle.colour_tables.specs.states.Written.{CopiesFrom}
-use Rattle.colour_tables.proofs.states.CopyLoop.{first-elsewhere, past-elsewhere}
+use Rattle.colour_tables.proofs.states.CopyLoop.{first-elsewhere, past-elsewhere, copies-colours}
 use Rattle.colour_tables.specs.states.inner.WordPass.{stepBy, WordGiven, WordsFrom, WordArgs}
-use Rattle.colour_tables.specs.forests.Colours.{Landed, ColoursTo, ColoursArgs}
 use Rattle.colour_tables.specs.branch.inner.Filled.{FillArgs, Filled}
 
 -- what the build of the node table leaves
@@ -32,11 +31,6 @@ Linked ks numbers numbers′ =
 abbrev pub Stated : List ℕ → List ℕ → ℕ → ℕ → List ℕ → List ℕ → List ℕ → List ℕ → Type 0
 Stated ls st s k bytes numbers bytes′ numbers′ =
     (t : Tree) → WordGiven ls numbers t → WordsFrom s k st t 0 bytes numbers bytes′ numbers′
-
--- what the tables of the colours leave
-abbrev pub Coloured : ℕ → ℕ → List ℕ → List ℕ → Type 0
-Coloured n s numbers numbers′ =
-    (step : ℕ → ℕ → ℕ) (t : Tree) → size t ≡ n → Landed s step t numbers → ColoursTo s step t s numbers numbers′
 
 module _ (ls ks st : List ℕ) (s k l m : ℕ) (A : FillArgs ls ks st s k l m) where
   some : 0 < s
@@ -84,50 +78,28 @@ module _ (ls ks st : List ℕ) (s k l m : ℕ) (A : FillArgs ls ks st s k l m) w
     }
 
     -- once the states are written
-    module _ (bytes bytes′ b′ : List ℕ) (S : Stated ls st s k bytes b bytes′ b′) (lb′ : length b′ ≡ l) where
-      landed : (t : Tree) → kindsOf t ≡ ks → labelsOf t ≡ ls → Landed s (stepBy st k t) t b′
-      landed t e d =
-          let C : CopiesFrom s (stepBy st k t) t 0 0 bytes b bytes′ b′ = S t (given t e d) in
-          record {
-            parents = λ v h. C .kept (v * 4) (first-elsewhere (size t) s (v * 4) (omega arith))
-                ∙ cells t e .parents v (omega arith);
-            lands = λ c p h v i. part-at (size t) c b′ (v * 4 + 3) (omega arith) ∙ C .lands v (omega arith) i c p h;
-          }
-
-      pub colour-args : ColoursArgs b′ (length ls) s
-      colour-args = record {
-        step = stepBy st k (A .tree);
-        tree = A .tree;
-        count = size-is (A .tree) (A .labels);
-        given = landed (A .tree) (A .kinds) (A .labels);
-        most = A .most;
-        few = A .few;
-        room = rw lb′ (A .numbers-room);
-      }
-
-      pub filled : (b″ : List ℕ) → length a ≡ l → length b″ ≡ l → length bytes ≡ m → length bytes′ ≡ m
-          → Coloured (length ls) s b′ b″ → Filled ls ks st s k a bytes b″ bytes′
-      filled b″ la lb″ lm lm′ D t e d =
-          let step : ℕ → ℕ → ℕ = stepBy st k t in
-          let n : size t ≡ length ls = size-is t d in
-          let C : CopiesFrom s step t 0 0 bytes b bytes′ b′ = S t (given t e d) in
-          let F : ColoursTo s step t s b′ b″ = D step t n (landed t e d) in
-          let z : length ks ≡ size t = kinds-size t e in
-          let w : b ≡ nodeTableOf t ++ drop (size t * 4) a =
-          W t e ∙ ap (λ (x : ℕ). nodeTableOf t ++ drop (x * 4) a) z in
-          let g : length (nodeTableOf t) ≡ size t * 4 = length-nodeTableOf t in
-          let few : s * (size t * 4) ≤ l = rw n (A .numbers-room) in
-          let first : size t * 4 ≤ s * (size t * 4) = omega (arith, stride (size t * 4) 0 s some) in
-          record {
-            numbers-are = numbers-over s step t a b″ (lb″ ∙ sym la) (omega arith)
-                (λ j h. F .first j h ∙ C .kept j (first-elsewhere (size t) s j h) ∙ ap (λ (x : List ℕ). getD x j 0) w
-                ∙ List·getD-append (nodeTableOf t) (drop (size t * 4) a) 0 j (omega (arith, g)))
-                (λ c p h v i. F .cells c p h v i)
-                (λ j h. F .rest j h ∙ C .kept j (past-elsewhere (size t) s j h) ∙ ap (λ (x : List ℕ). getD x j 0) w
-                ∙ getD-past (nodeTableOf t) a (size t * 4) j g (omega arith));
-            bytes-are = copies-over s step t (λ v q h. A .steps-below _) bytes bytes′ (lm′ ∙ sym lm)
-                (rw (n, lm) (A .bytes-room))
-                (λ v c h i. (let q : v * s + c ≡ 0 + v * s + c = omega arith in
-                ap (λ (x : ℕ). getD bytes′ x 0) q ∙ C .rows v (omega arith) h c i))
-                (λ j h. C .rest j (omega arith));
-          }
+    pub filled : (bytes bytes′ b′ : List ℕ) → Stated ls st s k bytes b bytes′ b′ → length a ≡ l → length b′ ≡ l
+        → length bytes ≡ m → length bytes′ ≡ m → Filled ls ks st s k a bytes b′ bytes′
+    filled bytes bytes′ b′ S la lb′ lm lm′ t e d =
+        let step : ℕ → ℕ → ℕ = stepBy st k t in
+        let n : size t ≡ length ls = size-is t d in
+        let C : CopiesFrom s step t 0 0 bytes b bytes′ b′ = S t (given t e d) in
+        let z : length ks ≡ size t = kinds-size t e in
+        let w : b ≡ nodeTableOf t ++ drop (size t * 4) a =
+        W t e ∙ ap (λ (x : ℕ). nodeTableOf t ++ drop (x * 4) a) z in
+        let g : length (nodeTableOf t) ≡ size t * 4 = length-nodeTableOf t in
+        let few : s * (size t * 4) ≤ l = rw n (A .numbers-room) in
+        let first : size t * 4 ≤ s * (size t * 4) = omega (arith, stride (size t * 4) 0 s some) in
+        record {
+          numbers-are = numbers-over s step t a b′ (lb′ ∙ sym la) (omega arith)
+              (λ j h. C .kept j (first-elsewhere (size t) s j h) ∙ ap (λ (x : List ℕ). getD x j 0) w
+              ∙ List·getD-append (nodeTableOf t) (drop (size t * 4) a) 0 j (omega (arith, g)))
+              (copies-colours s step t 0 bytes b bytes′ b′ C)
+              (λ j h. C .kept j (past-elsewhere (size t) s j h) ∙ ap (λ (x : List ℕ). getD x j 0) w
+              ∙ getD-past (nodeTableOf t) a (size t * 4) j g (omega arith));
+          bytes-are = copies-over s step t (λ v q h. A .steps-below _) bytes bytes′ (lm′ ∙ sym lm)
+              (rw (n, lm) (A .bytes-room))
+              (λ v c h i. (let q : v * s + c ≡ 0 + v * s + c = omega arith in
+              ap (λ (x : ℕ). getD bytes′ x 0) q ∙ C .rows v (omega arith) h c i))
+              (λ j h. C .rest j (omega arith));
+        }

@@ -1,19 +1,20 @@
 -- The cells of a row and of the table it is put into.
 --     below-marked, -none, -same, next-root, next-below   the row of a node, by the tests on the way
---     part-put, part-length                               a colour's table among all numbers
---     put-up, put-jump, put-depth, put-apart              what is in a table after a row was put into it
-use Prim.Native.Nat.{ℕ, _+_, _-_, _*_, _≤_, _<_}
-use mathlib.Core.Path.{_≡_, refl, ap, _∙_}
+--     part-length                                         a colour's table among all numbers
+--     put-cell, put-apart, put-length                     what is in the numbers after a row was put into them
+--     colour-none, colour-put, colour-length              the same for a colour's table
+use Prim.Native.Nat.{ℕ, zero, suc, _+_, _*_, _≤_, _<_}
+use mathlib.Core.Path.{_≡_, ap, _∙_}
 use mathlib.Core.List.{List}
 use native.Mathlib.Omega.{arith}
-use lib.ListN.{length, getD, take, drop, set, length-set, length-drop}
-use lib.Seq.{length-take-le, getD-set-same, getD-set-other, drop-set-add, take-set-lt}
+use lib.ListN.{length, getD, drop, set, length-set, length-drop}
+use lib.Seq.{length-take-le, getD-set-same, getD-set-other}
 use borrow.Author.Tests.{lt-ltb, le-ltb, eq-eqb, ne-eqb}
 use Rattle.tables.specs.node_tables.Cells.{parentCell, jumpCell, depthCell, sizeCell}
 use Rattle.tables.specs.node_tables.inner.DownPass.{byDistances}
 use Rattle.colour_tables.specs.declared.forests.rows.Row.{Row}
 use Rattle.colour_tables.specs.ColourCells.{colourPart}
-use Rattle.colour_tables.specs.forests.Rows.{row, rowBelow, nextRow, putRow}
+use Rattle.colour_tables.specs.forests.Rows.{row, rowBelow, nextRow, rowCells, putRow, putColour}
 
 -- ---- the row of a node
 
@@ -47,52 +48,63 @@ module _ (n c : ℕ) (nums : List ℕ) where
   part-length h =
       length-take-le (n * 4) (drop (c * (n * 4)) nums) (omega (arith, length-drop (c * (n * 4)) nums))
 
-part-set : (n c : ℕ) (nums : List ℕ) (i j a : ℕ) → j ≡ c * (n * 4) + i → i < n * 4
-    → colourPart n c (set nums j a) ≡ set (colourPart n c nums) i a
-part-set n c nums i j a e h =
-    ap (λ (k : ℕ). colourPart n c (set nums k a)) e
-    ∙ ap (take (n * 4)) (drop-set-add (c * (n * 4)) nums i a)
-    ∙ take-set-lt (n * 4) (drop (c * (n * 4)) nums) i a h
-
-pub part-put : (n c : ℕ) (nums : List ℕ) (v : ℕ) (r : Row) → v < n
-    → colourPart n c (putRow nums (c * (n * 4) + v * 4) r) ≡ putRow (colourPart n c nums) (v * 4) r
-part-put n c nums v r h =
-    let B : ℕ = c * (n * 4) in
-    let one : List ℕ = set nums (B + v * 4) (r .up) in
-    let two : List ℕ = set one (B + v * 4 + 1) (r .jump) in
-    part-set n c two (v * 4 + 2) (B + v * 4 + 2) (r .depth) (omega arith) (omega arith)
-    ∙ ap (λ (x : List ℕ). set x (v * 4 + 2) (r .depth))
-    (part-set n c one (v * 4 + 1) (B + v * 4 + 1) (r .jump) (omega arith) (omega arith)
-    ∙ ap (λ (x : List ℕ). set x (v * 4 + 1) (r .jump))
-    (part-set n c nums (v * 4) (B + v * 4) (r .up) refl (omega arith)))
-
 -- ---- after a row was put
 
-module _ (b : List ℕ) (at : ℕ) (r : Row) where
-  pub put-apart : (j : ℕ) → (j ≡ at → ⊥) → (j ≡ at + 1 → ⊥) → (j ≡ at + 2 → ⊥) → getD (putRow b at r) j 0 ≡ getD b j 0
-  put-apart j x y z =
-      getD-set-other (set (set b at (r .up)) (at + 1) (r .jump)) (at + 2) j (r .depth) 0 z
-      ∙ getD-set-other (set b at (r .up)) (at + 1) j (r .jump) 0 y
-      ∙ getD-set-other b at j (r .up) 0 x
+module _ (b : List ℕ) (at : ℕ) (r : Row) (l : ℕ) where
+  abbrev one : List ℕ
+  one = set b at (r .up)
 
-  module _ (h : at + 3 ≤ length b) where
-    pub put-up : getD (putRow b at r) at 0 ≡ r .up
-    put-up =
-        getD-set-other (set (set b at (r .up)) (at + 1) (r .jump)) (at + 2) at (r .depth) 0 (λ e. omega arith)
-        ∙ getD-set-other (set b at (r .up)) (at + 1) at (r .jump) 0 (λ e. omega arith)
+  abbrev two : List ℕ
+  two = set one (at + 1) (r .jump)
+
+  abbrev three : List ℕ
+  three = set two (at + 2) (r .depth)
+
+  pub put-length : length (putRow b at r l) ≡ length b
+  put-length =
+      length-set three (at + 3) l ∙ length-set two (at + 2) (r .depth) ∙ length-set one (at + 1) (r .jump)
+      ∙ length-set b at (r .up)
+
+  pub put-apart : (j : ℕ) → ((i : ℕ) → i < 4 → j ≡ at + i → ⊥) → getD (putRow b at r l) j 0 ≡ getD b j 0
+  put-apart j n =
+      getD-set-other three (at + 3) j l 0 (n 3 (omega arith))
+      ∙ getD-set-other two (at + 2) j (r .depth) 0 (n 2 (omega arith))
+      ∙ getD-set-other one (at + 1) j (r .jump) 0 (n 1 (omega arith))
+      ∙ getD-set-other b at j (r .up) 0 (λ e. n 0 (omega arith) (omega arith))
+
+  module _ (h : at + 4 ≤ length b) where
+    inside : (at + 1 < length one) × (at + 2 < length two) × (at + 3 < length three)
+    inside =
+        let x : length one ≡ length b = length-set b at (r .up) in
+        let y : length two ≡ length one = length-set one (at + 1) (r .jump) in
+        let z : length three ≡ length two = length-set two (at + 2) (r .depth) in
+        (omega arith, omega arith, omega arith)
+
+    pub put-cell : (i : ℕ) → i < 4 → getD (putRow b at r l) (at + i) 0 ≡ getD (rowCells r l) i 0
+    put-cell zero k =
+        let z : at + 0 ≡ at = omega arith in
+        ap (λ (x : ℕ). getD (putRow b at r l) x 0) z
+        ∙ getD-set-other three (at + 3) at l 0 (λ e. omega arith)
+        ∙ getD-set-other two (at + 2) at (r .depth) 0 (λ e. omega arith)
+        ∙ getD-set-other one (at + 1) at (r .jump) 0 (λ e. omega arith)
         ∙ getD-set-same b at (r .up) 0 (omega arith)
+    put-cell (suc zero) k =
+        getD-set-other three (at + 3) (at + 1) l 0 (λ e. omega arith)
+        ∙ getD-set-other two (at + 2) (at + 1) (r .depth) 0 (λ e. omega arith)
+        ∙ getD-set-same one (at + 1) (r .jump) 0 (inside .0)
+    put-cell (suc (suc zero)) k =
+        getD-set-other three (at + 3) (at + 2) l 0 (λ e. omega arith)
+        ∙ getD-set-same two (at + 2) (r .depth) 0 (inside .1)
+    put-cell (suc (suc (suc zero))) k = getD-set-same three (at + 3) l 0 (inside .2)
+    put-cell (suc (suc (suc (suc i)))) k = absurd (omega arith)
 
-    pub put-jump : getD (putRow b at r) (at + 1) 0 ≡ r .jump
-    put-jump =
-        getD-set-other (set (set b at (r .up)) (at + 1) (r .jump)) (at + 2) (at + 1) (r .depth) 0 (λ e. omega arith)
-        ∙ getD-set-same (set b at (r .up)) (at + 1) (r .jump) 0 (omega (arith, length-set b at (r .up)))
+-- ---- a colour's row
 
-    pub put-depth : getD (putRow b at r) (at + 2) 0 ≡ r .depth
-    put-depth =
-        getD-set-same (set (set b at (r .up)) (at + 1) (r .jump)) (at + 2) (r .depth) 0
-        (omega (arith, length-set (set b at (r .up)) (at + 1) (r .jump), length-set b at (r .up)))
+module _ (nums : List ℕ) (n c v l : ℕ) where
+  pub colour-none : c < 1 → putColour nums n c v l ≡ nums
+  unfolding putColour
+  colour-none h = rw (lt-ltb c 1 h)
 
-pub put-length : (b : List ℕ) (at : ℕ) (r : Row) → length (putRow b at r) ≡ length b
-put-length b at r =
-    length-set (set (set b at (r .up)) (at + 1) (r .jump)) (at + 2) (r .depth)
-    ∙ length-set (set b at (r .up)) (at + 1) (r .jump) ∙ length-set b at (r .up)
+  pub colour-put : 1 ≤ c → putColour nums n c v l ≡ putRow nums (c * (n * 4) + v * 4) (nextRow nums n c v) l
+  unfolding putColour
+  colour-put h = rw (le-ltb c 1 h)

@@ -1,8 +1,7 @@
--- The iterations of the loop over the colours of a row.
+-- The iterations of the loop over the colours of a row, as lists.
 --     Turns                        the loop's state: the row of the first c colours, what they land on, what is taken
 --     turns-start, turns-turn      before the first colour, and after one more
 --     bit-own, bit-low             the bit that the next colour takes: its own state's, or the lowest clear one
---     turns-done                   after all of them
 use Prim.Native.Nat.{ℕ, suc, _+_, _-_, _*_, _/_, _%_, _^_, _≤_, _<_}
 use mathlib.Core.Path.{_≡_, refl, sym, ap, subst, _∙_}
 use mathlib.Core.Bool.{Bool, true, false, cond}
@@ -21,8 +20,8 @@ use Rattle.colours.specs.Colouring.{lowestFree, takes, recolour, placeOf, lands
 use Rattle.colours.specs.StateSets.{member}
 use Rattle.colours.proofs.BitLaws.{member-setOf, setOf-below}
 use Rattle.colours.proofs.ColouringLaws.{takes-new, takes-held}
-use Rattle.colours.proofs.TurnLaws.{recolour-nil, recolour-turn, recolour-all, lands-place}
-use Rattle.colour_tables.specs.rows.Turns.{TurnArgs, RecolouredTo}
+use Rattle.colours.proofs.TurnLaws.{recolour-nil, recolour-turn, lands-place}
+use Rattle.colour_tables.specs.rows.Turns.{TurnArgs}
 use Rattle.colour_tables.proofs.rows.OwnerLaws.{place-stays, Owned, owned-start, owned-next}
 use Rattle.colour_tables.proofs.rows.OwnerLaws.{taken, taken-start, taken-next, free-small, low-free}
 
@@ -131,13 +130,3 @@ module _ (successors row landed owners : List ℕ) (t c : ℕ) (T : Turns succes
             ∙ ap (λ (y : ℕ). taken (take c row) + y) (d ∙ ap (λ (j : ℕ). 2 ^ j) (sym e))
             ∙ taken-next (take c row) x small new ∙ ap taken (sym g);
       }
-
-pub turns-done : (successors row landed owners : List ℕ) (t c : ℕ) → Turns successors row landed owners t c → length successors ≤ c
-    → RecolouredTo successors (record { row = row; lands = landed })
-turns-done successors row landed owners t c T h =
-    let e : c ≡ length successors = omega (arith, T .within) in
-    record {
-      row = ap (λ (j : ℕ). take j row) (sym e) ∙ T .so-far ∙ ap (λ (j : ℕ). recolour (λ q. q) (take j successors)) e
-          ∙ recolour-all (λ q. q) successors;
-      landed = λ j l. T .lands-so j (omega arith);
-    }

@@ -185,7 +185,7 @@ module _ (ls inn : List ℕ) (s k count base : ℕ) (e₀ m₀ : List ℕ) (A : 
             let d : size t ≡ n = is lv mk t P in
             let T′ : Recoloured successors (size t) base count v b m b′ m′ = rw d T in
             copies-next count f t base (keeps lv mk t) e₀ m₀ (parents lv mk t P) v b m (from lv mk t P)
-            (here lv mk t P) successors b′ m′
+            (here lv mk t P) (rw (d ∙ sym is₀) space) successors b′ m′
             T′
             (successors-is count f t base (keeps lv mk t) v successors (L .long) (count-few .1)
             (λ c i. successors-here lv mk t P c i

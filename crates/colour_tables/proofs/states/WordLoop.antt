@@ -83,7 +83,7 @@ module _ (ls st : List ℕ) (s k : ℕ) (e₀ m₀ : List ℕ) (A : WordArgs ls 
             let T′ : Recoloured successors (size t) 0 s v b m b′ m′ = rw d T in
             let label : a ≡ labelAt t v = z ∙ ap (λ (x : List ℕ). getD x v 0) (sym (G .labels)) in
             copies-next s (stepBy st k t) t 0 (keeps t) e₀ m₀ (G .parents) v b m (from t G)
-            (omega (arith, d)) successors b′ m′ T′
+            (omega (arith, d)) (rw (d ∙ sym is₀) space) successors b′ m′ T′
             (successors-is s (stepBy st k t) t 0 (keeps t) v successors (L .long) (A .few)
             (λ c i. L .cells c i
             ∙ ap₂ (λ (x y : ℕ). getD st (x * k + y) 0)

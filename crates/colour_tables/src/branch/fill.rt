@@ -1,6 +1,5 @@
-// The tables of colours of a plan and a branch table: the plan's node table, the states of the colours and what they
-// land on, and then each colour's own table.
-use crate::forests::all_colours::write_colours;
+// The tables of colours of a plan and a branch table: the plan's node table, then in one pass the states of the colours
+// and each colour's own table.
 use crate::states::words::write_words;
 use formats::layout::BRANCH_HEAD;
 use formats::layout::PLAN_HEAD;
@@ -24,7 +23,6 @@ fn fill_colours(
 {
     build_node_table(kinds, numbers);
     write_words(labels, steps, s, k, numbers, bytes);
-    write_colours(numbers, labels.len(), s);
 }
 
 // The same from a plan of n nodes and a branch table of s states and k labels: labels, kinds and steps are handed on

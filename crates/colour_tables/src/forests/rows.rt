@@ -1,6 +1,5 @@
-// A colour's table, from the root down: each node's row from its parent's. The first table of the numbers is the
-// plan's own node table; colour c's follows after c of the same length, and its fourth numbers, the colours landed on,
-// are there already.
+// A node's row in a colour's table, from its parent's. The first table of the numbers is the plan's own node table;
+// colour c's follows after c of the same length, and its fourth numbers are the colours landed on.
 use formats::layout::DEPTH;
 use formats::layout::JUMP;
 use formats::layout::NODE_COLUMNS;
@@ -8,12 +7,10 @@ use tables::node_tables::down::by_distances;
 use tables::node_tables::moves::parent_at;
 use tables::node_tables::moves::size_at;
 ghost use mathlib.Core.Path.{_≡_};
-ghost use mathlib.Core.Bool.{Bool};
-ghost use Prim.Native.Nat.{ℕ, _+_, _≤_};
+ghost use Prim.Native.Nat.{_+_, _≤_};
 ghost use lib.ListN.{length};
-ghost use Rattle.trees.specs.Tree.{Tree};
-ghost use Rattle.colour_tables.specs.forests.Rows.{rowBelow, nextRow, putRow, BelowArgs, NextArgs, WriteArgs, Given};
-ghost use Rattle.colour_tables.specs.forests.Rows.{RowsFrom};
+ghost use Rattle.colour_tables.specs.forests.Rows.{rowBelow, nextRow, putRow, putColour, BelowArgs, NextArgs};
+ghost use Rattle.colour_tables.specs.forests.Rows.{ColourArgs};
 
 // A node's parent, jump and depth.
 pub struct Row {
@@ -68,26 +65,30 @@ fn next_row(nums: &[u16], n: usize, c: usize, v: usize) -> Row
     row_below(&nums[from..from + size], c, v, p)
 }
 
-// Writes a row from `at` on.
-fn put_row(nums: &mut [u16], at: usize, row: Row)
-    requires { ⌜ at + 3 ≤ length (now nums) ⌝ }
-    ensures { λ _. ⌜ now (nums .exit) ≡ putRow (now (nums .entry)) at row ⌝ }
+// Writes a row from `at` on, and behind it the colour landed on.
+fn put_row(nums: &mut [u16], at: usize, row: Row, lands: u16)
+    requires { ⌜ at + 4 ≤ length (now nums) ⌝ }
+    ensures { λ _. ⌜ now (nums .exit) ≡ putRow (now (nums .entry)) at row lands ⌝ }
 {
     nums[at] = row.up;
     nums[at + 1] = row.jump;
     nums[at + 2] = row.depth;
+    nums[at + 3] = lands;
 }
 
-// Writes colour c's rows.
-pub fn write_colour(nums: &mut [u16], n: usize, c: usize)
-    requires { ⌜ WriteArgs (now nums) n c ⌝ }
-    ensures { λ _. ⌜ ((t : Tree) (m : ℕ → Bool) → Given t m n c (now (nums .entry))
-        → RowsFrom t m n c 0 (now (nums .entry)) (now (nums .exit))) ⌝ }
+// Writes the row of node v in colour c's table, and the colour landed on; the lowest colour's table is the plan's own.
+pub fn put_colour(nums: &mut [u16], n: usize, c: usize, v: usize, lands: u8)
+    requires { ⌜ ColourArgs (now nums) n c v ⌝ }
+    ensures { λ _. ⌜ now (nums .exit) ≡ putColour (now (nums .entry)) n c v lands ⌝ }
 {
-    let mut v = n;
-    while 0 < v {
-        v -= 1;
-        let row = next_row(nums, n, c, v);
-        put_row(nums, c * (n * NODE_COLUMNS) + v * NODE_COLUMNS, row);
+    if c < 1 {
+        return;
     }
+    let row = next_row(nums, n, c, v);
+    put_row(
+        nums,
+        c * (n * NODE_COLUMNS) + v * NODE_COLUMNS,
+        row,
+        lands as u16,
+    );
 }

@@ -1,6 +1,5 @@
-// The tables of colours of a plan and a rule table: the tables of a Load, then the sets of the colours and what they
-// land on, and then each colour's own table.
-use crate::forests::all_colours::write_colours;
+// The tables of colours of a plan and a rule table: the tables of a Load, then in one pass the sets of the colours and
+// each colour's own table.
 use crate::set_states::sets::set_count;
 use crate::set_states::sets::write_sets;
 use formats::layout::PLAN_HEAD;
@@ -27,7 +26,6 @@ fn fill_set_colours(
     let count = set_count(s);
     let base = n * (s + 1);
     write_sets(labels, inner, s, k, count, base, numbers, bytes);
-    write_colours(numbers, n, count);
 }
 
 // Writes both buffers, once all checks have passed. The excess of a longer buffer is untouched.

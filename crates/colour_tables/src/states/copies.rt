@@ -1,13 +1,11 @@
-// One node's copy: the states of its colours from those of the copy above it, and the colours that they land on. The
-// copies are in the bytes from `base` on, `k` bytes for each node; colour c's landings are the fourth numbers of its
-// table.
+// One node's copy: the states of its colours from those of the copy above it, and its rows in the colours' tables. The
+// copies are in the bytes from `base` on, `k` bytes for each node.
 use crate::rows::turns::take_in_turn;
-use formats::layout::NODE_COLUMNS;
 use tables::node_tables::moves::parent_at;
 ghost use Prim.Native.Nat.{_+_};
 ghost use lib.ListN.{getD};
-ghost use Rattle.colour_tables.specs.states.inner.Rows.{RowOf, aboveCell, AboveArgs, PutArgs, LandArgs, TurnArgs};
-ghost use Rattle.colour_tables.specs.states.inner.Rows.{PutTo, LandedTo, Recoloured};
+ghost use Rattle.colour_tables.specs.states.inner.Rows.{RowOf, aboveCell, AboveArgs, PutArgs, TurnArgs};
+ghost use Rattle.colour_tables.specs.states.inner.Rows.{Recoloured};
 
 // "In the top copy .. state s has colour s+1."
 const TOP: [u8; 16] = [0, 1, 2, 3, 4, 5, 6, 7, 8, 9, 10, 11, 12, 13, 14, 15];
@@ -45,31 +43,7 @@ pub fn row_above(
     row_at(bytes, base + p * k, k)
 }
 
-// Puts the first k of a row from `at` on.
-fn put_row(row: [u8; 16], bytes: &mut [u8], at: usize, k: usize)
-    requires { ⌜ PutArgs (now bytes) at k ⌝ }
-    ensures { λ _. ⌜ PutTo row at k (now (bytes .entry)) (now (bytes .exit)) ⌝ }
-{
-    let mut c = 0;
-    while c < k {
-        bytes[at + c] = row[c];
-        c += 1;
-    }
-}
-
-// Puts what the colours of node v land on, all but the lowest's.
-fn put_lands(lands: [u8; 16], numbers: &mut [u16], n: usize, k: usize, v: usize)
-    requires { ⌜ LandArgs (now numbers) n k v ⌝ }
-    ensures { λ _. ⌜ LandedTo lands n v k (now (numbers .entry)) (now (numbers .exit)) ⌝ }
-{
-    let mut c = 1;
-    while c < k {
-        numbers[c * (n * NODE_COLUMNS) + (v * NODE_COLUMNS + 3)] = lands[c] as u16;
-        c += 1;
-    }
-}
-
-// Node v's copy, from the states that those of the copy above lead to.
+// Node v's copy and its rows, from the states that those of the copy above lead to.
 pub fn put_copy(
     successors: [u8; 16],
     bytes: &mut [u8],
@@ -83,9 +57,5 @@ pub fn put_copy(
     ensures { λ _. ⌜ Recoloured successors n base k v (now (bytes .entry)) (now (numbers .entry)) (now (bytes .exit))
         (now (numbers .exit)) ⌝ }
 {
-    let turned = take_in_turn(&successors[..k]);
-    let row = turned.row;
-    let lands = turned.lands;
-    put_row(row, bytes, base + v * k, k);
-    put_lands(lands, numbers, n, k, v);
+    take_in_turn(&successors[..k], bytes, numbers, n, base + v * k, v);
 }

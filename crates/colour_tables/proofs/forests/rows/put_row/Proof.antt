@@ -13,8 +13,12 @@ slice-write-nums-2 c = simp length-set (omega arith)
 slice-write-nums-3 : tie.Need-slice-write-nums-3
 slice-write-nums-3 c = simp length-set (omega arith)
 
+slice-write-nums-4 : tie.Need-slice-write-nums-4
+slice-write-nums-4 c = simp length-set (omega arith)
+
 pub put-row-spec : {M : Type 1} → statement M
 put-row-spec =
     tie.close
     (tie.spec (λ c. search needs) (λ c. search needs) (λ c. search needs) (λ c. search needs) slice-write-nums-2
-    (λ c. search needs) (λ c. search needs) slice-write-nums-3 (λ c. search needs) (λ c. search needs))
+    (λ c. search needs) (λ c. search needs) slice-write-nums-3 (λ c. search needs) (λ c. search needs)
+    slice-write-nums-4 (λ c. search needs) (λ c. search needs))
