@@ -1,7 +1,6 @@
 -- Climbs by colours over sets of states: the instance for rule tables.
 --
--- setOf n p == the number of the set of those of n states for which p holds: 2 to the power k for each member k
--- member T k == whether state k is in the set numbered T
+-- setOf, member == sets of states as numbers (crate state_sets, StateSets)
 -- setStep A t v T == the states at node v that lead into the set T at its parent; into the root's copy nothing
 --   changes, so the root's own copy is the top copy
 -- targetColour rows c x == the colour of the set {x} in the copy of node c, where rows are the copies of the nodes
@@ -11,8 +10,8 @@
 --   set that one leads down to at w holds q; none (18) where no colour has the set {x}, a descent has none, or no set
 --   holds q
 -- tryTargets A t c w q == the same by the tree's own colours, all target states in rising order
-use Prim.Native.Nat.{ℕ, zero, suc, _+_, _*_, _/_, _%_, _^_}
-use mathlib.Core.Bool.{Bool, cond}
+use Prim.Native.Nat.{ℕ, zero, suc, _+_, _^_}
+use mathlib.Core.Bool.{cond}
 use mathlib.Core.List.{List, _++_}
 use mathlib.Core.Option.{Option, none, some}
 use lib.Dec.{ltb, eqb}
@@ -21,18 +20,10 @@ use Rattle.trees.specs.Tree.{Tree, size}
 use Rattle.trees.specs.Automaton.{Automaton}
 use Rattle.trees.specs.Climb.{andThen}
 use Rattle.trees.specs.Tables.{stepUp}
-use Rattle.colours.specs.marks.Marks.{bit}
+unfoldable pub use Rattle.state_sets.specs.StateSets.{setOf, member}
 use Rattle.colours.specs.Colouring.{placeOf}
 use Rattle.colours.specs.Copies.{copy, dropsDown}
 use Rattle.colours.specs.Descents.{ColourTable, Descent, descend, colourTableOf}
-
--- "sets of states, numbered by adding 2 to the power k for each member k"
-unfoldable pub setOf : ℕ → (ℕ → Bool) → ℕ
-setOf zero p = 0
-setOf (suc n) p = bit (p n) * 2 ^ n + setOf n p
-
-unfoldable pub member : ℕ → ℕ → Bool
-member T k = eqb (T / 2 ^ k % 2) 1
 
 -- "a step down takes a set to the states at the child that lead into it"
 unfoldable pub setStep : Automaton → Tree → ℕ → ℕ → ℕ

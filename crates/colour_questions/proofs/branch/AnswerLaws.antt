@@ -22,6 +22,7 @@ use Rattle.colours.specs.Descents.{Place, Descent, drops, links, descend}
 use Rattle.colour_tables.specs.ColourCells.{cellTable}
 use Rattle.colour_tables.proofs.RangeLaws.{descend-low}
 use Rattle.colour_questions.specs.declared.path_drops.descend.Descended.{Descended}
+use Rattle.colour_questions.specs.declared.path_drops.descend.Descended.the-variants.{Reached, NotReached}
 use Rattle.colour_questions.specs.path_drops.Descended.{descendedOf}
 use Rattle.colour_questions.proofs.path_drops.DescendedLaws.{descended-none, descended-some}
 use Rattle.colour_questions.specs.declared.branch.answers.Descending.the-variants.{Refused}
@@ -108,28 +109,25 @@ module _ (reading : Reading) (p r nodeTable numbers bytes : List ℕ) (u l n s :
               from-place ∙ on-some (colourIn s bytes (placeAt n z)) c (fromColour n s B numbers bytes l (placeAt n z))
               (C ∙ below-yes s c i)
 
-          pub answer-lost : d .ok ≡ false → Refused 18
-              ≡ colourAnswer 0 (colouredOn reading p r nodeTable numbers bytes u l)
+          pub answer-lost : d ≡ NotReached
+              → Refused 18 ≡ colourAnswer 0 (colouredOn reading p r nodeTable numbers bytes u l)
           answer-lost f =
               refused (from-colour ∙ on-none (descend (cellTable n numbers) c (placeAt n z) l c) (fromEnd s B bytes l)
-              (descended-none (descend (cellTable n numbers) c (placeAt n z) l c) d D f))
+              (descended-none (descend (cellTable n numbers) c (placeAt n z) l c) (sym f ∙ D)))
 
           -- the colour at the end is one of s
-          pub end-low : d .ok ≡ true → d .colour < s
-          end-low f =
+          pub end-low : (e d₁ k₁ : ℕ) → d ≡ Reached e d₁ k₁ → e < s
+          end-low e d₁ k₁ f =
               let o : Option Descent = descend (cellTable n numbers) c (placeAt n z) l c in
-              let x = descended-some o d D f in
+              let x = descended-some o e d₁ k₁ (sym f ∙ D) in
               omega (arith, x .2, descend-low (cellTable n numbers) l c (placeAt n z) c (x .0) (x .1))
 
-          pub answer-end : d .ok ≡ true → (mk : List ℕ) → mk ≡ branchMarks r
-              → finishOn s mk bytes l (d .colour) (d .drops) (d .links)
-              ≡ colourAnswer 0 (colouredOn reading p r nodeTable numbers bytes u l)
-          answer-end f mk m =
+          pub answer-end : (e d₁ k₁ : ℕ) → d ≡ Reached e d₁ k₁ → (mk : List ℕ) → mk ≡ branchMarks r
+              → finishOn s mk bytes l e d₁ k₁ ≡ colourAnswer 0 (colouredOn reading p r nodeTable numbers bytes u l)
+          answer-end e d₁ k₁ f mk m =
               let o : Option Descent = descend (cellTable n numbers) c (placeAt n z) l c in
-              let x = descended-some o d D f in
-              finish-same mk (branchMarks r) (d .colour) (x .0 .colour) (d .drops) (drops (x .0)) (d .links)
-              (links (x .0)) m
-              (x .2) (x .3) (x .4)
+              let x = descended-some o e d₁ k₁ (sym f ∙ D) in
+              finish-same mk (branchMarks r) e (x .0 .colour) d₁ (drops (x .0)) k₁ (links (x .0)) m (x .2) (x .3) (x .4)
               ∙ finish-is s r bytes l (x .0) (ltb (getD bytes (l * s + x .0 .colour) 0) s) refl
               ∙ sym (ap (colourAnswer 0) (from-colour ∙ on-some o (x .0) (fromEnd s B bytes l) (x .1)))
             where

@@ -2,8 +2,7 @@
 --     fork-left, fork-right, fork-rule, fork-made   an inner node: its two sides, and its rule
 --     part-leaf, part-first, part-outside, part-fork   by the root's kind and children
 use Prim.Native.Nat.{ℕ, _+_, _-_, _*_, _^_, _≤_, _<_}
-use mathlib.Core.Path.{_≡_, sym, ap, ap₂, _∙_}
-use mathlib.Core.Bool.{true, false}
+use mathlib.Core.Path.{_≡_, sym, ap, ap₂, _∙_, subst}
 use mathlib.Core.List.{List, _++_}
 use mathlib.Core.Option.{Option, none, some}
 use native.Mathlib.Decide.{ℕ-discrete}
@@ -22,15 +21,17 @@ use Rattle.questions.proofs.ScanLaws.{found-scan}
 use Rattle.colours.specs.Descents.{sum}
 use Rattle.colours.specs.StateSets.{Tried, tried}
 use Rattle.colour_questions.specs.declared.target_states.trials.Trial.{Trial}
-use Rattle.colour_questions.specs.target_states.Trials.{trialOf}
+use Rattle.colour_questions.specs.declared.target_states.trials.Trial.the-variants.{State, NoState}
+use Rattle.colour_questions.specs.target_states.Trials.{trialOf, Few, FewIn}
 use Rattle.colour_questions.proofs.target_states.TrialLoop.{sum-append}
 use Rattle.colour_questions.specs.parts.Part.{ColourView, Sides, sidesOf, sideTried, joinTried, forkTried}
 use Rattle.colour_questions.specs.parts.Part.{leafTried, partTried}
-use Rattle.colour_questions.specs.parts.inner.Args.{FewTried, SideDone, PartDone}
-use Rattle.colour_questions.proofs.parts.TrialLaws.{trial-none, Is, trial-some, none-few}
+use Rattle.colour_questions.specs.parts.inner.Args.{Untried, SideDone, PartDone}
+use Rattle.colour_questions.proofs.parts.TrialLaws.{trial-none, Is, trial-some}
 
-lost-part : (s : ℕ) (o : Option Tried) (r : Trial) → o ≡ none → r ≡ trialOf none → PartDone s o r
-lost-part s o r e i = record { result = i ∙ ap trialOf (sym e); bounds = none-few s r i .all }
+lost-part : (s : ℕ) (o : Option Tried) → o ≡ none → PartDone s o NoState
+unfolding trialOf
+lost-part s o e = record { result = ap trialOf (sym e); bounds = tt }
 
 -- ---- an inner node
 
@@ -56,74 +57,74 @@ module _ (Y : Sides) (k : ℕ) (inner nodeTable es qs : List ℕ) (v l a i j : �
       ap₂ (λ (x y : Option Found). joinTried X a (sideTried Y l x y) (sideTried Y (v - 1) y x)) p q
 
   module _ (x : Trial) (D : SideDone (Y .s) i j (sideTried Y l (foundOf es qs i) (foundOf es qs j)) x) where
-    pub fork-left : (r : Trial) → x .ok ≡ false → r ≡ trialOf none
-        → PartDone (Y .s) (forkTried Y k inner nodeTable es qs v l a) r
+    pub fork-left : x ≡ NoState → PartDone (Y .s) (forkTried Y k inner nodeTable es qs v l a) NoState
     unfolding joinTried
-    fork-left r z e =
-        let n = trial-none (sideTried Y l f g) x (D .result) z in
-        lost-part (Y .s) _ r (fork-by ∙ ap (λ (o : Option Tried). joinTried X a o (sideTried Y (v - 1) g f)) n) e
+    fork-left z =
+        let n = trial-none (sideTried Y l f g) (sym z ∙ D .result) in
+        lost-part (Y .s) _ (fork-by ∙ ap (λ (o : Option Tried). joinTried X a o (sideTried Y (v - 1) g f)) n)
 
-    module _ (z : x .ok ≡ true) (y : Trial)
+    module _ (p b c : ℕ) (z : x ≡ State p b c) (y : Trial)
         (E : SideDone (Y .s) j i (sideTried Y (v - 1) (foundOf es qs j) (foundOf es qs i)) y) where
-      left : Is (sideTried Y l (foundOf es qs i) (foundOf es qs j)) x
-      left = trial-some (sideTried Y l f g) x (D .result) z
+      left : Is (sideTried Y l (foundOf es qs i) (foundOf es qs j)) p b c
+      left = trial-some (sideTried Y l f g) p b c (sym z ∙ D .result)
 
-      pub fork-right : (r : Trial) → y .ok ≡ false → r ≡ trialOf none
-          → PartDone (Y .s) (forkTried Y k inner nodeTable es qs v l a) r
+      pub left-few : Few (Y .s) 60 p b c
+      left-few = subst (FewIn (Y .s) 60) z (D .bounds .all)
+
+      pub fork-right : y ≡ NoState → PartDone (Y .s) (forkTried Y k inner nodeTable es qs v l a) NoState
       unfolding joinTried
-      fork-right r w e =
-          let n = trial-none (sideTried Y (v - 1) g f) y (E .result) w in
-          lost-part (Y .s) _ r (fork-by ∙ ap₂ (λ (o u : Option Tried). joinTried X a o u) (left .is) n) e
+      fork-right w =
+          let n = trial-none (sideTried Y (v - 1) g f) (sym w ∙ E .result) in
+          lost-part (Y .s) _ (fork-by ∙ ap₂ (λ (o u : Option Tried). joinTried X a o u) (left .is) n)
 
-      module _ (w : y .ok ≡ true) (q : ℕ) (R : below (Y .s) q ≡ ruleOn (rulesView (Y .s) k inner) (x .state) a (y
-          .state)) where
-        right : Is (sideTried Y (v - 1) (foundOf es qs j) (foundOf es qs i)) y
-        right = trial-some (sideTried Y (v - 1) g f) y (E .result) w
+      module _ (t d e : ℕ) (w : y ≡ State t d e) where
+        pub right-few : Few (Y .s) 60 t d e
+        right-few = subst (FewIn (Y .s) 60) w (E .bounds .all)
 
-        abbrev both : List ℕ
-        both = left .found .searches ++ right .found .searches
+        module _ (q : ℕ) (R : below (Y .s) q ≡ ruleOn (rulesView (Y .s) k inner) p a t) where
+          right : Is (sideTried Y (v - 1) (foundOf es qs j) (foundOf es qs i)) t d e
+          right = trial-some (sideTried Y (v - 1) g f) t d e (sym w ∙ E .result)
 
-        by-rule : (o : Option ℕ) → below (Y .s) q ≡ o
-            → forkTried Y k inner nodeTable es qs v l a
-            ≡ andThen o (λ p. some (tried p (left .found .searches ++ right .found .searches)))
-        unfolding joinTried
-        by-rule o b =
-            fork-by
-            ∙ ap₂ (λ (u t : Option Tried). joinTried X a u t) (left .is) (right .is)
-            ∙ ap (λ (c : Option ℕ). andThen c (λ p. some (tried p both)))
-            (ap₂ (λ (m n : ℕ). ruleOn X m a n) (sym (left .state)) (sym (right .state)) ∙ sym R ∙ b)
+          abbrev both : List ℕ
+          both = left .found .searches ++ right .found .searches
 
-        pub fork-rule : (r : Trial) → Y .s ≤ q → r ≡ trialOf none
-            → PartDone (Y .s) (forkTried Y k inner nodeTable es qs v l a) r
-        fork-rule r h e = lost-part (Y .s) _ r (by-rule none (below-no (Y .s) q h)) e
+          by-rule : (o : Option ℕ) → below (Y .s) q ≡ o
+              → forkTried Y k inner nodeTable es qs v l a
+              ≡ andThen o (λ p. some (tried p (left .found .searches ++ right .found .searches)))
+          unfolding joinTried
+          by-rule o h =
+              fork-by
+              ∙ ap₂ (λ (u t : Option Tried). joinTried X a u t) (left .is) (right .is)
+              ∙ ap (λ (c : Option ℕ). andThen c (λ p. some (tried p both)))
+              (ap₂ (λ (m n : ℕ). ruleOn X m a n) (sym (left .state)) (sym (right .state)) ∙ sym R ∙ h)
 
-        -- one side alone is tried
-        pub fork-falls : x .drops + y .drops ≤ 60
-        fork-falls = elim (ℕ-discrete i 0) [
-          | yes e ↦ (let u : x .drops ≡ 0 = D .bounds .run e in omega (arith, E .bounds .all .falls))
-          | no e ↦ (let u : y .drops ≡ 0 = E .bounds .both e in omega (arith, D .bounds .all .falls))
-        ]
+          pub fork-rule : Y .s ≤ q → PartDone (Y .s) (forkTried Y k inner nodeTable es qs v l a) NoState
+          fork-rule h = lost-part (Y .s) _ (by-rule none (below-no (Y .s) q h))
 
-        pub fork-few : x .links + y .links ≤ (x .drops + y .drops) * 65535
-        fork-few = omega (arith, D .bounds .all .few, E .bounds .all .few)
+          -- one side alone is tried
+          pub fork-falls : b + d ≤ 60
+          fork-falls = elim (ℕ-discrete i 0) [
+            | yes n ↦ (let u : b ≡ 0 = subst Untried z (D .bounds .run n) in omega (arith, right-few .falls))
+            | no n ↦ (let u : d ≡ 0 = subst Untried w (E .bounds .both n) in omega (arith, left-few .falls))
+          ]
 
-        pub fork-made : q < Y .s
-            → PartDone (Y .s) (forkTried Y k inner nodeTable es qs v l a)
-            (record { ok = true; state = q; drops = x .drops + y .drops; links = x .links + y .links })
-        unfolding trialOf
-        fork-made h = record {
-          result = sym (ap trialOf (by-rule (some q) (below-yes (Y .s) q h))
-              ∙ ap₂ (λ (m n : ℕ). record { ok = true; state = q; drops = m; links = n }) number total);
-          bounds = record { state = λ _. h; falls = fork-falls; few = fork-few };
-        }
-          where
-            number : length (left .found .searches ++ right .found .searches) ≡ x .drops + y .drops
-            number = length-append (left .found .searches) (right .found .searches)
-                ∙ ap₂ (λ (m n : ℕ). m + n) (sym (left .drops)) (sym (right .drops))
+          pub fork-few : c + e ≤ (b + d) * 65535
+          fork-few = omega (arith, left-few .few, right-few .few)
 
-            total : sum (left .found .searches ++ right .found .searches) ≡ x .links + y .links
-            total = sum-append (left .found .searches) (right .found .searches)
-                ∙ ap₂ (λ (m n : ℕ). m + n) (sym (left .links)) (sym (right .links))
+          pub fork-made : q < Y .s → PartDone (Y .s) (forkTried Y k inner nodeTable es qs v l a) (State q (b + d) (c + e))
+          unfolding trialOf
+          fork-made h = record {
+            result = sym (ap trialOf (by-rule (some q) (below-yes (Y .s) q h)) ∙ ap₂ (λ (m n : ℕ). State q m n) number total);
+            bounds = record { state = h; falls = fork-falls; few = fork-few };
+          }
+            where
+              number : length (left .found .searches ++ right .found .searches) ≡ b + d
+              number = length-append (left .found .searches) (right .found .searches)
+                  ∙ ap₂ (λ (m n : ℕ). m + n) (sym (left .number)) (sym (right .number))
+
+              total : sum (left .found .searches ++ right .found .searches) ≡ c + e
+              total = sum-append (left .found .searches) (right .found .searches)
+                  ∙ ap₂ (λ (m n : ℕ). m + n) (sym (left .total)) (sym (right .total))
 
 -- ---- by the root's kind and children
 
@@ -135,7 +136,7 @@ module _ (L : ColourView) (es qs vs bs : List ℕ) (v a : ℕ) (is-a : a ≡ get
   l = v - 1 - sizeCell (L .view .nodeTable) (v - 1)
 
   pub part-leaf : (r : Trial) → getD (L .view .kinds) v 0 ≡ 0
-      → r ≡ trialOf (leafTried (L .view .s) (L .view .k) (L .view .leaves) a) → FewTried (L .view .s) r
+      → r ≡ trialOf (leafTried (L .view .s) (L .view .k) (L .view .leaves) a) → FewIn (L .view .s) 60 r
       → PartDone (L .view .s) (partTried L es qs vs bs v) r
   unfolding partTried labelOn
   part-leaf r h e B = record {
@@ -144,22 +145,21 @@ module _ (L : ColourView) (es qs vs bs : List ℕ) (v a : ℕ) (is-a : a ≡ get
   }
 
   module _ (h : ¬ (getD (L .view .kinds) v 0 ≡ 0)) where
-    pub part-first : (r : Trial) → v ≡ 0 → r ≡ trialOf none → PartDone (L .view .s) (partTried L es qs vs bs v) r
+    pub part-first : v ≡ 0 → PartDone (L .view .s) (partTried L es qs vs bs v) NoState
     unfolding partTried
-    part-first r z e =
-        lost-part (W .s) _ r (rw (ne-eqb (getD (W .kinds) v 0) 0 h, le-ltb 0 v (omega arith))) e
+    part-first z = lost-part (W .s) _ (rw (ne-eqb (getD (W .kinds) v 0) 0 h, le-ltb 0 v (omega arith)))
 
     module _ (i : ¬ (v ≡ 0)) where
-      pub part-outside : (r : Trial) → v - 1 < sizeCell (L .view .nodeTable) (v - 1) → r ≡ trialOf none
-          → PartDone (L .view .s) (partTried L es qs vs bs v) r
+      pub part-outside : v - 1 < sizeCell (L .view .nodeTable) (v - 1)
+          → PartDone (L .view .s) (partTried L es qs vs bs v) NoState
       unfolding partTried
-      part-outside r z e =
-          lost-part (W .s) _ r
+      part-outside z =
+          lost-part (W .s) _
           (rw (
             ne-eqb (getD (W .kinds) v 0) 0 h,
             lt-ltb 0 v (omega arith),
             lt-leb (sizeCell (W .nodeTable) (v - 1)) (v - 1) z,
-          )) e
+          ))
 
       pub part-fork : (m z : ℕ) (r : Trial) → m ≡ 2 ^ L .view .s → z ≡ sizeCell (L .view .nodeTable) (v - 1) → z ≤ v - 1
           → PartDone (L .view .s) (forkTried (sidesOf (L .view .n) (L .view .s) m (L .view .stateTable) (L .numbers) (L

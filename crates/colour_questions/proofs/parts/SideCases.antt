@@ -3,7 +3,7 @@
 use Prim.Native.Nat.{ℕ, _-_, _≤_, _<_}
 use mathlib.Core.Path.{_≡_, sym, ap, _∙_}
 use mathlib.Core.List.{List}
-use mathlib.Core.Option.{Option, none, some}
+use mathlib.Core.Option.{Option, some}
 use lib.ListN.{getD}
 use Rattle.trees.specs.Climb.{andThen}
 use Rattle.tables.specs.Climbs.{below, runOn}
@@ -14,10 +14,11 @@ use Rattle.questions.specs.inner.Scans.{foundOf}
 use Rattle.questions.proofs.PartLaws.{place-none, place-found}
 use Rattle.colours.specs.StateSets.{Tried, tryFrom}
 use Rattle.colour_questions.specs.declared.target_states.trials.Trial.{Trial}
+use Rattle.colour_questions.specs.declared.target_states.trials.Trial.the-variants.{NoState}
 use Rattle.colour_questions.specs.target_states.Trials.{trialOf, TargetsDone}
 use Rattle.colour_questions.specs.parts.Part.{Sides, untried, colourFrom, sideTried}
 use Rattle.colour_questions.specs.parts.inner.Args.{SideDone}
-use Rattle.colour_questions.proofs.parts.TrialLaws.{Still, none-few, untried-few, targets-few}
+use Rattle.colour_questions.proofs.parts.TrialLaws.{Still, untried-few, targets-few}
 
 module _ (Y : Sides) (c : ℕ) (es qs : List ℕ) (own other : ℕ) where
   abbrev side : Option Tried
@@ -59,17 +60,16 @@ module _ (Y : Sides) (c : ℕ) (es qs : List ℕ) (own other : ℕ) where
           sym (ap (λ (o : Option Found). trialOf (sideTried Y c o (foundOf es qs other))) (place-found own es qs h)
           ∙ ap (λ (o : Option Found). trialOf (sideTried Y c (some root) o)) (place-none other es qs i))
 
-      pub side-outside : (r : Trial) → Y .s ≤ getD qs (own - 1) 0 → r ≡ trialOf none
-          → SideDone (Y .s) own other (sideTried Y c (foundOf es qs own) (foundOf es qs other)) r
-      unfolding colourFrom
-      side-outside r l e =
-          still-side r
-          (e
-          ∙ ap (λ (o : Option ℕ). trialOf (andThen o (λ q. tryFrom (Y .table) (Y .copies) c (getD es (own - 1) 0) q (Y
+      pub side-outside : Y .s ≤ getD qs (own - 1) 0
+          → SideDone (Y .s) own other (sideTried Y c (foundOf es qs own) (foundOf es qs other)) NoState
+      unfolding colourFrom trialOf
+      side-outside l =
+          still-side NoState
+          (ap (λ (o : Option ℕ). trialOf (andThen o (λ q. tryFrom (Y .table) (Y .copies) c (getD es (own - 1) 0) q (Y
           .s) 0)))
           (sym (below-no (Y .s) (getD qs (own - 1) 0) l))
           ∙ alone)
-          (none-few (Y .s) r e)
+          (record { all = tt; none-fell = tt })
 
       pub side-found : (r : Trial) → Y .s ≤ 4 → getD qs (own - 1) 0 < Y .s
           → TargetsDone (Y .s) (Y .table) (Y .copies) c (getD es (own - 1) 0) (getD qs (own - 1) 0) r

@@ -5,7 +5,7 @@
 --     descends-done, -lost, -lowest the answer where no drop is left, where one is lost, and with the lowest colour
 use Prim.Native.Nat.{ℕ, zero, suc, _+_, _*_, _≤_, _<_}
 use mathlib.Core.Path.{_≡_, refl, sym, ap, _∙_, subst}
-use mathlib.Core.Bool.{Bool, true, false}
+use mathlib.Core.Bool.{Bool, false}
 use mathlib.Core.List.{List, [], _∷_, _++_, append-assoc, append-nil}
 use mathlib.Core.Option.{Option, none, some}
 use native.Mathlib.Omega.{arith}
@@ -14,6 +14,7 @@ use lib.ListN.{length, length-append}
 use Rattle.colours.specs.Descents.{ColourTable, Place, Next, done, lost, fell, nextDrop, seen, Descent, descent, sum}
 use Rattle.colours.specs.Descents.{withSearch, afterNext, descend}
 use Rattle.colours.proofs.DescentLaws.{descend-lowest, descend-next, descend-same, fell-lower}
+use Rattle.colour_questions.specs.declared.path_drops.descend.Descended.the-variants.{Reached, NotReached}
 use Rattle.colour_questions.specs.declared.path_drops.drops.Dropping.{Dropping}
 use Rattle.colour_questions.specs.declared.path_drops.drops.Dropping.the-variants.{Done, Lost, Fell}
 use Rattle.colour_questions.specs.path_drops.inner.Drops.{droppingOf, NextDone}
@@ -90,28 +91,21 @@ module _ (n : ℕ) (nums : List ℕ) (z : Place) (l c : ℕ) where
         ≡ withSearches searches (descend (cellTable n nums) colour (startPlace above at) l colour)
 
   -- what is answered where no drop is left
-  ended : (ls : List ℕ) (d : ℕ)
-      → descendedOf (withSearches ls (some (descent d []))) ≡ record {
-        ok = true;
-        colour = d;
-        drops = length ls;
-        links = sum ls;
-      }
+  ended : (ls : List ℕ) (d : ℕ) → descendedOf (withSearches ls (some (descent d []))) ≡ Reached d (length ls) (sum ls)
   unfolding descendedOf
-  ended ls d = ap (λ (x : List ℕ). record { ok = true; colour = d; drops = length x; links = sum x }) (append-nil ls)
+  ended ls d = ap (λ (x : List ℕ). Reached d (length x) (sum x)) (append-nil ls)
 
   module _ (colour : ℕ) (above : Bool) (at drops links : ℕ) (S : Descends colour above at drops links) where
     finish : descend T colour (startPlace above at) l colour ≡ some (descent colour [])
-        → record { ok = true; colour = colour; drops = drops; links = links } ≡ descendedOf (descend T c z l c)
+        → Reached colour drops links ≡ descendedOf (descend T c z l c)
     finish e =
         sym (ap descendedOf (S .rest ∙ ap (withSearches (S .searches)) e)
         ∙ ended (S .searches) colour
-        ∙ ap (λ (x : ℕ). record { ok = true; colour = colour; drops = x; links = sum (S .searches) }) (S .number)
-        ∙ ap (λ (x : ℕ). record { ok = true; colour = colour; drops = drops; links = x }) (S .total))
+        ∙ ap (λ (x : ℕ). Reached colour x (sum (S .searches))) (S .number)
+        ∙ ap (λ (x : ℕ). Reached colour drops x) (S .total))
 
     pub descends-lowest : colour ≡ 0
-        → record { ok = true; colour = colour; drops = drops; links = links }
-        ≡ descendedOf (descend (cellTable n nums) c z l c)
+        → Reached colour drops links ≡ descendedOf (descend (cellTable n nums) c z l c)
     descends-lowest e =
         finish (subst (λ (x : ℕ). descend T x (startPlace above at) l x ≡ some (descent x [])) (sym e)
         (descend-lowest T (startPlace above at) l 0))
@@ -131,15 +125,12 @@ module _ (n : ℕ) (nums : List ℕ) (z : Place) (l c : ℕ) where
           go zero h = absurd (omega arith)
           go (suc f) h = (f, refl)
 
-      pub descends-done : r ≡ Done
-          → record { ok = true; colour = colour; drops = drops; links = links }
-          ≡ descendedOf (descend (cellTable n nums) c z l c)
+      pub descends-done : r ≡ Done → Reached colour drops links ≡ descendedOf (descend (cellTable n nums) c z l c)
       descends-done e =
           finish (step (before .0) done (before .1)
           (gives-done (nextDrop T colour (startPlace above at) l) (sym e ∙ D .result)))
 
-      pub descends-lost : r ≡ Lost
-          → record { ok = false; colour = 0; drops = 0; links = 0 } ≡ descendedOf (descend (cellTable n nums) c z l c)
+      pub descends-lost : r ≡ Lost → NotReached ≡ descendedOf (descend (cellTable n nums) c z l c)
       unfolding descendedOf
       descends-lost e =
           ap descendedOf (sym (S .rest ∙ ap (withSearches (S .searches))

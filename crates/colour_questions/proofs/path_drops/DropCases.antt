@@ -5,7 +5,7 @@
 --       the way
 use Prim.Native.Nat.{ℕ, _+_, _≤_, _<_}
 use mathlib.Core.Path.{_≡_, refl, sym, ap, ap₂, _∙_}
-use mathlib.Core.Bool.{true, false}
+use mathlib.Core.Bool.{false}
 use mathlib.Core.List.{List}
 use mathlib.Core.Option.{Option, none, some}
 use native.Mathlib.Omega.{arith}
@@ -14,11 +14,11 @@ use lib.ListN.{length}
 use borrow.Author.Tests.{lt-ltb, le-ltb}
 use Rattle.trees.specs.Climb.{Forest, Move, andThen, climb, climbEnd}
 use Rattle.trees.proofs.ClimbLaws.{climb-short, climb-inside}
-use Rattle.list_laws.proofs.BoolLaws.{true-false}
 use Rattle.tables.specs.node_tables.Cells.{depthCell, sizeCell, cellForest}
 use Rattle.colours.specs.Descents.{Next, lost, fell, fellAt, fellBy, seenAt, lowestIn, nextFrom}
 use Rattle.colours.proofs.DescentLaws.{next-done, next-search, next-outside}
 use Rattle.colour_questions.specs.declared.path_drops.search.Searched.{Searched}
+use Rattle.colour_questions.specs.declared.path_drops.search.Searched.the-variants.{Found, NotFound}
 use Rattle.colour_questions.specs.declared.path_drops.drops.Dropping.{Dropping}
 use Rattle.colour_questions.specs.declared.path_drops.drops.Dropping.the-variants.{Done, Lost, Fell}
 use Rattle.colour_questions.specs.path_drops.inner.Search.{Searching, searching, searchOn, searchedOf}
@@ -30,7 +30,7 @@ module _ (F : Forest) (lands : ℕ → ℕ) (c v r : ℕ) (e : r ≡ lands v) wh
   pub seen-fell : (d : ℕ) → d ≡ F .depth v → r < c → 1 + d ≡ seenAt F lands c v
   seen-fell d q h = rw (lt-ltb (lands v) c (omega arith)) (omega arith)
 
-  pub seen-kept : (d : ℕ) → d ≡ F .depth v → c ≤ r → 0 + d ≡ seenAt F lands c v
+  pub seen-kept : (d : ℕ) → d ≡ F .depth v → c ≤ r → d ≡ seenAt F lands c v
   seen-kept d q h = rw (le-ltb (lands v) c (omega arith)) (omega arith)
 
   pub lowest-fell : r < c → v ≡ lowestIn F lands c v
@@ -71,18 +71,18 @@ search-ends F v to s h e = go (climb F v to) refl e
         let b : length ms ≡ s .links = cc in
         (omega (arith, climb-inside F v to ms h q), omega (arith, climb-short F v to ms q))
 
-gives-some : (o : Option Searching) (s : Searched) → s ≡ searchedOf o → s .ok ≡ true
-    → o ≡ some (searching (s .node) (s .links))
+gives-some : (o : Option Searching) (x k : ℕ) → Found x k ≡ searchedOf o → o ≡ some (searching x k)
 unfolding searchedOf
-gives-some none s e i = absurd (true-false (sym i ∙ ap (λ (x : Searched). x .ok) e))
-gives-some (some r) s e i =
-    ap₂ (λ (v k : ℕ). some (searching v k)) (sym (ap (λ (x : Searched). x .node) e))
-    (sym (ap (λ (x : Searched). x .links) e))
+gives-some none x k e = let z : _≡_ {A = ℕ} 0 1 = cc in absurd (omega arith)
+gives-some (some r) x k e =
+    let p : r .node ≡ x = cc in
+    let q : r .links ≡ k = cc in
+    ap₂ (λ (v k : ℕ). some (searching v k)) p q
 
-gives-none : (o : Option Searching) (s : Searched) → s ≡ searchedOf o → s .ok ≡ false → o ≡ none
+gives-none : (o : Option Searching) → NotFound ≡ searchedOf o → o ≡ none
 unfolding searchedOf
-gives-none none s e i = refl
-gives-none (some r) s e i = absurd (true-false (sym (ap (λ (x : Searched). x .ok) e) ∙ i))
+gives-none none e = refl
+gives-none (some r) e = let z : _≡_ {A = ℕ} 0 1 = cc in absurd (omega arith)
 
 -- ---- what is answered
 
@@ -123,36 +123,35 @@ module _ (n : ℕ) (table : List ℕ) (c to l : ℕ) where
         ∙ ap (λ (x : ℕ). fellBy F lands c x (climb F x to)) (sym i) ∙ fell-search F lands c v to
 
     module _ (o : v < n) (r : Searched) (q : r ≡ searchedOf (searchOn (cellForest n table) v to)) where
-      pub gives-stuck : r .ok ≡ false → NextDone n table c to l Lost
-      gives-stuck z = nothing (searched o ∙ ap (fellOn lands c) (gives-none (searchOn F v to) r q z))
+      pub gives-stuck : r ≡ NotFound → NextDone n table c to l Lost
+      gives-stuck z = nothing (searched o ∙ ap (fellOn lands c) (gives-none (searchOn F v to) (sym z ∙ q)))
 
-      module _ (z : r .ok ≡ true) where
-        is-some : searchOn F v to ≡ some (searching (r .node) (r .links))
-        is-some = gives-some (searchOn F v to) r q z
+      module _ (node links : ℕ) (z : r ≡ Found node links) where
+        is-some : searchOn F v to ≡ some (searching node links)
+        is-some = gives-some (searchOn F v to) node links (sym z ∙ q)
 
-        pub gives-node : r .node < n
-        gives-node = search-ends F v to (searching (r .node) (r .links)) o is-some .0
+        pub gives-node : node < n
+        gives-node = search-ends F v to (searching node links) o is-some .0
 
-        fell-here : nextFrom F lands c to l ≡ fellAt c lands (r .node) (r .links)
+        fell-here : nextFrom F lands c to l ≡ fellAt c lands node links
         fell-here = searched o ∙ ap (fellOn lands c) is-some
 
-        pub gives-high : (d : ℕ) → d ≡ sizeCell table (r .node) → c ≤ d → NextDone n table c to l Lost
-        gives-high d j k = nothing (fell-here ∙ high (le-ltb (lands (r .node)) c (omega arith)))
+        pub gives-high : (d : ℕ) → d ≡ sizeCell table node → c ≤ d → NextDone n table c to l Lost
+        gives-high d j k = nothing (fell-here ∙ high (le-ltb (lands node) c (omega arith)))
           where
-            high : ltb (lands (r .node)) c ≡ false → fellAt c lands (r .node) (r .links) ≡ lost
+            high : ltb (lands node) c ≡ false → fellAt c lands node links ≡ lost
             high w = unfold fellAt in rw w
 
-        pub gives-fell : (d : ℕ) → d ≡ sizeCell table (r .node) → d < c → depthCell table v ≤ 65535
-            → NextDone n table c to l (Fell (r .node) d (r .links))
+        pub gives-fell : (d : ℕ) → d ≡ sizeCell table node → d < c → depthCell table v ≤ 65535
+            → NextDone n table c to l (Fell node d links)
         unfolding droppingOf fellAt
         gives-fell d j k b =
-            let y : fellAt c lands (r .node) (r .links) ≡ fell (r .node) (lands (r .node)) (r .links) =
-            rw (lt-ltb (lands (r .node)) c (omega arith)) in
+            let y : fellAt c lands node links ≡ fell node (lands node) links = rw (lt-ltb (lands node) c (omega arith)) in
             record {
-              result = ap (λ (x : ℕ). Fell (r .node) x (r .links)) j ∙ ap droppingOf (sym (fell-here ∙ y));
+              result = ap (λ (x : ℕ). Fell node x links) j ∙ ap droppingOf (sym (fell-here ∙ y));
               few = λ x y w u.
-                  let a : r .node ≡ x = cc in
-                  let f : r .links ≡ w = cc in
-                  let g = search-ends F v to (searching (r .node) (r .links)) o is-some in
+                  let a : node ≡ x = cc in
+                  let f : links ≡ w = cc in
+                  let g = search-ends F v to (searching node links) o is-some in
                   (omega (arith, g .0), omega (arith, g .1));
             }

@@ -5,7 +5,6 @@
 --     searches-start, -turn, -rises, -done, -lost
 use Prim.Native.Nat.{ℕ, suc, _+_, _≤_, _<_}
 use mathlib.Core.Path.{_≡_, refl, sym, ap, _∙_}
-use mathlib.Core.Bool.{true, false}
 use mathlib.Core.List.{List}
 use mathlib.Core.Option.{Option, none, some}
 use native.Mathlib.Omega.{arith}
@@ -15,6 +14,7 @@ use Rattle.trees.proofs.MoveLaws.{next-inside, next-rises}
 use Rattle.trees.proofs.ClimbLaws.{climb-done, climb-move, climb-stuck}
 use Rattle.tables.specs.declared.node_tables.moves.NextMove.the-variants.{Jump, Parent, Stuck}
 use Rattle.tables.specs.node_tables.inner.MoveAnswers.{nextMoveOf}
+use Rattle.colour_questions.specs.declared.path_drops.search.Searched.the-variants.{Found, NotFound}
 use Rattle.colour_questions.specs.path_drops.inner.Search.{nextNode, Searching, searching, searchOn, searchedOf}
 
 -- k links before
@@ -115,15 +115,11 @@ module _ (F : Forest) (from to : ℕ) where
   searches-start h = record { inside = h; few = omega arith; rest = sym (after-zero (searchOn F from to)) }
 
   module _ (v links : ℕ) (S : Searches v links) where
-    pub searches-done : F .depth v ≤ to → record {
-      ok = true;
-      node = v;
-      links = links;
-    } ≡ searchedOf (searchOn F from to)
+    pub searches-done : F .depth v ≤ to → Found v links ≡ searchedOf (searchOn F from to)
     unfolding searchedOf
     searches-done h =
         let e : links ≡ links + 0 = omega arith in
-        ap (λ (k : ℕ). record { ok = true; node = v; links = k }) e
+        ap (λ (k : ℕ). Found v k) e
         ∙ ap searchedOf (sym (S .rest ∙ ap (after links) (search-done F v to h)))
 
     module _ (deeper : to < F .depth v) (u : ℕ) (e : u ≡ nextNode F (nextMove F v to)) where
@@ -143,7 +139,7 @@ module _ (F : Forest) (from to : ℕ) where
                 ∙ after-more links (searchOn F u to);
           }
 
-      pub searches-lost : F .nodes ≤ u → record { ok = false; node = 0; links = 0 } ≡ searchedOf (searchOn F from to)
+      pub searches-lost : F .nodes ≤ u → NotFound ≡ searchedOf (searchOn F from to)
       unfolding searchedOf
       searches-lost h =
           ap searchedOf (sym (S .rest ∙ ap (after links) (search-stuck F v to deeper (stuck F v to u e h))))

@@ -1,6 +1,6 @@
 -- The answer of a rule question by colours where the checks before 18 pass, step by step.
 --     Runs, runs-by, all-args   the runs of plan and rules, and the tables without their excess, are handed on
---     roots-lost, roots-answer  the answer for the roots: a part without a result, and the state of the last
+--     roots-lost, roots-few, roots-answer   the answer for the roots: a part without a result, and the state of the last
 --     rooted-room, lent-lost, root-args, lent-answer   the roots: none, and those that were found
 use Prim.Native.Nat.{ℕ, _+_, _-_, _*_, _^_, _≤_, _<_}
 use mathlib.Core.Path.{_≡_, refl, sym, ap, ap₂, _∙_, subst}
@@ -29,6 +29,8 @@ use Rattle.questions.specs.Promises.{RootsAre, RootsDone}
 use Rattle.questions.proofs.PlaceLaws.{to-below, to-some, below-entry}
 use Rattle.colours.specs.StateSets.{Tried, tried}
 use Rattle.colour_questions.specs.declared.target_states.trials.Trial.{Trial}
+use Rattle.colour_questions.specs.declared.target_states.trials.Trial.the-variants.{State, NoState}
+use Rattle.colour_questions.specs.target_states.Trials.{Few, FewIn}
 use Rattle.colour_questions.specs.parts.Part.{ColourView, handledFrom}
 use Rattle.colour_questions.specs.parts.inner.Args.{colourView}
 use Rattle.colour_questions.proofs.parts.TrialLaws.{trial-none, Is, trial-some}
@@ -130,38 +132,36 @@ module _ (n s k : ℕ) (p r nodeTable stateTable numbers bytes vs bs ms : List �
       (sym (rest-part bytes (n * (s + 1)))))
 
   module _ (t : Trial) (D : AllDone given vs bs ms t) where
-    pub roots-lost : t .ok ≡ false → Refused 18 ≡ answeredFor n s k p r nodeTable stateTable numbers bytes vs bs ms
+    pub roots-lost : t ≡ NoState → Refused 18 ≡ answeredFor n s k p r nodeTable stateTable numbers bytes vs bs ms
     unfolding ruleAnswer
     roots-lost f =
         let e : handledFrom (lentAs n s k p r nodeTable stateTable numbers bytes) vs bs [] [] (tried 0 []) ms ≡ none =
-        sym given-is ∙ trial-none _ t (D .result) f in
+        sym given-is ∙ trial-none _ (sym f ∙ D .result) in
         ap (λ (o : Option Tried). ruleAnswer r 0 (andThen o (λ x. some (handled x (length ms))))) (sym e)
 
-    module _ (f : t .ok ≡ true) where
-      pub mark-place : t .state < s
-      mark-place = D .below f (A .some-root)
+    module _ (q d l : ℕ) (f : t ≡ State q d l) where
+      pub roots-few : Few s (length ms * 60) q d l
+      roots-few = subst (FewIn s (length ms * 60)) f (D .bounds (A .some-root))
 
-      marked : eqb (getD r (20 + k + s * k * s + t .state) 0) 1 ≡ ruleAutomaton r .accepting (t .state)
+      marked : eqb (getD r (20 + k + s * k * s + q) 0) 1 ≡ ruleAutomaton r .accepting q
       marked =
           ap (λ (x : ℕ). eqb x 1)
-          (sym (ap₂ (λ (i j : ℕ). getD (take i (drop (20 + j + i * j * i) r)) (t .state) 0) (sym (A .s-is)) (sym (A
-          .k-is))
-          ∙ getD-take s (drop (20 + k + s * k * s) r) (t .state) 0 mark-place
-          ∙ getD-drop (20 + k + s * k * s) r (t .state) 0))
+          (sym (ap₂ (λ (i j : ℕ). getD (take i (drop (20 + j + i * j * i) r)) q 0) (sym (A .s-is)) (sym (A .k-is))
+          ∙ getD-take s (drop (20 + k + s * k * s) r) q 0 (roots-few .state)
+          ∙ getD-drop (20 + k + s * k * s) r q 0))
 
-      pub roots-answer : Answered (t .state) (eqb (getD r (20 + k + s * k * s + t .state) 0) 1) (t .drops) (t .links)
-          (length ms)
+      pub roots-answer : Answered q (eqb (getD r (20 + k + s * k * s + q) 0) 1) d l (length ms)
           ≡ answeredFor n s k p r nodeTable stateTable numbers bytes vs bs ms
       unfolding ruleAnswer
       roots-answer =
-          let I : Is (handledFrom given vs bs [] [] (tried 0 []) ms) t = trial-some _ t (D .result) f in
+          let I : Is (handledFrom given vs bs [] [] (tried 0 []) ms) q d l = trial-some _ q d l (sym f ∙ D .result) in
           let e : handledFrom (lentAs n s k p r nodeTable stateTable numbers bytes) vs bs [] [] (tried 0 []) ms
           ≡ some (I .found) =
           sym given-is ∙ I .is in
-          ap (λ (b : Bool). Answered (t .state) b (t .drops) (t .links) (length ms)) marked
-          ∙ ap (λ (q : ℕ). Answered q (ruleAutomaton r .accepting q) (t .drops) (t .links) (length ms)) (I .state)
+          ap (λ (b : Bool). Answered q b d l (length ms)) marked
+          ∙ ap (λ (x : ℕ). Answered x (ruleAutomaton r .accepting x) d l (length ms)) (I .state)
           ∙ ap₂ (λ (d l : ℕ). Answered (I .found .state) (ruleAutomaton r .accepting (I .found .state)) d l (length ms))
-          (I .drops) (I .links)
+          (I .number) (I .total)
           ∙ ap (λ (o : Option Tried). ruleAnswer r 0 (andThen o (λ x. some (handled x (length ms))))) (sym e)
 
 -- ---- the roots that were found
@@ -192,8 +192,8 @@ module _ (q : Rooted) where
     );
   }
 
-roots-few : (n m : ℕ) (l : List ℕ) → m ≤ 64 → RootsAre n m l → length l ≤ 254
-roots-few n m l h R = elim (ℕ-discrete m 0) [
+most-roots : (n m : ℕ) (l : List ℕ) → m ≤ 64 → RootsAre n m l → length l ≤ 254
+most-roots n m l h R = elim (ℕ-discrete m 0) [
   | yes e ↦ omega (arith, R .one e)
   | no e ↦ omega (arith, R .few (omega arith))
 ]
@@ -262,7 +262,7 @@ module _ (p r nodeTable stateTable numbers bytes vs bs : List ℕ) (A : LentArgs
             numbers-room = rw (n-is, s-is) (P .numbers-room);
             bytes-room = rw (n-is, s-is) (P .bytes-room);
             some-root = to-some (n - 1) (found .list) (are .to);
-            few = roots-few n (length left) (found .list) (given-most (take n (drop 12 p)) vs bs (P .few-list)) are;
+            few = most-roots n (length left) (found .list) (given-most (take n (drop 12 p)) vs bs (P .few-list)) are;
             nodes = λ i h. omega (
               arith,
               below-entry (n - 1 + 1) (found .list) (to-below (n - 1) (found .list) (are

@@ -1,20 +1,19 @@
 -- All parts, one at a time: the rest still to do gives what all of them give.
 --     going-start, part-args, going-lost, going-next, going-done
 use Prim.Native.Nat.{ℕ, _+_, _-_, _*_, _≤_, _<_}
-use mathlib.Core.Path.{_≡_, refl, sym, ap, ap₂, _∙_}
-use mathlib.Core.Bool.{true, false}
+use mathlib.Core.Path.{_≡_, refl, sym, ap, ap₂, _∙_, subst}
 use mathlib.Core.List.{List, [], _∷_, _++_}
 use mathlib.Core.Option.{Option, none, some}
 use native.Mathlib.Omega.{arith}
 use native.Mathlib.Numerals.{add-one}
 use lib.ListN.{length, getD, take, drop, set, replicate, drop-of-length-le, length-append, length-set}
 use lib.Seq.{length-take-le, take-suc, take-suc-set, drop-cons}
-use Rattle.list_laws.proofs.BoolLaws.{true-false}
 use Rattle.trees.specs.Climb.{andThen}
 use Rattle.colours.specs.Descents.{sum}
 use Rattle.colours.specs.StateSets.{Tried, tried}
 use Rattle.colour_questions.specs.declared.target_states.trials.Trial.{Trial}
-use Rattle.colour_questions.specs.target_states.Trials.{trialOf}
+use Rattle.colour_questions.specs.declared.target_states.trials.Trial.the-variants.{State, NoState}
+use Rattle.colour_questions.specs.target_states.Trials.{trialOf, Few, FewIn}
 use Rattle.colour_questions.proofs.target_states.TrialLoop.{sum-append}
 use Rattle.colour_questions.specs.parts.Part.{ColourView, partTried, handledFrom}
 use Rattle.colour_questions.specs.parts.inner.Args.{colourView, PartArgs, PartDone}
@@ -58,18 +57,19 @@ module _ (n s k m : ℕ) (ls ks lv inn nodeTable stateTable numbers copies vs bs
 
   module _ (states : List ℕ) (last drops links i : ℕ) (G : Going states last drops links i) where
     pub going-done : length ms ≤ i
-        → AllDone (colourView n s k ls ks lv inn nodeTable stateTable numbers copies) vs bs ms
-        (record { ok = true; state = last; drops = drops; links = links })
+        → AllDone (colourView n s k ls ks lv inn nodeTable stateTable numbers copies) vs bs ms (State last drops links)
     unfolding handledFrom trialOf
     going-done h =
         let e : drop i ms ≡ [] = drop-of-length-le ms {i = i} h in
         record {
           result = sym (ap trialOf (G .rest
               ∙ ap (handledFrom L vs bs (take i ms) (take i states) (tried last (G .searches))) e)
-              ∙ ap₂ (λ (a b : ℕ). record { ok = true; state = last; drops = a; links = b }) (G .number) (G .total));
-          below = λ _ z. G .low (omega arith);
-          falls = omega (arith, G .falls, G .upto);
-          links = G .few;
+              ∙ ap₂ (λ (a b : ℕ). State last a b) (G .number) (G .total));
+          bounds = λ z. record {
+            state = G .low (omega arith);
+            falls = omega (arith, G .falls, G .upto);
+            few = G .few;
+          };
         }
 
     module _ (h : i < length ms) where
@@ -111,43 +111,41 @@ module _ (n s k m : ℕ) (ls ks lv inn nodeTable stateTable numbers copies vs bs
             handledFrom L vs bs (take i ms ++ (v ∷ [])) (take i states ++ (p .state ∷ []))
             (tried (p .state) (G .searches ++ p .searches)) (drop (i + 1) ms))) e
 
-        pub going-lost : (r : Trial) → t .ok ≡ false → r ≡ trialOf none
-            → AllDone (colourView n s k ls ks lv inn nodeTable stateTable numbers copies) vs bs ms r
+        pub going-lost : t ≡ NoState
+            → AllDone (colourView n s k ls ks lv inn nodeTable stateTable numbers copies) vs bs ms NoState
         unfolding trialOf
-        going-lost r f e =
-            let d : r .drops ≡ 0 = ap (λ (y : Trial). y .drops) e in
-            let l : r .links ≡ 0 = ap (λ (y : Trial). y .links) e in
-            record {
-              result = e ∙ ap trialOf (sym (turn none (trial-none _ t (D .result) f)));
-              below = λ q. absurd (true-false (sym q ∙ ap (λ (y : Trial). y .ok) e));
-              falls = omega arith;
-              links = omega arith;
-            }
+        going-lost f = record {
+          result = ap trialOf (sym (turn none (trial-none _ (sym f ∙ D .result))));
+          bounds = λ _. tt;
+        }
 
-        module _ (f : t .ok ≡ true) where
-          I : Is (partTried L (take i ms) (take i states) vs bs v) t
-          I = trial-some _ t (D .result) f
+        module _ (q d l : ℕ) (f : t ≡ State q d l) where
+          I : Is (partTried L (take i ms) (take i states) vs bs v) q d l
+          I = trial-some _ q d l (sym f ∙ D .result)
 
-          pub next-falls : drops + t .drops ≤ (i + 1) * 60
-          next-falls = omega (arith, G .falls, D .bounds .falls)
+          B : Few s 60 q d l
+          B = subst (FewIn s 60) f (D .bounds)
 
-          pub next-few : links + t .links ≤ (drops + t .drops) * 65535
-          next-few = omega (arith, G .few, D .bounds .few)
+          pub next-falls : drops + d ≤ (i + 1) * 60
+          next-falls = omega (arith, G .falls, B .falls)
 
-          pub going-next : Going (set states i (t .state)) (t .state) (drops + t .drops) (links + t .links) (i + 1)
+          pub next-few : links + l ≤ (drops + d) * 65535
+          next-few = omega (arith, G .few, B .few)
+
+          pub going-next : Going (set states i q) q (drops + d) (links + l) (i + 1)
           going-next = record {
             args = G .args;
             upto = omega arith;
-            long = length-set states i (t .state) ∙ G .long;
+            long = length-set states i q ∙ G .long;
             searches = G .searches ++ I .found .searches;
             number = length-append (G .searches) (I .found .searches)
-                ∙ ap₂ (λ (a b : ℕ). a + b) (G .number) (sym (I .drops));
+                ∙ ap₂ (λ (a b : ℕ). a + b) (G .number) (sym (I .number));
             total = sum-append (G .searches) (I .found .searches)
-                ∙ ap₂ (λ (a b : ℕ). a + b) (G .total) (sym (I .links));
-            low = λ _. D .bounds .state f;
+                ∙ ap₂ (λ (a b : ℕ). a + b) (G .total) (sym (I .total));
+            low = λ _. B .state;
             falls = next-falls;
             few = next-few;
-            rest = turn (some (I .found)) (I .is) ∙ sym (same (t .state) (I .found .state) (I .state));
+            rest = turn (some (I .found)) (I .is) ∙ sym (same q (I .found .state) (I .state));
           }
             where
               more : take (i + 1) ms ≡ take i ms ++ (getD ms i 0 ∷ [])

@@ -12,7 +12,6 @@ use native.Mathlib.Numerals.{add-one}
 use lib.Dec.{eqb}
 use lib.ListN.{length, getD, take, drop, length-append}
 use lib.Seq.{getD-take, getD-drop}
-use Rattle.list_laws.proofs.BoolLaws.{true-false}
 use Rattle.list_laws.proofs.RowLaws.{stride}
 use Rattle.list_laws.proofs.SliceLaws.{run-part, length-part}
 use Rattle.colours.specs.marks.Marks.{bit}
@@ -24,10 +23,12 @@ use Rattle.colours.proofs.SetLaws.{try-uncoloured, try-lost, try-found, try-on}
 use Rattle.colour_tables.specs.ColourCells.{copyRow, cellTable}
 use Rattle.colour_tables.proofs.RangeLaws.{descend-low}
 use Rattle.colour_questions.specs.declared.path_drops.descend.Descended.{Descended}
+use Rattle.colour_questions.specs.declared.path_drops.descend.Descended.the-variants.{Reached, NotReached}
 use Rattle.colour_questions.specs.path_drops.Descended.{descendedOf}
 use Rattle.colour_questions.proofs.path_drops.DescendedLaws.{descended-none, descended-some}
-use Rattle.colour_questions.specs.declared.target_states.trials.Trial.{Trial}
+use Rattle.colour_questions.specs.declared.target_states.trials.Trial.the-variants.{State, NoState}
 use Rattle.colour_questions.specs.declared.target_states.trials.Tested.{Tested}
+use Rattle.colour_questions.specs.declared.target_states.trials.Tested.the-variants.{Ended, NotEnded}
 use Rattle.colour_questions.specs.target_states.Trials.{trialOf, TargetArgs, Outcome, TestDone, TargetsDone}
 use Rattle.colour_questions.proofs.target_states.DescentBounds.{Short, descend-few}
 
@@ -38,9 +39,6 @@ taken-most [] (suc i) j b h = omega arith
 taken-most (x ∷ l) zero j b h = omega arith
 taken-most (x ∷ l) (suc i) zero b h = h 0
 taken-most (x ∷ l) (suc i) (suc j) b h = taken-most l i j b (λ k. h (suc k))
-
-abbrev pub noTest : Tested
-noTest = record { ok = false; holds = false; drops = 0; links = 0 }
 
 is-one : (b : Bool) → eqb (bit b) 1 ≡ b
 is-one true = refl
@@ -61,24 +59,14 @@ module _ (n m : ℕ) (numbers copies : List ℕ) (c w q x : ℕ) (A : TargetArgs
   row-long : (v : ℕ) → v < n → length (copyRow m copies v) ≡ m
   row-long v h = length-part copies (v * m) m (row-in v h)
 
-  -- a test that has no end
-  none-tested : ((later : Option Tried) → tryOne (cellTable n numbers) (copyRow m copies) c w q x later ≡ none)
-      → TestDone (cellTable n numbers) (copyRow m copies) c w q x noTest
-  none-tested f = record { lost = λ e later. f later; found = λ e. absurd (true-false (sym e)) }
-
   module _ (k one : ℕ) (single : one ≡ 2 ^ x) (place : k ≡ placeOf one (take (c * m + m - c * m) (drop (c * m)
       copies))) where
     colour-is : k ≡ targetColour (copyRow m copies) c x
     colour-is = place ∙ ap₂ placeOf single (run-part copies (c * m) m)
 
-    pub test-uncoloured : m ≤ k → TestDone (cellTable n numbers) (copyRow m copies) c w q x noTest
-    test-uncoloured h =
-        none-tested (λ later. try-uncoloured T rows c w q x later (omega (
-          arith,
-          colour-is,
-          row-long c (A .all
-              .upper),
-        )))
+    pub test-uncoloured : m ≤ k → TestDone (cellTable n numbers) (copyRow m copies) c w q x NotEnded
+    test-uncoloured h later =
+        try-uncoloured T rows c w q x later (omega (arith, colour-is, row-long c (A .all .upper)))
 
     module _ (h : k < m) (d : Descended) (D : d ≡ descendedOf (descend (cellTable n numbers) k (some c) w k)) where
       low : targetColour (copyRow m copies) c x < length (copyRow m copies c)
@@ -89,43 +77,39 @@ module _ (n m : ℕ) (numbers copies : List ℕ) (c w q x : ℕ) (A : TargetArgs
           copies) c x) ≡ o
       way-is o e = subst (λ (y : ℕ). descend T y (some c) w y ≡ o) colour-is e
 
-      pub test-lost : d .ok ≡ false → TestDone (cellTable n numbers) (copyRow m copies) c w q x noTest
-      test-lost f =
-          none-tested (λ later. try-lost T rows c w q x later low
-          (way-is none (descended-none (descend T k (some c) w k) d D f)))
+      pub test-lost : d ≡ NotReached → TestDone (cellTable n numbers) (copyRow m copies) c w q x NotEnded
+      test-lost f later =
+          try-lost T rows c w q x later low (way-is none (descended-none (descend T k (some c) w k) (sym f ∙ D)))
 
-      pub end-low : d .ok ≡ true → d .colour < m
-      end-low f =
-          let y = descended-some (descend T k (some c) w k) d D f in
+      pub end-low : (colour drops links : ℕ) → d ≡ Reached colour drops links → colour < m
+      end-low colour drops links f =
+          let y = descended-some (descend T k (some c) w k) colour drops links (sym f ∙ D) in
           omega (arith, y .2, descend-low T w k (some c) k (y .0) (y .1))
 
-      module _ (f : d .ok ≡ true) (wide : (i : ℕ) → getD numbers i 0 ≤ 65535) (b : ℕ)
-          (member-is : b ≡ bit (member (getD copies (w * m + d .colour) 0) q)) where
+      module _ (colour drops links : ℕ) (f : d ≡ Reached colour drops links)
+          (wide : (i : ℕ) → getD numbers i 0 ≤ 65535) (b : ℕ)
+          (member-is : b ≡ bit (member (getD copies (w * m + colour) 0) q)) where
         deep : (e v : ℕ) → cellTable n numbers .forest e .depth v ≤ 65535
         deep e v =
             taken-most (drop (e * (n * 4)) numbers) (n * 4) (v * 4 + 2) 65535
             (λ i. subst (λ (y : ℕ). y ≤ 65535) (sym (getD-drop (e * (n * 4)) numbers i 0)) (wide (e * (n * 4) + i)))
 
-        pub test-end : TestDone (cellTable n numbers) (copyRow m copies) c w q x
-            (record { ok = true; holds = eqb b 1; drops = d .drops; links = d .links })
+        pub test-end : TestDone (cellTable n numbers) (copyRow m copies) c w q x (Ended (eqb b 1) drops links)
         test-end =
-            let y = descended-some (descend T k (some c) w k) d D f in
+            let y = descended-some (descend T k (some c) w k) colour drops links (sym f ∙ D) in
             let S : Short 65535 k (y .0) = descend-few T 65535 w deep k (some c) k (y .0) (y .1) in
             let g = way-is (some (y .0)) (y .1) in
-            let set : getD copies (w * m + d .colour) 0 ≡ setAt (copyRow m copies) w (y .0) =
-            set-is (d .colour) (y .0 .colour) (y .2) (omega (arith, end-low f)) in
+            let set : getD copies (w * m + colour) 0 ≡ setAt (copyRow m copies) w (y .0) =
+            set-is colour (y .0 .colour) (y .2) (omega (arith, end-low colour drops links f)) in
             let t : eqb b 1 ≡ member (setAt (copyRow m copies) w (y .0)) q =
             ap (λ (z : ℕ). eqb z 1) (member-is ∙ ap (λ (z : ℕ). bit (member z q)) set) ∙ is-one _ in
             record {
-              lost = λ e. absurd (true-false e);
-              found = λ e. record {
-                searches = y .0 .searches;
-                number = sym (y .3);
-                total = sym (y .4);
-                falls = omega (arith, y .3, S .falls, A .all .few);
-                few = omega (arith, y .3, y .4, sum-le 65535 (y .0 .searches) (S .few));
-                is = λ later. by-test later (y .0) g (eqb b 1) t;
-              };
+              searches = y .0 .searches;
+              number = sym (y .3);
+              total = sym (y .4);
+              falls = omega (arith, y .3, S .falls, A .all .few);
+              few = omega (arith, y .3, y .4, sum-le 65535 (y .0 .searches) (S .few));
+              is = λ later. by-test later (y .0) g (eqb b 1) t;
             }
           where
             set-is : (i j : ℕ) → i ≡ j → i < m → getD copies (w * m + i) 0 ≡ getD (copyRow m copies w) j 0
@@ -156,9 +140,6 @@ pub sum-append : (xs ys : List ℕ) → sum (xs ++ ys) ≡ sum xs + sum ys
 sum-append [] ys = omega arith
 sum-append (x ∷ xs) ys = omega (arith, sum-append xs ys)
 
-abbrev pub noTrial : Trial
-noTrial = record { ok = false; state = 0; drops = 0; links = 0 }
-
 module _ (s : ℕ) (T : ColourTable) (rows : ℕ → List ℕ) (c w q : ℕ) where
   pub record Trying (drops links x : ℕ) : Type 0 where
     pub searches : List ℕ
@@ -181,17 +162,12 @@ module _ (s : ℕ) (T : ColourTable) (rows : ℕ → List ℕ) (c w q : ℕ) whe
         ∙ ap (λ (f : ℕ). afterTrial [] (tryFrom T rows c w q f 0)) (let e : s ≡ s - 0 = omega arith in e);
   }
 
-  nothing : tryFrom T rows c w q s 0 ≡ none → TargetsDone s T rows c w q noTrial
+  nothing : tryFrom T rows c w q s 0 ≡ none → TargetsDone s T rows c w q NoState
   unfolding trialOf
-  nothing e = record {
-    result = ap trialOf (sym e);
-    below = λ f. absurd (true-false (sym f));
-    falls = omega arith;
-    few = omega arith;
-  }
+  nothing e = record { result = ap trialOf (sym e); bounds = tt }
 
   module _ (drops links x : ℕ) (G : Trying drops links x) where
-    pub trying-end : s ≤ x → TargetsDone s T rows c w q noTrial
+    pub trying-end : s ≤ x → TargetsDone s T rows c w q NoState
     unfolding tryFrom
     trying-end h =
         let e : s - x ≡ 0 = omega arith in
@@ -210,50 +186,40 @@ module _ (s : ℕ) (T : ColourTable) (rows : ℕ → List ℕ) (c w q : ℕ) whe
           ∙ ap (λ (y : ℕ). afterTrial (G .searches) (tryOne T rows c w q x (tryFrom T rows c w q (s - (x + 1)) y)))
           (sym (add-one x))
 
-      pub trying-lost : t .ok ≡ false → TargetsDone s T rows c w q noTrial
-      trying-lost f = nothing (turn ∙ ap (afterTrial (G .searches)) (D .lost f later))
+      pub trying-lost : t ≡ NotEnded → TargetsDone s T rows c w q NoState
+      trying-lost f = nothing (turn ∙ ap (afterTrial (G .searches)) (subst (TestDone T rows c w q x) f D later))
 
-      module _ (f : t .ok ≡ true) where
-        O : Outcome T rows c w q x t
-        O = D .found f
+      module _ (holds : Bool) (more found : ℕ) (f : t ≡ Ended holds more found) where
+        O : Outcome T rows c w q x holds more found
+        O = subst (TestDone T rows c w q x) f D
 
-        pub trying-falls : drops + t .drops ≤ (x + 1) * 15
+        pub trying-falls : drops + more ≤ (x + 1) * 15
         trying-falls = omega (arith, G .falls, O .falls)
 
-        pub trying-few : links + t .links ≤ (drops + t .drops) * 65535
+        pub trying-few : links + found ≤ (drops + more) * 65535
         trying-few = omega (arith, G .few, O .few)
 
-        number : length (G .searches ++ O .searches) ≡ drops + t .drops
+        number : length (G .searches ++ O .searches) ≡ drops + more
         number = length-append (G .searches) (O .searches) ∙ ap₂ (λ (a b : ℕ). a + b) (G .number) (O .number)
 
-        total : sum (G .searches ++ O .searches) ≡ links + t .links
+        total : sum (G .searches ++ O .searches) ≡ links + found
         total = sum-append (G .searches) (O .searches) ∙ ap₂ (λ (a b : ℕ). a + b) (G .total) (O .total)
 
-        after : (b : Bool) → t .holds ≡ b
+        after : (b : Bool) → holds ≡ b
             → tryFrom T rows c w q s 0
             ≡ afterTrial (G .searches) (cond b (some (tried x (O .searches))) (afterTrial (O .searches) later))
         after b e =
             turn ∙ ap (afterTrial (G .searches)) (O .is later
             ∙ ap (λ (z : Bool). cond z (some (tried x (O .searches))) (afterTrial (O .searches) later)) e)
 
-        pub trying-found : t .holds ≡ true
-            → TargetsDone s T rows c w q (record {
-              ok = true;
-              state = x;
-              drops = drops + t .drops;
-              links = links + t
-                  .links;
-            })
+        pub trying-found : holds ≡ true → TargetsDone s T rows c w q (State x (drops + more) (links + found))
         unfolding trialOf
         trying-found e = record {
-          result = sym (ap trialOf (after true e)
-              ∙ ap₂ (λ (a b : ℕ). record { ok = true; state = x; drops = a; links = b }) number total);
-          below = λ z. h;
-          falls = omega (arith, trying-falls);
-          few = trying-few;
+          result = sym (ap trialOf (after true e) ∙ ap₂ (λ (a b : ℕ). State x a b) number total);
+          bounds = record { state = h; falls = omega (arith, trying-falls); few = trying-few };
         }
 
-        pub trying-on : t .holds ≡ false → Trying (drops + t .drops) (links + t .links) (x + 1)
+        pub trying-on : holds ≡ false → Trying (drops + more) (links + found) (x + 1)
         trying-on e = record {
           searches = G .searches ++ O .searches;
           number = number;

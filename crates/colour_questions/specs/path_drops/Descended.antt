@@ -3,7 +3,7 @@
 -- startPlace top z == where it begins: the copy of node z, or the top copy
 -- DescendArgs n c nums z l == n nodes within the limit, z and l among them, colour c among 16, and room for the tables
 --   up to colour c's
--- descendedOf o == the answer for a descent o; not ok where there is none
+-- descendedOf o == the answer for a descent o
 use Prim.Native.Nat.{ℕ, _+_, _*_, _≤_, _<_}
 use mathlib.Core.Bool.{Bool, true, false}
 use mathlib.Core.List.{List}
@@ -11,6 +11,7 @@ use mathlib.Core.Option.{Option, none, some}
 use lib.ListN.{length}
 use Rattle.colours.specs.Descents.{Place, Descent, drops, links}
 use Rattle.colour_questions.specs.declared.path_drops.descend.Descended.{Descended}
+use Rattle.colour_questions.specs.declared.path_drops.descend.Descended.the-variants.{Reached, NotReached}
 
 abbrev pub startPlace : Bool → ℕ → Place
 startPlace true z = none
@@ -24,5 +25,5 @@ pub record DescendArgs (n c : ℕ) (nums : List ℕ) (z l : ℕ) : Type 0 where
   pub lower : l < n
 
 unfoldable pub descendedOf : Option Descent → Descended
-descendedOf none = record { ok = false; colour = 0; drops = 0; links = 0 }
-descendedOf (some d) = record { ok = true; colour = d .colour; drops = drops d; links = links d }
+descendedOf none = NotReached
+descendedOf (some d) = Reached (d .colour) (drops d) (links d)

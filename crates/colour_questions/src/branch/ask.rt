@@ -5,6 +5,7 @@ use crate::branch::steps::descend_to;
 use crate::branch::steps::finish;
 use crate::branch::steps::start_colour;
 use crate::branch::steps::start_place;
+use crate::path_drops::descend::Descended;
 use branches::answers::Reading;
 use colour_tables::branch::build::colours_fit;
 use formats::buffers::headers_fit;
@@ -75,19 +76,18 @@ fn answer_colours(
     if s <= c {
         return Descending::Refused(18);
     }
-    let d = descend_to(numbers, n, z, l, c);
-    if !d.ok {
-        return Descending::Refused(18);
+    match descend_to(numbers, n, z, l, c) {
+        Descended::NotReached => Descending::Refused(18),
+        Descended::Reached(colour, drops, links) => finish(
+            bytes,
+            &branch[BRANCH_HEAD + s * k..],
+            s,
+            l,
+            colour,
+            drops,
+            links,
+        ),
     }
-    finish(
-        bytes,
-        &branch[BRANCH_HEAD + s * k..],
-        s,
-        l,
-        d.colour,
-        d.drops,
-        d.links,
-    )
 }
 
 // A branch question by colours in either reading. It takes N, S and K from the headers passed in and makes the checks

@@ -8,7 +8,6 @@ use tables::lookups::rule_on;
 use tables::lookups::run_on;
 use tables::node_tables::moves::size_at;
 ghost use mathlib.Core.Path.{_≡_};
-ghost use mathlib.Core.Option.{none};
 ghost use Prim.Native.Nat.{_≤_};
 ghost use Rattle.tables.specs.Climbs.{below};
 ghost use Rattle.questions.specs.inner.Scans.{foundOf};
@@ -17,32 +16,15 @@ ghost use Rattle.colour_questions.specs.parts.Part.{sidesOf, untried, si
 ghost use Rattle.colour_questions.specs.parts.inner.Args.{colourView, SideArgs, ForkArgs, LeafArgs, PartArgs, SideDone};
 ghost use Rattle.colour_questions.specs.parts.inner.Args.{PartDone};
 
-// No state.
-pub fn lost() -> Trial
-    ensures { λ r. ⌜ r ≡ trialOf none ⌝ }
-{
-    Trial {
-        ok: false,
-        state: 0,
-        drops: 0,
-        links: 0,
-    }
-}
-
 // A number read as a state, found without a trial.
 fn untried_state(q: usize, s: usize) -> Trial
     requires { ⌜ s ≤ 4 ⌝ }
     ensures { λ r. ⌜ r ≡ trialOf (untried (below s q)) ⌝ }
 {
     if s <= q {
-        return lost();
+        return Trial::NoState;
     }
-    Trial {
-        ok: true,
-        state: q as u8,
-        drops: 0,
-        links: 0,
-    }
+    Trial::State(q as u8, 0, 0)
 }
 
 // The state at child c, where `own` is the place of the last earlier root below c and `other` that of the last below
@@ -73,7 +55,7 @@ fn side_by_colours(
         return untried_state(q as usize, s);
     }
     if s <= q as usize {
-        return lost();
+        return Trial::NoState;
     }
     try_targets(numbers, copies, n, s, m, c, earlier[own - 1] as usize, q)
 }
@@ -105,7 +87,7 @@ fn fork_by_colours(
     let r = v - 1;
     let i = last_below(node_table, earlier, l);
     let j = last_below(node_table, earlier, r);
-    let x = side_by_colours(
+    let left = side_by_colours(
         state_table,
         numbers,
         copies,
@@ -118,34 +100,33 @@ fn fork_by_colours(
         i,
         j,
     );
-    if !x.ok {
-        return lost();
-    }
-    let y = side_by_colours(
-        state_table,
-        numbers,
-        copies,
-        n,
-        s,
-        m,
-        earlier,
-        states,
-        r,
-        j,
-        i,
-    );
-    if !y.ok {
-        return lost();
-    }
-    let q = rule_on(inner, s, k, x.state as usize, a, y.state as usize);
-    if s <= q {
-        return lost();
-    }
-    Trial {
-        ok: true,
-        state: q as u8,
-        drops: x.drops + y.drops,
-        links: x.links + y.links,
+    match left {
+        Trial::NoState => Trial::NoState,
+        Trial::State(x, b, c) => {
+            let right = side_by_colours(
+                state_table,
+                numbers,
+                copies,
+                n,
+                s,
+                m,
+                earlier,
+                states,
+                r,
+                j,
+                i,
+            );
+            match right {
+                Trial::NoState => Trial::NoState,
+                Trial::State(y, d, e) => {
+                    let q = rule_on(inner, s, k, x as usize, a, y as usize);
+                    if s <= q {
+                        return Trial::NoState;
+                    }
+                    Trial::State(q as u8, b + d, c + e)
+                }
+            }
+        }
     }
 }
 
@@ -155,7 +136,7 @@ fn leaf_state(leaves: &[u8], s: usize, k: usize, a: usize) -> Trial
     ensures { λ r. ⌜ r ≡ trialOf (leafTried s k (now (leaves .entry)) a) ⌝ }
 {
     if k <= a {
-        return lost();
+        return Trial::NoState;
     }
     untried_state(leaves[a] as usize, s)
 }
@@ -197,11 +178,11 @@ pub fn part_by_colours(
         return leaf_state(leaves, s, k, a);
     }
     if v == 0 {
-        return lost();
+        return Trial::NoState;
     }
     let z = size_at(node_table, v - 1);
     if v - 1 < z {
-        return lost();
+        return Trial::NoState;
     }
     fork_by_colours(
         inner,

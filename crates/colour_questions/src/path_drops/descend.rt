@@ -11,11 +11,9 @@ ghost use Rattle.colour_questions.specs.path_drops.Descended.{startPlace
 ghost use Rattle.colour_questions.specs.path_drops.inner.Drops.{DropDone};
 
 // The colour at the end, the drops and the links of all searches; or that a value read leads outside.
-pub struct Descended {
-    pub ok: bool,
-    pub colour: usize,
-    pub drops: u32,
-    pub links: u32,
+pub enum Descended {
+    Reached(usize, u32, u32),
+    NotReached,
 }
 
 // The next drop of colour c from the copy of node z, or from the top copy, down to node l.
@@ -46,20 +44,10 @@ pub fn descend_from(nums: &[u16], n: usize, top: bool, z: usize, l: usize, c: us
     while 0 < colour {
         match drop_in(nums, n, colour, above, at, l) {
             Dropping::Done => {
-                return Descended {
-                    ok: true,
-                    colour,
-                    drops,
-                    links,
-                };
+                return Descended::Reached(colour, drops, links);
             }
             Dropping::Lost => {
-                return Descended {
-                    ok: false,
-                    colour: 0,
-                    drops: 0,
-                    links: 0,
-                };
+                return Descended::NotReached;
             }
             Dropping::Fell(x, d, k) => {
                 colour = d;
@@ -70,10 +58,5 @@ pub fn descend_from(nums: &[u16], n: usize, top: bool, z: usize, l: usize, c: us
             }
         }
     }
-    Descended {
-        ok: true,
-        colour,
-        drops,
-        links,
-    }
+    Descended::Reached(colour, drops, links)
 }

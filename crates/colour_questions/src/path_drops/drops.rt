@@ -1,5 +1,6 @@
 // The next drop of one colour, by its table: four numbers for each node, the parent, jump and depth among the nodes
 // where the colour falls, and the colour that it lands on at the node.
+use crate::path_drops::search::Searched;
 use crate::path_drops::search::search;
 use tables::node_tables::moves::depth_at;
 use tables::node_tables::moves::parent_at;
@@ -28,7 +29,7 @@ pub fn seen_at(table: &[u16], n: usize, c: usize, v: usize) -> usize
     if size_at(table, v) < c {
         return 1 + d;
     }
-    0 + d
+    d
 }
 
 // The lowest of them at node v or above.
@@ -54,14 +55,14 @@ pub fn next_drop(table: &[u16], n: usize, c: usize, to: usize, l: usize) -> Drop
     if n <= v {
         return Dropping::Lost;
     }
-    let s = search(table, n, v, to);
-    if !s.ok {
-        return Dropping::Lost;
+    match search(table, n, v, to) {
+        Searched::NotFound => Dropping::Lost,
+        Searched::Found(x, links) => {
+            let d = size_at(table, x);
+            if c <= d {
+                return Dropping::Lost;
+            }
+            Dropping::Fell(x, d, links)
+        }
     }
-    let x = s.node;
-    let d = size_at(table, x);
-    if c <= d {
-        return Dropping::Lost;
-    }
-    Dropping::Fell(x, d, s.links)
 }

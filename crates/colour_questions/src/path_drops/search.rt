@@ -9,10 +9,9 @@ ghost use Rattle.tables.specs.node_tables.inner.MoveAnswers.{MoveArgs};
 ghost use Rattle.colour_questions.specs.path_drops.inner.Search.{nextNode, searchOn, searchedOf};
 
 // Where a search ends, and its links; or that it would leave the nodes or not rise.
-pub struct Searched {
-    pub ok: bool,
-    pub node: usize,
-    pub links: u32,
+pub enum Searched {
+    Found(usize, u32),
+    NotFound,
 }
 
 // The node that the next move from node v to depth `to` leads to; n where there is none.
@@ -38,18 +37,10 @@ pub fn search(nums: &[u16], n: usize, from: usize, to: usize) -> Searched
     while to < depth_at(nums, v) {
         let u = move_on(nums, n, v, to);
         if n <= u {
-            return Searched {
-                ok: false,
-                node: 0,
-                links: 0,
-            };
+            return Searched::NotFound;
         }
         v = u;
         links += 1;
     }
-    Searched {
-        ok: true,
-        node: v,
-        links,
-    }
+    Searched::Found(v, links)
 }

@@ -3,6 +3,7 @@
 use crate::rule::answers::RuleDescending;
 use crate::rule::checks::check_asked;
 use crate::rule::parts::all_by_colours;
+use crate::target_states::trials::Trial;
 use colour_tables::set_states::sets::set_count;
 use formats::bytes::read32;
 use formats::layout::LABEL_COUNT_AT;
@@ -54,12 +55,13 @@ fn answer_roots(
         nodes,
         labels,
     );
-    if !t.ok {
-        return RuleDescending::Refused(18);
+    match t {
+        Trial::NoState => RuleDescending::Refused(18),
+        Trial::State(q, drops, links) => {
+            let yes = rules[RULES_HEAD + k + s * k * s + q as usize] == 1;
+            RuleDescending::Answered(q, yes, drops, links, roots.len() as u32)
+        }
     }
-    let q = t.state;
-    let yes = rules[RULES_HEAD + k + s * k * s + q as usize] == 1;
-    RuleDescending::Answered(q, yes, t.drops, t.links, roots.len() as u32)
 }
 
 // The answer where 17, 27, 12, 13 and 14 pass.

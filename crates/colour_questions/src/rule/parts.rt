@@ -1,5 +1,4 @@
 // All parts of a rule question by colours, in rising node number, for any inputs.
-use crate::parts::part::lost;
 use crate::parts::part::part_by_colours;
 use crate::target_states::trials::Trial;
 use formats::limits::PART_LIMIT;
@@ -57,19 +56,18 @@ pub fn all_by_colours(
             changes,
             roots[i] as usize,
         );
-        if !t.ok {
-            return lost();
+        match t {
+            Trial::NoState => {
+                return Trial::NoState;
+            }
+            Trial::State(q, d, l) => {
+                last = q;
+                states[i] = q;
+                drops += d;
+                links += l;
+                i += 1;
+            }
         }
-        last = t.state;
-        states[i] = last;
-        drops = drops + t.drops;
-        links = links + t.links;
-        i += 1;
     }
-    Trial {
-        ok: true,
-        state: last,
-        drops,
-        links,
-    }
+    Trial::State(last, drops, links)
 }

@@ -1,4 +1,5 @@
 // Trials of target states at a child, on the caller's numbers and copies.
+use crate::path_drops::descend::Descended;
 use crate::path_drops::descend::descend_from;
 use colour_tables::rows::places::place_of;
 use colour_tables::sets::bits::bit_of;
@@ -8,20 +9,16 @@ ghost use Rattle.colour_tables.specs.ColourCells.{copyRow, cellTable};
 ghost use Rattle.colour_questions.specs.target_states.Trials.{TargetArgs, TestDone, TargetsArgs, TargetsDone};
 
 // The state found, with the drops of all trials and the links of their searches; or that there is none.
-pub struct Trial {
-    pub ok: bool,
-    pub state: u8,
-    pub drops: u32,
-    pub links: u32,
+pub enum Trial {
+    State(u8, u32, u32),
+    NoState,
 }
 
 // One trial: whether the set that the target leads down to holds the state, with its drops and links; or that it has no
 // end.
-pub struct Tested {
-    pub ok: bool,
-    pub holds: bool,
-    pub drops: u32,
-    pub links: u32,
+pub enum Tested {
+    Ended(bool, u32, u32),
+    NotEnded,
 }
 
 // The set of state x alone.
@@ -48,29 +45,14 @@ fn try_target(
 {
     let k = place_of(&copies[c * m..c * m + m], single(x));
     if m <= k {
-        return Tested {
-            ok: false,
-            holds: false,
-            drops: 0,
-            links: 0,
-        };
+        return Tested::NotEnded;
     }
-    let d = descend_from(numbers, n, false, c, w, k);
-    if !d.ok {
-        return Tested {
-            ok: false,
-            holds: false,
-            drops: 0,
-            links: 0,
-        };
-    }
-    let colour = d.colour;
-    let set = copies[w * m + colour];
-    Tested {
-        ok: true,
-        holds: bit_of(set, q) == 1,
-        drops: d.drops,
-        links: d.links,
+    match descend_from(numbers, n, false, c, w, k) {
+        Descended::NotReached => Tested::NotEnded,
+        Descended::Reached(colour, drops, links) => {
+            let set = copies[w * m + colour];
+            Tested::Ended(bit_of(set, q) == 1, drops, links)
+        }
     }
 }
 
@@ -92,31 +74,19 @@ pub fn try_targets(
     let mut links: u32 = 0;
     let mut x: usize = 0;
     while x < s {
-        let t = try_target(numbers, copies, n, m, c, w, q, x);
-        if !t.ok {
-            return Trial {
-                ok: false,
-                state: 0,
-                drops: 0,
-                links: 0,
-            };
+        match try_target(numbers, copies, n, m, c, w, q, x) {
+            Tested::NotEnded => {
+                return Trial::NoState;
+            }
+            Tested::Ended(holds, d, k) => {
+                drops += d;
+                links += k;
+                if holds {
+                    return Trial::State(x as u8, drops, links);
+                }
+                x += 1;
+            }
         }
-        drops += t.drops;
-        links += t.links;
-        if t.holds {
-            return Trial {
-                ok: true,
-                state: x as u8,
-                drops,
-                links,
-            };
-        }
-        x += 1;
     }
-    Trial {
-        ok: false,
-        state: 0,
-        drops: 0,
-        links: 0,
-    }
+    Trial::NoState
 }

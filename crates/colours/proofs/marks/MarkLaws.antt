@@ -16,11 +16,8 @@ use Rattle.trees.proofs.NodeLaws.{up}
 use Rattle.trees.proofs.JumpLaws.{ancestor-in, ancestor-depth}
 use Rattle.trees.proofs.MapLaws.{ancestor-parent}
 use Rattle.trees.specs.Ascents.{Ascends}
+pub use Rattle.state_sets.proofs.SetLaws.{bit-le}
 use Rattle.colours.specs.marks.Marks.{bit, marksIn, marksAbove, marksAt, nearestIn, markedUp, lowestAt}
-
-pub bit-le : (b : Bool) → bit b ≤ 1
-bit-le true = omega arith
-bit-le false = omega arith
 
 pub bit-zero : (b : Bool) → bit b ≡ 0 → b ≡ false
 bit-zero true e = absurd (omega arith)

@@ -2,11 +2,11 @@
 --
 -- colourView n s k .. == the view of all runs
 -- SideReads == what a side reads is inside; SideArgs, ForkArgs, LeafArgs, PartArgs == besides, what each function reads
--- FewTried s r == a state that was found is below s, by at most 60 drops, each with at most 65,535 links
--- SideFew own other r == so of a side; without trials where there is no root below, or one below its sibling too
+-- SideFew s own other r == a state that was found is below s, by at most 60 drops, each with at most 65,535 links;
+--   without trials where there is no root below, or one below its sibling too
+-- Untried r == so: without a drop
 use Prim.Native.Nat.{ℕ, _+_, _*_, _≤_, _<_, _^_}
 use mathlib.Core.Path.{_≡_}
-use mathlib.Core.Bool.{true}
 use mathlib.Core.List.{List}
 use mathlib.Core.Option.{Option}
 use lib.ListN.{length, getD}
@@ -14,7 +14,8 @@ use Rattle.formats.specs.Checks.{nodeTableLength, stateTableLength}
 use Rattle.questions.specs.inner.PartArgs.{partView}
 use Rattle.colours.specs.StateSets.{Tried}
 use Rattle.colour_questions.specs.declared.target_states.trials.Trial.{Trial}
-use Rattle.colour_questions.specs.target_states.Trials.{trialOf}
+use Rattle.colour_questions.specs.declared.target_states.trials.Trial.the-variants.{State, NoState}
+use Rattle.colour_questions.specs.target_states.Trials.{trialOf, FewIn}
 use Rattle.colour_questions.specs.parts.Part.{ColourView}
 
 abbrev pub colourView : ℕ → ℕ → ℕ → List ℕ → List ℕ → List ℕ → List ℕ → List ℕ → List ℕ → List ℕ → List ℕ → ColourView
@@ -71,15 +72,14 @@ pub record PartArgs (n s k m : ℕ) (ls ks lv inn nodeTable stateTable numbers c
   pub same : length es ≡ length qs
   pub many : length es ≤ 65535
 
-pub record FewTried (s : ℕ) (r : Trial) : Type 0 where
-  pub state : r .ok ≡ true → r .state < s
-  pub falls : r .drops ≤ 60
-  pub few : r .links ≤ r .drops * 65535
+abbrev pub Untried : Trial → Type 0
+Untried NoState = Unit {0}
+Untried (State q drops links) = drops ≡ 0
 
 pub record SideFew (s own other : ℕ) (r : Trial) : Type 0 where
-  pub all : FewTried s r
-  pub run : own ≡ 0 → r .drops ≡ 0
-  pub both : ¬ (other ≡ 0) → r .drops ≡ 0
+  pub all : FewIn s 60 r
+  pub run : own ≡ 0 → Untried r
+  pub both : ¬ (other ≡ 0) → Untried r
 
 -- ---- what they promise
 
@@ -89,4 +89,4 @@ pub record SideDone (s own other : ℕ) (o : Option Tried) (r : Trial) : Type 0 
 
 pub record PartDone (s : ℕ) (o : Option Tried) (r : Trial) : Type 0 where
   pub result : r ≡ trialOf o
-  pub bounds : FewTried s r
+  pub bounds : FewIn s 60 r

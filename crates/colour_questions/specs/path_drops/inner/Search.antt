@@ -5,11 +5,11 @@
 --   or not rise
 -- searchedOf o == the same as the code returns it
 use Prim.Native.Nat.{ℕ}
-use mathlib.Core.Bool.{true, false}
 use mathlib.Core.Option.{Option, none, some}
 use lib.ListN.{length}
 use Rattle.trees.specs.Climb.{Forest, Move, target, andThen, climb, climbEnd}
 use Rattle.colour_questions.specs.declared.path_drops.search.Searched.{Searched}
+use Rattle.colour_questions.specs.declared.path_drops.search.Searched.the-variants.{Found, NotFound}
 
 unfoldable pub nextNode : Forest → Option Move → ℕ
 nextNode F none = F .nodes
@@ -26,5 +26,5 @@ unfoldable pub searchOn : Forest → ℕ → ℕ → Option Searching
 searchOn F v t = andThen (climb F v t) (λ ms. some (searching (climbEnd F v ms) (length ms)))
 
 unfoldable pub searchedOf : Option Searching → Searched
-searchedOf none = record { ok = false; node = 0; links = 0 }
-searchedOf (some s) = record { ok = true; node = s .node; links = s .links }
+searchedOf none = NotFound
+searchedOf (some s) = Found (s .node) (s .links)

@@ -19,7 +19,7 @@ use Rattle.formats.specs.Buffers.{limitsFit, buffersFit}
 use Rattle.questions.specs.PartAnswers.{viewIn}
 use Rattle.colours.specs.StateSets.{tried}
 use Rattle.colour_questions.specs.declared.target_states.trials.Trial.{Trial}
-use Rattle.colour_questions.specs.target_states.Trials.{trialOf}
+use Rattle.colour_questions.specs.target_states.Trials.{trialOf, FewIn}
 use Rattle.colour_questions.specs.parts.Part.{ColourView, handledFrom}
 use Rattle.colour_questions.specs.parts.inner.Args.{PartReads}
 use Rattle.colour_questions.specs.declared.rule.answers.RuleDescending.{RuleDescending}
@@ -32,9 +32,7 @@ pub record AllArgs (n s k m : ℕ) (ls ks lv inn nodeTable stateTable numbers co
 
 pub record AllDone (L : ColourView) (vs bs ms : List ℕ) (r : Trial) : Type 0 where
   pub result : r ≡ trialOf (handledFrom L vs bs [] [] (tried 0 []) ms)
-  pub below : r .ok ≡ true → 0 < length ms → r .state < L .view .s
-  pub falls : r .drops ≤ length ms * 60
-  pub links : r .links ≤ r .drops * 65535
+  pub bounds : 0 < length ms → FewIn (L .view .s) (length ms * 60) r
 
 abbrev pub lentAs : ℕ → ℕ → ℕ → List ℕ → List ℕ → List ℕ → List ℕ → List ℕ → List ℕ → ColourView
 lentAs n s k p r nodeTable stateTable numbers bytes = record {

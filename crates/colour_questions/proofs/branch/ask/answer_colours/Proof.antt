@@ -3,7 +3,6 @@ use Prim.Native.Nat.{_+_, _*_, _≤_, _<_}
 use mathlib.Core.Path.{_≡_, _∙_}
 use native.Mathlib.Nat.{mul-le-mul}
 use lib.ListN.{length, length-drop}
-use borrow.Author.Tests.{not-true, not-false}
 use Rattle.list_laws.proofs.RowLaws.{stride}
 use Rattle.list_laws.proofs.SliceLaws.{rest-part}
 use Rattle.formats.specs.Plan.{nodeCount}
@@ -61,12 +60,13 @@ table : (m : tie.After-read323)
 table m = table-fit _ _ _ _ _ (lent (start m)) 0 _ _ (m .before .read322 .ensures) (m .read323 .ensures)
 
 -- where the way down was found
-abbrev reads-of : (e : tie.Else3) → tie.After-read323
-reads-of e = e .before .before .before .before .before .before .before
+abbrev reads-of : (e : tie.After-known-told) → tie.After-read323
+reads-of e = e .before .before .before .before .before .before .before .before
 
-low : (e : tie.Else3) → e .before .before .descend-to .result .colour < reads-of e .before .read322 .result
+low : (e : tie.After-known-told) → e .before .colour .given .0 .0 < reads-of e .before .read322 .result
 low e =
-    let d = e .before .before in
+    let w = e .before .colour .given in
+    let d = e .before .before .before in
     let j = d .before in
     let x = j .before in
     let i = x .before in
@@ -77,7 +77,7 @@ low e =
     (s .args .numbers .now) (s .args .bytes .now) (s .args .u) (s .args .l) _ _ (n-is m) (m .before .read322 .ensures)
     (z .start-place .result) (z .start-place .ensures) (i .if1 .left) (x .start-colour .result)
     (x .start-colour .ensures)
-    (j .if2 .left) (d .descend-to .result) (d .descend-to .ensures) (not-false _ (e .if3 .left))
+    (j .if2 .left) (d .descend-to .result) (d .descend-to .ensures) (w .0 .0) (w .0 .1 .0) (w .0 .1 .1 .0) (w .1)
 
 read32-requires : tie.Need-read32-requires
 read32-requires c κs =
@@ -167,7 +167,7 @@ returns-3 c =
     (s .args .numbers .now) (s .args .bytes .now) (s .args .u) (s .args .l) _ _ (n-is m) (m .before .read322 .ensures)
     (z .start-place .result) (z .start-place .ensures) (i .if1 .left) (x .start-colour .result)
     (x .start-colour .ensures)
-    (j .if2 .left) (d .descend-to .result) (d .descend-to .ensures) (not-true _ (c .if3 .taken))
+    (j .if2 .left) (d .descend-to .result) (d .descend-to .ensures) (c .enum-told .given .1)
 
 mul-finish : tie.Need-mul-finish
 mul-finish c = omega (arith, product (reads-of c))
@@ -208,7 +208,8 @@ finish-requires c κs =
 returns-4 : tie.Need-returns-4
 returns-4 c =
     let e = c .before .before in
-    let d = e .before .before in
+    let w = e .before .colour .given in
+    let d = e .before .before .before in
     let j = d .before in
     let x = j .before in
     let i = x .before in
@@ -220,7 +221,7 @@ returns-4 c =
     (s .args .numbers .now) (s .args .bytes .now) (s .args .u) (s .args .l) _ _ (n-is m) (m .before .read322 .ensures)
     (z .start-place .result) (z .start-place .ensures) (i .if1 .left) (x .start-colour .result)
     (x .start-colour .ensures)
-    (j .if2 .left) (d .descend-to .result) (d .descend-to .ensures) (not-false _ (e .if3 .left)) _
+    (j .if2 .left) (d .descend-to .result) (d .descend-to .ensures) (w .0 .0) (w .0 .1 .0) (w .0 .1 .1 .0) (w .1) _
     (branch-marks-part-exact (s .args .branch .now) _ _ (lent s .table-exact) (m .before .read322 .ensures)
     (m .read323 .ensures))
 
@@ -228,5 +229,5 @@ pub answer-colours-spec : {M : Type 1} → statement M
 answer-colours-spec =
     tie.close
     (tie.spec read32-requires read32-requires-2 read32-requires-3 start-place-requires returns start-colour-requires
-    returns-2 descend-to-requires returns-3 mul-finish add-finish sub-finish part-finish-start (λ c. search needs)
-    finish-requires returns-4)
+    returns-2 descend-to-requires (λ c. search needs) (λ c. search needs) mul-finish add-finish sub-finish
+    part-finish-start (λ c. search needs) finish-requires returns-3 returns-4)

@@ -1,18 +1,16 @@
 -- `fork_by_colours` meets its contract.
-use Prim.Native.Nat.{_-_, _<_}
+use Prim.Native.Nat.{_+_, _-_, _≤_, _<_}
 use mathlib.Core.Path.{sym, _∙_}
-use borrow.Author.Tests.{not-true, not-false}
 use Rattle.tables.specs.node_tables.Cells.{sizeCell}
 use Rattle.questions.proofs.ScanLaws.{last-bound, last-covers}
 use Rattle.colour_questions.specs.parts.Part.{sidesOf}
-use Rattle.colour_questions.proofs.parts.ForkCases.{fork-left, fork-right, fork-rule, fork-falls, fork-few, fork-made}
+use Rattle.colour_questions.proofs.parts.ForkCases.{fork-left, fork-right, fork-rule, fork-falls, fork-few, fork-made, left-few, right-few}
 use native.Mathlib.Omega.{arith}
 use borrow.Author.Needs.{needs}
 use Rattle.colour_questions.proofs.parts.part.fork_by_colours.Statement.{statement}
 use Rattle.colour_questions.proofs.parts.part.fork_by_colours.Tie as tie
 use Rattle.colour_questions.proofs.parts.part.fork_by_colours.Reads as reads
 use Rattle.colour_questions.proofs.parts.part.fork_by_colours.Lts as lts
-use Rattle.colour_questions.proofs.parts.part.lost.Reads as lost-reads
 use Rattle.colour_questions.proofs.parts.part.side_by_colours.Reads as side-by-colours-reads
 use Rattle.questions.proofs.part.last_below.Reads as last-below-reads
 use Rattle.tables.proofs.lookups.rule_on.Reads as rule-on-reads
@@ -42,23 +40,9 @@ side-by-colours-requires c κs =
           );
     }
 
-returns : tie.Need-returns
-returns c =
-    let t = c .before in
-    let x = t .before .before in
-    let b = x .before in
-    let s = b .before .before .before .before .before .before .before .before .before in
-    let g = s .args in
-    fork-left (sidesOf (g .n) (g .s) (g .m) (g .state-table .now) (g .numbers .now) (g .copies .now)) (g .k) (g .inner
-    .now)
-    (g .node-table .now) (g .earlier .now) (g .states .now) (g .v) (g .l) (g .a) (b .before .last-below .result)
-    (b .last-below2 .result) (s .pre .same) (b .before .last-below .ensures) (b .last-below2 .ensures)
-    (x .side-by-colours .result) (x .side-by-colours .ensures) (c .lost .result) (not-true _ (t .if1 .taken)) (c .lost
-    .ensures)
-
 side-by-colours-requires-2 : tie.Need-side-by-colours-requires-2
 side-by-colours-requires-2 c κs =
-    let x = c .before .before in
+    let x = c .before .before .before in
     let b = x .before in
     let s = b .before .before .before .before .before .before .before .before .before in
     let g = s .args in
@@ -82,48 +66,67 @@ side-by-colours-requires-2 c κs =
           );
     }
 
-returns-2 : tie.Need-returns-2
-returns-2 c =
-    let t = c .before in
-    let y = t .before .before in
-    let e1 = y .before in
-    let x = e1 .before .before in
+-- both sides were found
+left-low : (c : tie.After-known-told2) → let y = c .before .before .before in
+    let x = y .before .before .before .before in
+    y .before .before .left .given .0 .0 < x .before .before .before .before .before .before .before .before .before
+    .before .args .s
+left-low c =
+    let w = c .before .right .given in
+    let y = c .before .before .before in
+    let u = y .before .before .left .given in
+    let x = y .before .before .before .before in
     let b = x .before in
     let s = b .before .before .before .before .before .before .before .before .before in
     let g = s .args in
-    fork-right (sidesOf (g .n) (g .s) (g .m) (g .state-table .now) (g .numbers .now) (g .copies .now)) (g .k) (g .inner
+    left-few (sidesOf (g .n) (g .s) (g .m) (g .state-table .now) (g .numbers .now) (g .copies .now)) (g .k) (g .inner
     .now)
     (g .node-table .now) (g .earlier .now) (g .states .now) (g .v) (g .l) (g .a) (b .before .last-below .result)
     (b .last-below2 .result) (s .pre .same) (b .before .last-below .ensures) (b .last-below2 .ensures)
-    (x .side-by-colours .result) (x .side-by-colours .ensures) (not-false _ (e1 .if1 .left)) (y .side-by-colours2
-    .result) (y .side-by-colours2 .ensures)
-    (c .lost2 .result) (not-true _ (t .if2 .taken)) (c .lost2 .ensures)
+    (x .side-by-colours .result) (x .side-by-colours .ensures)
+    (u .0 .0) (u .0 .1 .0) (u .0 .1 .1 .0) (u .1) (y .side-by-colours2 .result)
+    (y .side-by-colours2 .ensures) .state
 
-rule-on-requires : tie.Need-rule-on-requires
-rule-on-requires c κs =
-    let e2 = c .before .before in
-    let y = e2 .before .before in
-    let e1 = y .before in
-    let x = e1 .before .before in
+right-low : (c : tie.After-known-told2) → let y = c .before .before .before in
+    let x = y .before .before .before .before in
+    c .before .right .given .0 .0 < x .before .before .before .before .before .before .before .before .before .before
+    .args .s
+right-low c =
+    let w = c .before .right .given in
+    let y = c .before .before .before in
+    let u = y .before .before .left .given in
+    let x = y .before .before .before .before in
     let b = x .before in
     let s = b .before .before .before .before .before .before .before .before .before in
     let g = s .args in
+    right-few (sidesOf (g .n) (g .s) (g .m) (g .state-table .now) (g .numbers .now) (g .copies .now)) (g .k) (g .inner
+    .now)
+    (g .node-table .now) (g .earlier .now) (g .states .now) (g .v) (g .l) (g .a) (b .before .last-below .result)
+    (b .last-below2 .result) (s .pre .same) (b .before .last-below .ensures) (b .last-below2 .ensures)
+    (x .side-by-colours .result) (x .side-by-colours .ensures)
+    (u .0 .0) (u .0 .1 .0) (u .0 .1 .1 .0) (u .1) (y .side-by-colours2 .result)
+    (y .side-by-colours2 .ensures)
+    (w .0 .0) (w .0 .1 .0) (w .0 .1 .1 .0) (w .1) .state
+
+rule-on-requires : tie.Need-rule-on-requires
+rule-on-requires c κs =
+    let x = c .before .before .before .before .before .before .before in
+    let s = x .before .before .before .before .before .before .before .before .before .before in
     record {
       few = omega (arith, s .pre .reads .states);
       labels = s .pre .labels;
-      left = x .side-by-colours .ensures .bounds .all .state (not-false _ (e1 .if1 .left));
-      right = y .side-by-colours2 .ensures .bounds .all .state (not-false _ (e2 .if2 .left));
+      left = left-low c;
+      right = right-low c;
       room = s .pre .inner-room;
     }
 
-returns-3 : tie.Need-returns-3
-returns-3 c =
-    let t = c .before in
-    let r = t .before in
-    let e2 = r .before .before .before in
-    let y = e2 .before .before in
-    let e1 = y .before in
-    let x = e1 .before .before in
+returns : tie.Need-returns
+returns c =
+    let r = c .before in
+    let w = c .before .before .before .right .given in
+    let y = c .before .before .before .before .before in
+    let u = y .before .before .left .given in
+    let x = y .before .before .before .before in
     let b = x .before in
     let s = b .before .before .before .before .before .before .before .before .before in
     let g = s .args in
@@ -131,82 +134,98 @@ returns-3 c =
     .now)
     (g .node-table .now) (g .earlier .now) (g .states .now) (g .v) (g .l) (g .a) (b .before .last-below .result)
     (b .last-below2 .result) (s .pre .same) (b .before .last-below .ensures) (b .last-below2 .ensures)
-    (x .side-by-colours .result) (x .side-by-colours .ensures) (not-false _ (e1 .if1 .left)) (y .side-by-colours2
-    .result) (y .side-by-colours2 .ensures) (not-false _ (e2 .if2 .left))
-    (r .rule-on .result) (r .rule-on .ensures)
-    (c .lost3 .result) (t .if3 .taken) (c .lost3 .ensures)
+    (x .side-by-colours .result) (x .side-by-colours .ensures)
+    (u .0 .0) (u .0 .1 .0) (u .0 .1 .1 .0) (u .1) (y .side-by-colours2 .result)
+    (y .side-by-colours2 .ensures)
+    (w .0 .0) (w .0 .1 .0) (w .0 .1 .1 .0) (w .1) (r .rule-on .result) (r .rule-on .ensures) (c .if1 .taken)
 
-cast-t24 : tie.Need-cast-t24
-cast-t24 c =
-    let e3 = c in
-    let r = e3 .before in
-    let e2 = r .before .before .before in
-    let y = e2 .before .before in
-    let e1 = y .before in
-    let x = e1 .before .before in
-    let b = x .before in
-    let s = b .before .before .before .before .before .before .before .before .before in
-    let g = s .args in
-    let h : r .rule-on .result < g .s = e3 .if3 .left in
+cast-t32 : tie.Need-cast-t32
+cast-t32 c =
+    let r = c .before in
+    let x = r .before .before .before .before .before .before .before .before in
+    let s = x .before .before .before .before .before .before .before .before .before .before in
+    let h : r .rule-on .result < s .args .s = c .if1 .left in
     omega (arith, h, s .pre .reads .states)
 
-add-t25 : tie.Need-add-t25
-add-t25 c =
-    let e3 = c .before .before in
-    let r = e3 .before in
-    let e2 = r .before .before .before in
-    let y = e2 .before .before in
-    let e1 = y .before in
-    let x = e1 .before .before in
+falls : (c : tie.After-rule-on) → let k = c .before in
+    let y = k .before .before .before in
+    y .before .before .left .given .0 .1 .0 + k .before .right .given .0 .1 .0 ≤ 60
+falls c =
+    let w = c .before .before .right .given in
+    let y = c .before .before .before .before in
+    let u = y .before .before .left .given in
+    let x = y .before .before .before .before in
     let b = x .before in
     let s = b .before .before .before .before .before .before .before .before .before in
     let g = s .args in
-    omega (
-      arith,
-      fork-falls (sidesOf (g .n) (g .s) (g .m) (g .state-table .now) (g .numbers .now) (g .copies .now)) (g .k) (g
-          .inner .now)
-          (g .node-table .now) (g .earlier .now) (g .states .now) (g .v) (g .l) (g .a) (b .before .last-below .result)
-          (b .last-below2 .result) (s .pre .same) (b .before .last-below .ensures) (b .last-below2 .ensures)
-          (x .side-by-colours .result) (x .side-by-colours .ensures) (not-false _ (e1 .if1 .left)) (y .side-by-colours2
-          .result) (y .side-by-colours2 .ensures) (not-false _ (e2 .if2 .left))
-          (r .rule-on .result) (r .rule-on .ensures),
-    )
+    fork-falls (sidesOf (g .n) (g .s) (g .m) (g .state-table .now) (g .numbers .now) (g .copies .now)) (g .k) (g .inner
+    .now)
+    (g .node-table .now) (g .earlier .now) (g .states .now) (g .v) (g .l) (g .a) (b .before .last-below .result)
+    (b .last-below2 .result) (s .pre .same) (b .before .last-below .ensures) (b .last-below2 .ensures)
+    (x .side-by-colours .result) (x .side-by-colours .ensures)
+    (u .0 .0) (u .0 .1 .0) (u .0 .1 .1 .0) (u .1) (y .side-by-colours2 .result)
+    (y .side-by-colours2 .ensures)
+    (w .0 .0) (w .0 .1 .0) (w .0 .1 .1 .0) (w .1) (c .rule-on .result) (c .rule-on .ensures)
 
-add-t26 : tie.Need-add-t26
-add-t26 c =
-    let e3 = c .before .before .before .before in
-    let r = e3 .before in
-    let e2 = r .before .before .before in
-    let y = e2 .before .before in
-    let e1 = y .before in
-    let x = e1 .before .before in
+add-t33 : tie.Need-add-t33
+add-t33 c = omega (arith, falls (c .before))
+
+add-t34 : tie.Need-add-t34
+add-t34 c =
+    let r = c .before in
+    let w = c .before .before .before .right .given in
+    let y = c .before .before .before .before .before in
+    let u = y .before .before .left .given in
+    let x = y .before .before .before .before in
     let b = x .before in
     let s = b .before .before .before .before .before .before .before .before .before in
     let g = s .args in
-    let a = fork-falls (sidesOf (g .n) (g .s) (g .m) (g .state-table .now) (g .numbers .now) (g .copies .now)) (g .k)
-    (g .inner .now)
+    let f = fork-few (sidesOf (g .n) (g .s) (g .m) (g .state-table .now) (g .numbers .now) (g .copies .now)) (g .k) (g .inner
+    .now)
     (g .node-table .now) (g .earlier .now) (g .states .now) (g .v) (g .l) (g .a) (b .before .last-below .result)
     (b .last-below2 .result) (s .pre .same) (b .before .last-below .ensures) (b .last-below2 .ensures)
-    (x .side-by-colours .result) (x .side-by-colours .ensures) (not-false _ (e1 .if1 .left)) (y .side-by-colours2
-    .result) (y .side-by-colours2 .ensures) (not-false _ (e2 .if2 .left))
-    (r .rule-on .result) (r .rule-on .ensures) in
-    let f = fork-few (sidesOf (g .n) (g .s) (g .m) (g .state-table .now) (g .numbers .now) (g .copies .now)) (g .k) (g
-    .inner .now)
+    (x .side-by-colours .result) (x .side-by-colours .ensures)
+    (u .0 .0) (u .0 .1 .0) (u .0 .1 .1 .0) (u .1) (y .side-by-colours2 .result)
+    (y .side-by-colours2 .ensures)
+    (w .0 .0) (w .0 .1 .0) (w .0 .1 .1 .0) (w .1) (r .rule-on .result) (r .rule-on .ensures) in
+    omega (arith, falls r, f)
+
+returns-2 : tie.Need-returns-2
+returns-2 c =
+    let x = c .before .before in
+    let b = x .before in
+    let s = b .before .before .before .before .before .before .before .before .before in
+    let g = s .args in
+    fork-left (sidesOf (g .n) (g .s) (g .m) (g .state-table .now) (g .numbers .now) (g .copies .now)) (g .k) (g .inner
+    .now)
     (g .node-table .now) (g .earlier .now) (g .states .now) (g .v) (g .l) (g .a) (b .before .last-below .result)
     (b .last-below2 .result) (s .pre .same) (b .before .last-below .ensures) (b .last-below2 .ensures)
-    (x .side-by-colours .result) (x .side-by-colours .ensures) (not-false _ (e1 .if1 .left)) (y .side-by-colours2
-    .result) (y .side-by-colours2 .ensures) (not-false _ (e2 .if2 .left))
-    (r .rule-on .result) (r .rule-on .ensures) in
-    omega (arith, a, f)
+    (x .side-by-colours .result) (x .side-by-colours .ensures)
+    (c .enum-told .given .1)
+
+returns-3 : tie.Need-returns-3
+returns-3 c =
+    let y = c .before .before in
+    let u = y .before .before .left .given in
+    let x = y .before .before .before .before in
+    let b = x .before in
+    let s = b .before .before .before .before .before .before .before .before .before in
+    let g = s .args in
+    fork-right (sidesOf (g .n) (g .s) (g .m) (g .state-table .now) (g .numbers .now) (g .copies .now)) (g .k) (g .inner
+    .now)
+    (g .node-table .now) (g .earlier .now) (g .states .now) (g .v) (g .l) (g .a) (b .before .last-below .result)
+    (b .last-below2 .result) (s .pre .same) (b .before .last-below .ensures) (b .last-below2 .ensures)
+    (x .side-by-colours .result) (x .side-by-colours .ensures)
+    (u .0 .0) (u .0 .1 .0) (u .0 .1 .1 .0) (u .1) (y .side-by-colours2 .result)
+    (y .side-by-colours2 .ensures) (c .enum-told2 .given .1)
 
 returns-4 : tie.Need-returns-4
 returns-4 c =
-    let e3 = c .before .before .before .before in
-    let r = e3 .before in
-    let e2 = r .before .before .before in
-    let y = e2 .before .before in
-    let e1 = y .before in
-    let x = e1 .before .before in
+    let r = c .before in
+    let w = c .before .before .before .right .given in
+    let y = c .before .before .before .before .before in
+    let u = y .before .before .left .given in
+    let x = y .before .before .before .before in
     let b = x .before in
     let s = b .before .before .before .before .before .before .before .before .before in
     let g = s .args in
@@ -214,13 +233,15 @@ returns-4 c =
     .now)
     (g .node-table .now) (g .earlier .now) (g .states .now) (g .v) (g .l) (g .a) (b .before .last-below .result)
     (b .last-below2 .result) (s .pre .same) (b .before .last-below .ensures) (b .last-below2 .ensures)
-    (x .side-by-colours .result) (x .side-by-colours .ensures) (not-false _ (e1 .if1 .left)) (y .side-by-colours2
-    .result) (y .side-by-colours2 .ensures) (not-false _ (e2 .if2 .left))
-    (r .rule-on .result) (r .rule-on .ensures) (e3 .if3 .left)
+    (x .side-by-colours .result) (x .side-by-colours .ensures)
+    (u .0 .0) (u .0 .1 .0) (u .0 .1 .1 .0) (u .1) (y .side-by-colours2 .result)
+    (y .side-by-colours2 .ensures)
+    (w .0 .0) (w .0 .1 .0) (w .0 .1 .1 .0) (w .1) (r .rule-on .result) (r .rule-on .ensures) (c .if1 .left)
 
 pub fork-by-colours-spec : {M : Type 1} → statement M
 fork-by-colours-spec =
     tie.close
     (tie.spec (λ c. search needs) (λ c κs. search needs) (λ c κs. search needs) side-by-colours-requires
-    (λ c κs. search needs) returns side-by-colours-requires-2 (λ c κs. search needs) returns-2 (λ c. search needs)
-    (λ c. search needs) rule-on-requires (λ c κs. search needs) returns-3 cast-t24 add-t25 add-t26 returns-4)
+    (λ c. search needs) (λ c. search needs) side-by-colours-requires-2 (λ c. search needs) (λ c. search needs)
+    (λ c. search needs) (λ c. search needs) rule-on-requires returns cast-t32 add-t33 add-t34 returns-2 returns-3
+    returns-4)

@@ -7,13 +7,12 @@ use Rattle.colour_questions.proofs.parts.part.leaf_state.Statement.{sta
 use Rattle.colour_questions.proofs.parts.part.leaf_state.Tie as tie
 use Rattle.colour_questions.proofs.parts.part.leaf_state.Reads as reads
 use Rattle.colour_questions.proofs.parts.part.leaf_state.Lts as lts
-use Rattle.colour_questions.proofs.parts.part.lost.Reads as lost-reads
 use Rattle.colour_questions.proofs.parts.part.untried_state.Reads as untried-state-reads
 
 returns : tie.Need-returns
 returns c =
-    let g = c .before .before .before .args in
-    c .lost .ensures ∙ leaf-outside (g .s) (g .k) (g .leaves .now) (g .a) (c .before .if1 .taken)
+    let g = c .before .before .args in
+    leaf-outside (g .s) (g .k) (g .leaves .now) (g .a) (c .if1 .taken)
 
 cast-untried-state : tie.Need-cast-untried-state
 cast-untried-state c =
@@ -28,4 +27,4 @@ returns-2 c =
 pub leaf-state-spec : {M : Type 1} → statement M
 leaf-state-spec =
     tie.close
-    (tie.spec (λ c κs. search needs) returns (λ c. search needs) cast-untried-state (λ c κs. search needs) returns-2)
+    (tie.spec returns (λ c. search needs) cast-untried-state (λ c κs. search needs) returns-2)

@@ -12,7 +12,6 @@ use Rattle.colour_questions.proofs.parts.part.part_by_colours.Lts as lt
 use Rattle.tables.proofs.node_tables.moves.size_at.Reads as size-at-reads
 use Rattle.colour_questions.proofs.parts.part.fork_by_colours.Reads as fork-by-colours-reads
 use Rattle.colour_questions.proofs.parts.part.leaf_state.Reads as leaf-state-reads
-use Rattle.colour_questions.proofs.parts.part.lost.Reads as lost-reads
 use Rattle.questions.proofs.part.label_on.Reads as label-on-reads
 
 returns : tie.Need-returns
@@ -29,19 +28,18 @@ returns c =
 
 returns-2 : tie.Need-returns-2
 returns-2 c =
-    let a = c .before .before .before .before in
+    let a = c .before .before .before in
     let s = a .before .before .before .before .before .before .before .before .before .before .before .before .before in
     let g = s .args in
     part-first (colourView (g .n) (g .s) (g .k) (g .labels .now) (g .kinds .now) (g .leaves .now) (g .inner .now) (g
     .node-table .now)
     (g .state-table .now) (g .numbers .now) (g .copies .now)) (g .earlier .now) (g .states .now) (g .nodes .now)
     (g .changes .now) (g .v) (a .label-on .result) (a .label-on .ensures)
-    (c .before .before .if1 .left) (c .lost .result) (c .before .if2 .taken) (c .lost .ensures)
+    (c .before .if1 .left) (c .if2 .taken)
 
 returns-3 : tie.Need-returns-3
 returns-3 c =
-    let t = c .before in
-    let z = t .before in
+    let z = c .before in
     let e2 = z .before in
     let e1 = e2 .before in
     let a = e1 .before .before in
@@ -51,8 +49,7 @@ returns-3 c =
     .node-table .now)
     (g .state-table .now) (g .numbers .now) (g .copies .now)) (g .earlier .now) (g .states .now) (g .nodes .now)
     (g .changes .now) (g .v) (a .label-on .result) (a .label-on .ensures)
-    (e1 .if1 .left) (e2 .if2 .left) (c .lost2 .result) (omega (arith, t .if3 .taken, z .size-at .ensures)) (c .lost2
-    .ensures)
+    (e1 .if1 .left) (e2 .if2 .left) (omega (arith, c .if3 .taken, z .size-at .ensures))
 
 returns-4 : tie.Need-returns-4
 returns-4 c =
@@ -73,6 +70,6 @@ returns-4 c =
 pub part-by-colours-spec : {M : Type 1} → statement M
 part-by-colours-spec =
     tie.close
-    (tie.spec (λ c κs. search needs) (λ c. search needs) (λ c κs. search needs) returns (λ c κs. search needs)
-    returns-2 (λ c. search needs) (λ c κs. search needs) (λ c. search needs) (λ c κs. search needs) returns-3
+    (tie.spec (λ c κs. search needs) (λ c. search needs) (λ c κs. search needs) returns
+    returns-2 (λ c. search needs) (λ c κs. search needs) (λ c. search needs) returns-3
     (λ c. search needs) (λ c. search needs) (λ c κs. search needs) returns-4)

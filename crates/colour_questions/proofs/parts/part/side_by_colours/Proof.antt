@@ -11,7 +11,6 @@ use Rattle.colour_questions.proofs.parts.part.side_by_colours.Statement
 use Rattle.colour_questions.proofs.parts.part.side_by_colours.Tie as tie
 use Rattle.colour_questions.proofs.parts.part.side_by_colours.Reads as reads
 use Rattle.colour_questions.proofs.parts.part.side_by_colours.Lts as lts
-use Rattle.colour_questions.proofs.parts.part.lost.Reads as lost-reads
 use Rattle.colour_questions.proofs.parts.part.untried_state.Reads as untried-state-reads
 use Rattle.tables.proofs.lookups.run_on.Reads as run-on-reads
 use Rattle.colour_questions.proofs.target_states.trials.try_targets.Reads as try-targets-reads
@@ -61,13 +60,12 @@ cast-if3 c =
 
 returns-3 : tie.Need-returns-3
 returns-3 c =
-    let t = c .before in
-    let e2 = t .before in
+    let e2 = c .before in
     let e = e2 .before .before in
     let g = e .before .before .before .before .before .before .args in
     side-outside (sidesOf (g .n) (g .s) (g .m) (g .state-table .now) (g .numbers .now) (g .copies .now)) (g .c)
     (g .earlier .now) (g .states .now) (g .own) (g .other) (e .if1 .left) (e2 .if2 .left)
-    (c .lost .result) (t .if3 .taken) (c .lost .ensures)
+    (c .if3 .taken)
 
 cast-try-targets : tie.Need-cast-try-targets
 cast-try-targets c =
@@ -112,5 +110,5 @@ pub side-by-colours-spec : {M : Type 1} → statement M
 side-by-colours-spec =
     tie.close
     (tie.spec run-on-requires (λ c κs. search needs) returns (λ c. search needs) (λ c. search needs)
-    cast-untried-state (λ c κs. search needs) returns-2 cast-if3 (λ c κs. search needs) returns-3 (λ c. search needs)
+    cast-untried-state (λ c κs. search needs) returns-2 cast-if3 returns-3 (λ c. search needs)
     (λ c. search needs) (λ c. search needs) cast-try-targets try-targets-requires returns-4)

@@ -1,7 +1,6 @@
 -- `next_drop` meets its contract, by the way each test went.
 use Prim.Native.Nat.{_+_, _*_}
 use native.Mathlib.Omega.{arith}
-use borrow.Author.Tests.{not-true, not-false}
 use Rattle.colour_questions.proofs.path_drops.DropCases.{gives-done, gives-outside, gives-stuck, gives-node, gives-high, gives-fell}
 use borrow.Author.Needs.{needs}
 use Rattle.colour_questions.proofs.path_drops.drops.next_drop.Statement.{statement}
@@ -30,22 +29,10 @@ returns-2 c =
     (e .if1 .left)
     (v .lowest-at .result) (v .lowest-at .ensures) (c .if2 .taken)
 
-returns-3 : tie.Need-returns-3
-returns-3 c =
-    let r = c .before .before in
-    let f = r .before in
-    let v = f .before in
-    let e = v .before in
-    let m = e .before in
-    let g = m .before .before .args in
-    gives-stuck (g .n) (g .table .now) (g .c) (g .to) (g .l) (m .seen-at .result) (m .seen-at .ensures .0)
-    (e .if1 .left)
-    (v .lowest-at .result) (v .lowest-at .ensures) (f .if2 .left) (r .search .result) (r .search .ensures)
-    (not-true (r .search .result .ok) (c .if3 .taken))
-
 size-at-requires : tie.Need-size-at-requires
 size-at-requires c κs =
-    let r = c .before .before in
+    let x = c .before in
+    let r = x .before .before in
     let f = r .before in
     let v = f .before in
     let e = v .before in
@@ -57,14 +44,14 @@ size-at-requires c κs =
       gives-node (g .n) (g .table .now) (g .c) (g .to) (g .l) (m .seen-at .result) (m .seen-at .ensures .0)
           (e .if1 .left)
           (v .lowest-at .result) (v .lowest-at .ensures) (f .if2 .left) (r .search .result) (r .search .ensures)
-          (not-false (r .search .result .ok) (c .if3 .left)),
+          (x .x .given .0 .0) (x .x .given .0 .1 .0) (x .x .given .1),
     )
 
-returns-4 : tie.Need-returns-4
-returns-4 c =
+returns-3 : tie.Need-returns-3
+returns-3 c =
     let d = c .before in
-    let k = d .before in
-    let r = k .before .before in
+    let x = d .before .before in
+    let r = x .before .before in
     let f = r .before in
     let v = f .before in
     let e = v .before in
@@ -72,13 +59,26 @@ returns-4 c =
     let g = m .before .before .args in
     gives-high (g .n) (g .table .now) (g .c) (g .to) (g .l) (m .seen-at .result) (m .seen-at .ensures .0) (e .if1 .left)
     (v .lowest-at .result) (v .lowest-at .ensures) (f .if2 .left) (r .search .result) (r .search .ensures)
-    (not-false (r .search .result .ok) (k .if3 .left)) (d .size-at .result) (d .size-at .ensures) (c .if4 .taken)
+    (x .x .given .0 .0) (x .x .given .0 .1 .0) (x .x .given .1) (d .size-at .result) (d .size-at .ensures) (c .if3 .taken)
+
+returns-4 : tie.Need-returns-4
+returns-4 c =
+    let r = c .before .before in
+    let f = r .before in
+    let v = f .before in
+    let e = v .before in
+    let m = e .before in
+    let g = m .before .before .args in
+    gives-stuck (g .n) (g .table .now) (g .c) (g .to) (g .l) (m .seen-at .result) (m .seen-at .ensures .0)
+    (e .if1 .left)
+    (v .lowest-at .result) (v .lowest-at .ensures) (f .if2 .left) (r .search .result) (r .search .ensures)
+    (c .enum-told .given .1)
 
 returns-5 : tie.Need-returns-5
 returns-5 c =
     let d = c .before in
-    let k = d .before in
-    let r = k .before .before in
+    let x = d .before .before in
+    let r = x .before .before in
     let f = r .before in
     let v = f .before in
     let e = v .before in
@@ -86,11 +86,11 @@ returns-5 c =
     let g = m .before .before .args in
     gives-fell (g .n) (g .table .now) (g .c) (g .to) (g .l) (m .seen-at .result) (m .seen-at .ensures .0) (e .if1 .left)
     (v .lowest-at .result) (v .lowest-at .ensures) (f .if2 .left) (r .search .result) (r .search .ensures)
-    (not-false (r .search .result .ok) (k .if3 .left)) (d .size-at .result) (d .size-at .ensures) (c .if4 .left)
+    (x .x .given .0 .0) (x .x .given .0 .1 .0) (x .x .given .1) (d .size-at .result) (d .size-at .ensures) (c .if3 .left)
     (omega (arith, m .before .shared-slice-known .given (v .lowest-at .result * 4 + 2)))
 
 pub next-drop-spec : {M : Type 1} → statement M
 next-drop-spec =
     tie.close
-    (tie.spec (λ c κs. search needs) returns (λ c κs. search needs) returns-2 (λ c κs. search needs) returns-3
-    size-at-requires returns-4 returns-5)
+    (tie.spec (λ c κs. search needs) returns (λ c κs. search needs) returns-2 (λ c κs. search needs)
+    (λ c. search needs) (λ c. search needs) size-at-requires returns-3 returns-4 returns-5)

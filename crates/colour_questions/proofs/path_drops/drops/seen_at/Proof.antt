@@ -43,4 +43,4 @@ returns-2 c =
 pub seen-at-spec : {M : Type 1} → statement M
 seen-at-spec =
     tie.close
-    (tie.spec (λ c κs. search needs) (λ c κs. search needs) add-result returns (λ c. search needs) returns-2)
+    (tie.spec (λ c κs. search needs) (λ c κs. search needs) add-result returns returns-2)

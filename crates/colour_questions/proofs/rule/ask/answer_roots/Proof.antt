@@ -1,8 +1,10 @@
 -- `answer_roots` meets its contract.
 use mathlib.Core.Path.{sym}
+use Prim.Native.Nat.{_*_}
+use lib.ListN.{length}
 use lib.Seq.{length-take-le}
-use borrow.Author.Tests.{not-true, not-false}
-use Rattle.colour_questions.proofs.rule.AnswerLaws.{Runs, runs-by, all-args, roots-lost, mark-place, roots-answer}
+use Rattle.colour_questions.specs.target_states.Trials.{Few}
+use Rattle.colour_questions.proofs.rule.AnswerLaws.{Runs, runs-by, all-args, roots-lost, roots-few, roots-answer}
 use native.Mathlib.Omega.{arith}
 use borrow.Author.Needs.{needs}
 use Rattle.colour_questions.proofs.rule.ask.answer_roots.Statement.{statement}
@@ -185,116 +187,74 @@ all-by-colours-requires c κs =
     all-args _ _ _ _ _ _ _ _ _ _ _ _ (s .pre) (a .set-count .result) (a .set-count .ensures .0) (a .set-count .ensures
     .1)
 
-returns : tie.Need-returns
-returns c =
-    let e = c in
-    let t = e .before .before in
-    let s = t .before .before .before .before .before .before .before .before .before .before .before .before .before
-    .before .before .before .before .before in
-    let g = s .args in (
-      roots-lost (g .n) (g .s) (g .k) (g .plan .now) (g .rules .now) (g .node-table .now) (g .state-table .now) (g
-          .numbers .now)
-          (g .bytes .now) (g .nodes .now) (g .labels .now) (g .roots .now) (s .pre)
-          (t .all-by-colours .result) (t .all-by-colours .ensures) (not-true _ (e .if1 .taken)),
-      tt,
-    )
+-- where there is a state
+abbrev start : tie.After-known-told → tie.Start
+start c =
+    let t = c .before .before .before in
+    t .before .before .before .before .before .before .before .before .before .before .before .before .before
+    .before .before .before .before .before
+
+few : (c : tie.After-known-told) → let g = start c .args in
+    let w = c .before .t .given in
+    Few (g .s) (length (g .roots .now) * 60) (w .0 .0) (w .0 .1 .0) (w .0 .1 .1 .0)
+few c =
+    let w = c .before .t .given in
+    let t = c .before .before .before in
+    let s = start c in
+    let g = s .args in
+    roots-few (g .n) (g .s) (g .k) (g .plan .now) (g .rules .now) (g .node-table .now) (g .state-table .now)
+    (g .numbers .now) (g .bytes .now) (g .nodes .now) (g .labels .now) (g .roots .now) (s .pre)
+    (t .all-by-colours .result) (t .all-by-colours .ensures) (w .0 .0) (w .0 .1 .0) (w .0 .1 .1 .0) (w .1)
 
 add-yes : tie.Need-add-yes
-add-yes c =
-    let e = c in
-    let t = e .before .before in
-    let s = t .before .before .before .before .before .before .before .before .before .before .before .before .before
-    .before .before .before .before .before in
-    let g = s .args in
-    omega (arith, runs s)
+add-yes c = omega (arith, runs (start c))
 
 mul-yes : tie.Need-mul-yes
-mul-yes c =
-    let e = c in
-    let t = e .before .before in
-    let s = t .before .before .before .before .before .before .before .before .before .before .before .before .before
-    .before .before .before .before .before in
-    let g = s .args in
-    omega (arith, runs s)
+mul-yes c = omega (arith, runs (start c))
 
 mul-yes-2 : tie.Need-mul-yes-2
-mul-yes-2 c =
-    let e = c in
-    let t = e .before .before in
-    let s = t .before .before .before .before .before .before .before .before .before .before .before .before .before
-    .before .before .before .before .before in
-    let g = s .args in
-    omega (arith, runs s)
+mul-yes-2 c = omega (arith, runs (start c))
 
 add-yes-2 : tie.Need-add-yes-2
-add-yes-2 c =
-    let e = c in
-    let t = e .before .before in
-    let s = t .before .before .before .before .before .before .before .before .before .before .before .before .before
-    .before .before .before .before .before in
-    let g = s .args in
-    omega (arith, runs s)
+add-yes-2 c = omega (arith, runs (start c))
 
 cast-yes : tie.Need-cast-yes
-cast-yes c =
-    let e = c in
-    let t = e .before .before in
-    let s = t .before .before .before .before .before .before .before .before .before .before .before .before .before
-    .before .before .before .before .before in
-    let g = s .args in
-    let l = mark-place (g .n) (g .s) (g .k) (g .plan .now) (g .rules .now) (g .node-table .now) (g .state-table .now)
-    (g .numbers .now)
-    (g .bytes .now) (g .nodes .now) (g .labels .now) (g .roots .now) (s .pre)
-    (t .all-by-colours .result) (t .all-by-colours .ensures) (not-false _ (e .if1 .left)) in
-    omega (arith, l, s .pre .states)
+cast-yes c = omega (arith, few c .state, start c .pre .states)
 
 add-yes-3 : tie.Need-add-yes-3
-add-yes-3 c =
-    let e = c in
-    let t = e .before .before in
-    let s = t .before .before .before .before .before .before .before .before .before .before .before .before .before
-    .before .before .before .before .before in
-    let g = s .args in
-    let l = mark-place (g .n) (g .s) (g .k) (g .plan .now) (g .rules .now) (g .node-table .now) (g .state-table .now)
-    (g .numbers .now)
-    (g .bytes .now) (g .nodes .now) (g .labels .now) (g .roots .now) (s .pre)
-    (t .all-by-colours .result) (t .all-by-colours .ensures) (not-false _ (e .if1 .left)) in
-    omega (arith, l, s .pre .states, runs s)
+add-yes-3 c = omega (arith, few c .state, start c .pre .states, runs (start c))
 
 shared-slice-read-yes : tie.Need-shared-slice-read-yes
 shared-slice-read-yes c =
     let e = c .before in
-    let t = e .before .before in
-    let s = t .before .before .before .before .before .before .before .before .before .before .before .before .before
-    .before .before .before .before .before in
-    let g = s .args in
-    let l = mark-place (g .n) (g .s) (g .k) (g .plan .now) (g .rules .now) (g .node-table .now) (g .state-table .now)
-    (g .numbers .now)
-    (g .bytes .now) (g .nodes .now) (g .labels .now) (g .roots .now) (s .pre)
-    (t .all-by-colours .result) (t .all-by-colours .ensures) (not-false _ (e .if1 .left)) in
-    omega (arith, l, runs s .lengths .table-is)
+    omega (arith, few e .state, runs (start e) .lengths .table-is)
 
-cast-t57 : tie.Need-cast-t57
-cast-t57 c =
-    let e = c .before in
-    let t = e .before .before in
+cast-t65 : tie.Need-cast-t65
+cast-t65 c = omega (arith, start (c .before) .pre .few)
+
+returns : tie.Need-returns
+returns c =
+    let t = c .before .before in
     let s = t .before .before .before .before .before .before .before .before .before .before .before .before .before
     .before .before .before .before .before in
-    let g = s .args in
-    omega (arith, s .pre .few)
+    let g = s .args in (
+      roots-lost (g .n) (g .s) (g .k) (g .plan .now) (g .rules .now) (g .node-table .now) (g .state-table .now)
+          (g .numbers .now) (g .bytes .now) (g .nodes .now) (g .labels .now) (g .roots .now) (s .pre)
+          (t .all-by-colours .result) (t .all-by-colours .ensures) (c .enum-told .given .1),
+      tt,
+    )
 
 returns-2 : tie.Need-returns-2
 returns-2 c =
     let e = c .before in
-    let t = e .before .before in
-    let s = t .before .before .before .before .before .before .before .before .before .before .before .before .before
-    .before .before .before .before .before in
+    let w = e .before .t .given in
+    let t = e .before .before .before in
+    let s = start e in
     let g = s .args in (
-      roots-answer (g .n) (g .s) (g .k) (g .plan .now) (g .rules .now) (g .node-table .now) (g .state-table .now) (g
-          .numbers .now)
-          (g .bytes .now) (g .nodes .now) (g .labels .now) (g .roots .now) (s .pre)
-          (t .all-by-colours .result) (t .all-by-colours .ensures) (not-false _ (e .if1 .left)),
-      (t .all-by-colours .ensures .falls, t .all-by-colours .ensures .links),
+      roots-answer (g .n) (g .s) (g .k) (g .plan .now) (g .rules .now) (g .node-table .now) (g .state-table .now)
+          (g .numbers .now) (g .bytes .now) (g .nodes .now) (g .labels .now) (g .roots .now) (s .pre)
+          (t .all-by-colours .result) (t .all-by-colours .ensures) (w .0 .0) (w .0 .1 .0) (w .0 .1 .1 .0) (w .1),
+      (few e .falls, few e .few),
     )
 
 pub answer-roots-spec : {M : Type 1} → statement M
@@ -307,5 +267,6 @@ answer-roots-spec =
     add-all-by-colours-6 sub-all-by-colours-4 part-all-by-colours-start-4 part-all-by-colours-end-4
     mul-all-by-colours-3 slice-aggregate-all-by-colours add-all-by-colours-7 mul-all-by-colours-4
     slice-aggregate-all-by-colours-2 add-all-by-colours-8 mul-all-by-colours-5 sub-all-by-colours-5
-    part-all-by-colours-start-5 part-all-by-colours-end-5 all-by-colours-requires returns add-yes mul-yes mul-yes-2
-    add-yes-2 cast-yes add-yes-3 shared-slice-read-yes cast-t57 returns-2)
+    part-all-by-colours-start-5 part-all-by-colours-end-5 all-by-colours-requires (λ c. search needs)
+    (λ c. search needs) add-yes mul-yes mul-yes-2 add-yes-2 cast-yes add-yes-3 shared-slice-read-yes cast-t65 returns
+    returns-2)

@@ -2,7 +2,6 @@
 use Prim.Native.Nat.{ℕ, _+_, _*_, _≤_, _<_}
 use native.Mathlib.Nat.{mul-le-mul}
 use lib.ListN.{length}
-use borrow.Author.Tests.{not-true, not-false}
 use Rattle.list_laws.proofs.RowLaws.{stride}
 use Rattle.colour_questions.proofs.target_states.TrialLoop.{row-in, test-uncoloured, test-lost, end-low, test-end}
 use native.Mathlib.Omega.{arith}
@@ -90,12 +89,16 @@ returns-2 c =
     test-lost (g .n) (g .m) (g .numbers .now) (g .copies .now) (g .c) (g .w) (g .q) (g .x) (s .pre)
     (p .place-of .result) (p .before .single .result) (p .before .single .ensures) (p .place-of .ensures .0) (e .if1
     .left)
-    (d .descend-from .result) (d .descend-from .ensures) (not-true _ (c .if2 .taken))
+    (d .descend-from .result) (d .descend-from .ensures) (c .enum-told .given .1)
 
-low : (c : tie.Else2) → let s = c .before .before .before .before .before .before .before .before .before in
-    c .before .before .descend-from .result .colour < s .args .m
+-- where the descent has an end
+abbrev start : tie.After-known-told → tie.Start
+start c = c .before .before .before .before .before .before .before .before .before .before
+
+low : (c : tie.After-known-told) → c .before .colour .given .0 .0 < start c .args .m
 low c =
-    let d = c .before .before in
+    let v = c .before .colour .given in
+    let d = c .before .before .before in
     let e = d .before in
     let p = e .before in
     let s = p .before .before .before .before .before in
@@ -103,27 +106,27 @@ low c =
     end-low (g .n) (g .m) (g .numbers .now) (g .copies .now) (g .c) (g .w) (g .q) (g .x) (s .pre)
     (p .place-of .result) (p .before .single .result) (p .before .single .ensures) (p .place-of .ensures .0) (e .if1
     .left)
-    (d .descend-from .result) (d .descend-from .ensures) (not-false _ (c .if2 .left))
+    (d .descend-from .result) (d .descend-from .ensures) (v .0 .0) (v .0 .1 .0) (v .0 .1 .1 .0) (v .1)
 
 mul-set : tie.Need-mul-set
 mul-set c =
-    let s = c .before .before .before .before .before .before .before .before .before in
+    let s = start c in
     omega (arith, product s (s .args .w) (s .pre .all .lower))
 
 add-set : tie.Need-add-set
 add-set c =
-    let s = c .before .before .before .before .before .before .before .before .before in
+    let s = start c in
     omega (arith, product s (s .args .w) (s .pre .all .lower), low c, s .pre .all .few)
 
 shared-slice-read-set : tie.Need-shared-slice-read-set
 shared-slice-read-set c =
-    let s = c .before .before .before .before .before .before .before .before .before .before in
+    let s = start (c .before) in
     omega (arith, inside s (s .args .w) (s .pre .all .lower), low (c .before))
 
 returns-3 : tie.Need-returns-3
 returns-3 c =
-    let e2 = c .before .before in
-    let d = e2 .before .before in
+    let v = c .before .before .before .colour .given in
+    let d = c .before .before .before .before .before in
     let e = d .before in
     let p = e .before in
     let k = p .before .before .before .before in
@@ -132,12 +135,12 @@ returns-3 c =
     test-end (g .n) (g .m) (g .numbers .now) (g .copies .now) (g .c) (g .w) (g .q) (g .x) (s .pre)
     (p .place-of .result) (p .before .single .result) (p .before .single .ensures) (p .place-of .ensures .0) (e .if1
     .left)
-    (d .descend-from .result) (d .descend-from .ensures) (not-false _ (e2 .if2 .left))
+    (d .descend-from .result) (d .descend-from .ensures) (v .0 .0) (v .0 .1 .0) (v .0 .1 .1 .0) (v .1)
     (λ i. omega (arith, k .shared-slice-known .given i)) (c .bit-of .result) (c .bit-of .ensures .0)
 
 pub try-target-spec : {M : Type 1} → statement M
 try-target-spec =
     tie.close
     (tie.spec mul-place-of mul-place-of-2 add-place-of (λ c. search needs) (λ c. search needs) part-place-of-end
-    (λ c κs. search needs) (λ c κs. search needs) returns descend-from-requires returns-2 mul-set add-set
-    shared-slice-read-set (λ c κs. search needs) returns-3)
+    (λ c κs. search needs) (λ c κs. search needs) returns descend-from-requires (λ c. search needs)
+    (λ c. search needs) mul-set add-set shared-slice-read-set (λ c κs. search needs) returns-2 returns-3)

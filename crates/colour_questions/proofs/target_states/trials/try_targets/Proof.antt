@@ -1,10 +1,10 @@
 -- `try_targets` meets its contract: at each iteration the trials left give the answer of all.
-use Prim.Native.Nat.{_-_, _<_}
-use borrow.Author.Tests.{not-true, not-false}
+use Prim.Native.Nat.{_+_, _-_, _*_, _≤_, _<_}
 use Rattle.colour_tables.specs.ColourCells.{copyRow, cellTable}
 use Rattle.colour_questions.proofs.target_states.TrialLoop.{Trying, trying-start, trying-lost, trying-found, trying-on, trying-end}
 use Rattle.colour_questions.proofs.target_states.TrialLoop.{trying-falls, trying-few}
 use native.Mathlib.Omega.{arith}
+use borrow.Author.Needs.{needs}
 use Rattle.colour_questions.proofs.target_states.trials.try_targets.Statement.{statement}
 use Rattle.colour_questions.proofs.target_states.trials.try_targets.Tie as tie
 use Rattle.colour_questions.proofs.target_states.trials.try_targets.Reads as reads
@@ -49,87 +49,81 @@ returns c =
     let g = i .before .before .before .before .args in
     trying-lost (g .s) (cellTable (g .n) (g .numbers .now)) (copyRow (g .m) (g .copies .now)) (g .c) (g .w) (g .q) (o
     .drops) (o .links) (o .x) (o .inv) (i .loop-test .taken)
-    (r .try-target .result) (r .try-target .ensures) (not-true _ (c .if1 .taken))
+    (r .try-target .result) (r .try-target .ensures) (c .enum-told .given .1)
 
-add-drops : tie.Need-add-drops Inv-loop μ-loop
-add-drops c =
+-- what the drops and links come to
+falls : (c : tie.After-known-told Inv-loop μ-loop) → let r = c .before .before .before in
+    let o = r .before .before .loop in
+    o .drops + c .before .holds .given .0 .1 .0 ≤ (o .x + 1) * 15
+falls c =
+    let v = c .before .holds .given in
     let r = c .before .before .before in
     let i = r .before in
     let o = i .before .loop in
-    let s = i .before .before .before .before in
-    let g = s .args in
-    let h : o .x < g .s = i .loop-test .taken in
-    omega (
-      arith,
-      h,
-      s .pre .states,
-      trying-falls (g .s) (cellTable (g .n) (g .numbers .now)) (copyRow (g .m) (g .copies .now)) (g .c) (g .w) (g .q)
-          (o .drops) (o .links) (o .x) (o .inv) h
-          (r .try-target .result) (r .try-target .ensures) (not-false _ (c .before .if1 .left)),
-    )
+    let g = i .before .before .before .before .args in
+    trying-falls (g .s) (cellTable (g .n) (g .numbers .now)) (copyRow (g .m) (g .copies .now)) (g .c) (g .w) (g .q)
+    (o .drops) (o .links) (o .x) (o .inv) (i .loop-test .taken)
+    (r .try-target .result) (r .try-target .ensures) (v .0 .0) (v .0 .1 .0) (v .0 .1 .1 .0) (v .1)
 
-add-links : tie.Need-add-links Inv-loop μ-loop
-add-links c =
-    let e = c .before .before in
-    let r = e .before .before in
-    let i = r .before in
-    let o = i .before .loop in
-    let s = i .before .before .before .before in
-    let g = s .args in
-    let h : o .x < g .s = i .loop-test .taken in
-    let f = not-false _ (e .if1 .left) in
-    omega (
-      arith,
-      h,
-      s .pre .states,
-      trying-falls (g .s) (cellTable (g .n) (g .numbers .now)) (copyRow (g .m) (g .copies .now)) (g .c) (g .w) (g .q)
-          (o .drops) (o .links) (o .x) (o .inv) h
-          (r .try-target .result) (r .try-target .ensures) f,
-      trying-few (g .s) (cellTable (g .n) (g .numbers .now)) (copyRow (g .m) (g .copies .now)) (g .c) (g .w) (g .q) (o
-          .drops) (o .links) (o .x) (o .inv) h
-          (r .try-target .result) (r .try-target .ensures) f,
-    )
-
-cast-t14 : tie.Need-cast-t14 Inv-loop μ-loop
-cast-t14 c =
-    let i = c .before .before .before .before .before .before in
+below : (c : tie.After-known-told Inv-loop μ-loop) → let i = c .before .before .before .before in
+    i .before .loop .x < 4
+below c =
+    let i = c .before .before .before .before in
     let s = i .before .before .before .before in
     let h : i .before .loop .x < s .args .s = i .loop-test .taken in
     omega (arith, h, s .pre .states)
 
+add-drops : tie.Need-add-drops Inv-loop μ-loop
+add-drops c = omega (arith, below c, falls c)
+
+add-links : tie.Need-add-links Inv-loop μ-loop
+add-links c =
+    let v = c .before .holds .given in
+    let r = c .before .before .before in
+    let i = r .before in
+    let o = i .before .loop in
+    let g = i .before .before .before .before .args in
+    omega (
+      arith,
+      below c,
+      falls c,
+      trying-few (g .s) (cellTable (g .n) (g .numbers .now)) (copyRow (g .m) (g .copies .now)) (g .c) (g .w) (g .q) (o
+          .drops) (o .links) (o .x) (o .inv) (i .loop-test .taken)
+          (r .try-target .result) (r .try-target .ensures) (v .0 .0) (v .0 .1 .0) (v .0 .1 .1 .0) (v .1),
+    )
+
+cast-t18 : tie.Need-cast-t18 Inv-loop μ-loop
+cast-t18 c = omega (arith, below (c .before))
+
 returns-2 : tie.Need-returns-2 Inv-loop μ-loop
 returns-2 c =
-    let e = c .before .before .before in
-    let r = e .before .before in
+    let v = c .before .before .holds .given in
+    let r = c .before .before .before .before in
     let i = r .before in
     let o = i .before .loop in
     let g = i .before .before .before .before .args in
     trying-found (g .s) (cellTable (g .n) (g .numbers .now)) (copyRow (g .m) (g .copies .now)) (g .c) (g .w) (g .q) (o
     .drops) (o .links) (o .x) (o .inv) (i .loop-test .taken)
-    (r .try-target .result) (r .try-target .ensures) (not-false _ (e .if1 .left)) (c .if2 .taken)
+    (r .try-target .result) (r .try-target .ensures) (v .0 .0) (v .0 .1 .0) (v .0 .1 .1 .0) (v .1) (c .if1 .taken)
 
 add-x : tie.Need-add-x Inv-loop μ-loop
-add-x c =
-    let i = c .before .before .before .before .before .before in
-    let s = i .before .before .before .before in
-    let h : i .before .loop .x < s .args .s = i .loop-test .taken in
-    omega (arith, h, s .pre .states)
+add-x c = omega (arith, below (c .before))
 
 loop-less : tie.Need-loop-less Inv-loop μ-loop
 loop-less c =
-    let i = c .before .before .before .before .before .before in
+    let i = c .before .before .before .before .before in
     omega (arith, i .loop-test .taken)
 
 loop-again : tie.Need-loop-again Inv-loop μ-loop
 loop-again c =
-    let e = c .before .before .before in
-    let r = e .before .before in
+    let v = c .before .before .holds .given in
+    let r = c .before .before .before .before in
     let i = r .before in
     let o = i .before .loop in
     let g = i .before .before .before .before .args in
     trying-on (g .s) (cellTable (g .n) (g .numbers .now)) (copyRow (g .m) (g .copies .now)) (g .c) (g .w) (g .q) (o
     .drops) (o .links) (o .x) (o .inv) (i .loop-test .taken)
-    (r .try-target .result) (r .try-target .ensures) (not-false _ (e .if1 .left)) (c .if2 .left)
+    (r .try-target .result) (r .try-target .ensures) (v .0 .0) (v .0 .1 .0) (v .0 .1 .1 .0) (v .1) (c .if1 .left)
 
 returns-3 : tie.Need-returns-3 Inv-loop μ-loop
 returns-3 c =
@@ -142,5 +136,5 @@ returns-3 c =
 pub try-targets-spec : {M : Type 1} → statement M
 try-targets-spec =
     tie.close
-    (tie.spec Inv-loop μ-loop loop-holds try-target-requires returns add-drops add-links cast-t14 returns-2 add-x
-    loop-less loop-again returns-3)
+    (tie.spec Inv-loop μ-loop loop-holds try-target-requires (λ c. search needs) returns (λ c. search needs) add-drops
+    add-links cast-t18 returns-2 add-x loop-less loop-again returns-3)
