@@ -23,8 +23,8 @@ use contract.Running.{givenOf, tables, tablesOf}
 use types.Kit.{Given, Item, ‵, raw, _⊛_, ⋆, some, later, _$_, _∵_, !, qed, by, move, keep, drop, use1, use2, use3}
 use types.Kit.{split, join, pick, rewrite, fsplit, fjoin, feqL, frame, await, done}
 use types.Part.{agg}
-use types.Run.{look, init, forget, stop, from, load, lit, of-opd, addr, and-then, no-more, land, assigns, returns}
-use types.Run.{enter, alloc1, alloc0, params1, pass1, pass0, free1, free0}
+use types.Run.{look, init, stop, from, load, lit, of-opd, addr, and-then, no-more, land, assigns, returns, enter}
+use types.Run.{alloc1, alloc0, params1, pass1, pass0, free0}
 use types.Tokens.{lft-new, lft-end}
 use sound.WpLaws.{FmC, fmOf, WpFn-mono}
 use borrow.Table.OneValue.{part-in-at, part-out-at}
@@ -173,17 +173,13 @@ module _ {M : Type 1} (𝓤 : URA M) (H : Heap 𝓤) (A : Atoms 𝓤) (W : Given
         .0) u k) .0)) $ assigns ! (agg ! (and-then ! (load ! (from ! (stop !)) (look ! 9 refl)) (and-then ! (load !
         (from ! (stop !)) (look ! 3 refl)) (no-more !)))) (from ! (stop !)) (init ! 24 refl (LL.lawful O.the-type
         O′.the-laws 𝓤 H A W .typed (result r (ws .0)) _ (result-is r (ws .0) (same-answer r v is) (same-run (ws .0) u
-        k)) .0)) $ returns ! (look ! 24 refl) $ forget ! 3 refl $ forget ! 5 refl $ forget ! 7 refl $
-        forget ! 9 refl $ forget ! 0 refl $ forget ! 12 refl $ forget ! 14 refl $ forget ! 16 refl $
-        forget ! 18 refl $ forget ! 20 refl $ forget ! 22 refl $ forget ! 24 refl $ move ! (24 ∷ 25 ∷ []) $ free1 ! $
-        move ! (22 ∷ 23 ∷ []) $ free1 ! $ move ! (20 ∷ 21 ∷ []) $ free1 ! $ move ! (18 ∷ 19 ∷ []) $ free1 ! $
-        move ! (16 ∷ 17 ∷ []) $ free1 ! $ move ! (14 ∷ 15 ∷ []) $ free1 ! $ move ! (12 ∷ 13 ∷ []) $ free1 ! $
-        move ! (0 ∷ 11 ∷ []) $ free1 ! $ move ! (8 ∷ 9 ∷ []) $ free1 ! $ move ! (6 ∷ 7 ∷ []) $ free1 ! $
-        move ! (4 ∷ 5 ∷ []) $ free1 ! $ move ! (2 ∷ 3 ∷ []) $ free1 ! $ free0 ! $
-        owned ! O.the-row (Is O.the-row) (LL.makes O.the-type O′.the-plain 𝓤 H A) (result r (ws .0)) _ (result-is r
-        (ws .0) (same-answer r v is) (same-run (ws .0) u k)) $ move ! (2 ∷ []) $ nothing ! $ fjoin ! $
-        keep ! (2 ∷ 0 ∷ 1 ∷ []) $ by ! (exits lends O.the-row 𝓤 H A Promised κs qs a (result r (ws .0)) (tt, ws .1) _
-        W e)))))))))))))))))))))))
+        k)) .0)) $ returns ! (look ! 24 refl) $ gone ! 24 24 refl refl $ gone ! 22 22 refl refl $
+        gone ! 20 20 refl refl $ gone ! 18 18 refl refl $ gone ! 16 16 refl refl $ gone ! 14 14 refl refl $
+        gone ! 12 12 refl refl $ gone ! 0 10 refl refl $ gone ! 8 8 refl refl $ gone ! 6 6 refl refl $
+        gone ! 4 4 refl refl $ gone ! 2 2 refl refl $ free0 ! $ owned ! O.the-row (Is O.the-row) (LL.makes O.the-type
+        O′.the-plain 𝓤 H A) (result r (ws .0)) _ (result-is r (ws .0) (same-answer r v is) (same-run (ws .0) u k)) $
+        move ! (2 ∷ []) $ nothing ! $ fjoin ! $ keep ! (2 ∷ 0 ∷ 1 ∷ []) $ by ! (exits lends O.the-row 𝓤 H A Promised
+        κs qs a (result r (ws .0)) (tt, ws .1) _ W e)))))))))))))))))))))))
 
 pub deal-on-spec : {M : Type 1} → stated.statement M
 unfolding code.routine tablesOf

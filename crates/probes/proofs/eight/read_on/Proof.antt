@@ -21,8 +21,8 @@ use contract.Running.{givenOf, tables, tablesOf}
 use types.Kit.{Given, Item, ‵, raw, _⊛_, ⋆, some, later, _$_, _∵_, !, qed, by, move, keep, drop, use1, use2, use3}
 use types.Kit.{split, join, pick, fsplit, fjoin, frame, await, done}
 use types.Part.{agg}
-use types.Run.{look, init, forget, stop, from, load, lit, of-opd, addr, and-then, no-more, land, assigns, returns}
-use types.Run.{enter, alloc1, alloc0, params1, pass1, pass0, free1, free0}
+use types.Run.{look, init, stop, from, load, lit, of-opd, addr, and-then, no-more, land, assigns, returns, enter}
+use types.Run.{alloc1, alloc0, params1, pass1, pass0, free0}
 use types.Tokens.{lft-new, lft-end, lent-back}
 use sound.WpLaws.{FmC, fmOf, WpFn-mono}
 use borrow.Table.OneValue.{part-in-at, part-out-at}
@@ -137,13 +137,11 @@ module _ {M : Type 1} (𝓤 : URA M) (H : Heap 𝓤) (A : Atoms 𝓤) (W : Given
         split ! $ lft-end ! tt $ move ! (0 ∷ 4 ∷ []) $ lent-back ! tt $ use1 W (‵ (partAt Eight fullShare (a .0) l₃
         0)) (run-again 𝓤 H A W (α ∷ []) (a .0) l₃) $ use1 W (some (λ (u : Val). ‵ (fat fullShare (tyArray T′.mir 8) l₃
         0 u) ⊛ ‵ (Eight .own (a .0) (u ∷ [])))) (part-out-at 𝓤 H A W Eight refl fullShare (a .0) l₃ 0 (tyArray T′.mir
-        8) refl) $ pick ! (λ u. split ! $ returns ! (look ! 14 refl) $ forget ! 5 refl $ forget ! 7 refl $
-        forget ! 0 refl $ forget ! 10 refl $ forget ! 12 refl $ forget ! 14 refl $ move ! (14 ∷ 15 ∷ []) $ free1 ! $
-        move ! (12 ∷ 13 ∷ []) $ free1 ! $ move ! (10 ∷ 11 ∷ []) $ free1 ! $ move ! (0 ∷ 9 ∷ []) $ free1 ! $
-        move ! (6 ∷ 7 ∷ []) $ free1 ! $ move ! (4 ∷ 5 ∷ []) $ free1 ! $ free0 ! $
-        owned ! E.the-row (Is E.the-row) (EL.makes E.the-type E′.the-plain 𝓤 H A) r _ is $ move ! (4 ∷ []) $
-        nothing ! $ fjoin ! $ keep ! (3 ∷ 0 ∷ 1 ∷ []) $ by ! (exits lends E.the-row 𝓤 H A Promised κs qs a r
-        (tt, ws .1) v W e)))))))))))))))
+        8) refl) $ pick ! (λ u. split ! $ returns ! (look ! 14 refl) $ gone ! 14 14 refl refl $
+        gone ! 12 12 refl refl $ gone ! 10 10 refl refl $ gone ! 0 8 refl refl $ gone ! 6 6 refl refl $
+        gone ! 4 4 refl refl $ free0 ! $ owned ! E.the-row (Is E.the-row) (EL.makes E.the-type E′.the-plain 𝓤 H A) r _
+        is $ move ! (4 ∷ []) $ nothing ! $ fjoin ! $ keep ! (3 ∷ 0 ∷ 1 ∷ []) $ by ! (exits lends E.the-row 𝓤 H A
+        Promised κs qs a r (tt, ws .1) v W e)))))))))))))))
 
 pub read-on-spec : {M : Type 1} → stated.statement M
 unfolding code.routine tablesOf

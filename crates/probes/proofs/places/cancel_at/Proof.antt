@@ -22,8 +22,8 @@ use contract.Running.{givenOf, tables, tablesOf}
 use types.Kit.{Given, Item, ‵, raw, _⊛_, ⋆, some, later, _$_, _∵_, !, qed, by, move, keep, drop, use1, use2, use3}
 use types.Kit.{split, join, pick, rewrite, fsplit, fjoin, frame, await, done}
 use types.Part.{agg}
-use types.Run.{look, init, forget, stop, from, load, of-opd, addr, and-then, no-more, land, assigns, returns, enter}
-use types.Run.{alloc1, alloc0, params1, pass1, pass0, free1, free0}
+use types.Run.{look, init, stop, from, load, of-opd, addr, and-then, no-more, land, assigns, returns, enter, alloc1}
+use types.Run.{alloc0, params1, pass1, pass0, free0}
 use types.SemTy.{Body}
 use types.Tokens.{lft-new, lft-end}
 use sound.WpLaws.{FmC, fmOf, WpFn-mono}
@@ -159,13 +159,11 @@ module _ {M : Type 1} (𝓤 : URA M) (H : Heap 𝓤) (A : Atoms 𝓤) (W : Given
         assigns ! (agg ! (and-then ! (load ! (from ! (stop !)) (look ! 7 refl)) (and-then ! (load ! (from ! (stop !))
         (look ! 3 refl)) (no-more !)))) (from ! (stop !)) (init ! 12 refl (LL.lawful O.the-type O′.the-laws 𝓤 H A W
         .typed (result r (ws .0)) _ (result-is r (ws .0) (same-answer r v is) (same-record (ws .0) u k)) .0)) $
-        returns ! (look ! 12 refl) $ forget ! 3 refl $ forget ! 5 refl $ forget ! 7 refl $ forget ! 0 refl $
-        forget ! 10 refl $ forget ! 12 refl $ move ! (12 ∷ 13 ∷ []) $ free1 ! $ move ! (10 ∷ 11 ∷ []) $ free1 ! $
-        move ! (0 ∷ 9 ∷ []) $ free1 ! $ move ! (6 ∷ 7 ∷ []) $ free1 ! $ move ! (4 ∷ 5 ∷ []) $ free1 ! $
-        move ! (2 ∷ 3 ∷ []) $ free1 ! $ free0 ! $ owned ! O.the-row (Is O.the-row) (LL.makes O.the-type O′.the-plain 𝓤
-        H A) (result r (ws .0)) _ (result-is r (ws .0) (same-answer r v is) (same-record (ws .0) u k)) $
-        keep ! (1 ∷ 2 ∷ 0 ∷ []) $ by ! (exits lends O.the-row 𝓤 H A Promised κs qs a (result r (ws .0)) (ws .1) _ W
-        e)))))))))))))))))
+        returns ! (look ! 12 refl) $ gone ! 12 12 refl refl $ gone ! 10 10 refl refl $ gone ! 0 8 refl refl $
+        gone ! 6 6 refl refl $ gone ! 4 4 refl refl $ gone ! 2 2 refl refl $ free0 ! $
+        owned ! O.the-row (Is O.the-row) (LL.makes O.the-type O′.the-plain 𝓤 H A) (result r (ws .0)) _ (result-is r
+        (ws .0) (same-answer r v is) (same-record (ws .0) u k)) $ keep ! (1 ∷ 2 ∷ 0 ∷ []) $
+        by ! (exits lends O.the-row 𝓤 H A Promised κs qs a (result r (ws .0)) (ws .1) _ W e)))))))))))))))))
 
 pub cancel-at-spec : {M : Type 1} → stated.statement M
 unfolding code.routine tablesOf

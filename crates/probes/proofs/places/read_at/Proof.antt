@@ -19,8 +19,8 @@ use contract.Monad.{Fun, fact}
 use contract.Running.{givenOf, tables, tablesOf}
 use types.Kit.{Given, Item, ‵, raw, _⊛_, ⋆, some, later, _$_, _∵_, !, qed, by, move, keep, drop, use1, use2, split}
 use types.Kit.{join, pick, fsplit, frame, await, done}
-use types.Run.{look, init, forget, stop, from, load, of-opd, addr, and-then, no-more, land, assigns, returns, enter}
-use types.Run.{alloc1, alloc0, params1, pass1, pass0, free1, free0}
+use types.Run.{look, init, stop, from, load, of-opd, addr, and-then, no-more, land, assigns, returns, enter, alloc1}
+use types.Run.{alloc0, params1, pass1, pass0, free0}
 use types.Tokens.{lft-new, lft-end, lent-back}
 use sound.WpLaws.{FmC, fmOf, WpFn-mono}
 use borrow.Table.OneValue.{part-in-at, part-out-at}
@@ -125,8 +125,7 @@ module _ {M : Type 1} (𝓤 : URA M) (H : Heap 𝓤) (A : Atoms 𝓤) (W : Given
         _ is .0)) $ move ! (1 ∷ []) $ split ! $ lft-end ! tt $ move ! (0 ∷ 3 ∷ []) $ lent-back ! tt $
         use1 W (some (λ (u : Val). ‵ (fat fullShare T′.mir l₂ 0 u) ⊛ ‵ (T.the-row .own (a .0) (u ∷ [])))) (part-out-at
         𝓤 H A W T.the-row refl fullShare (a .0) l₂ 0 T′.mir refl) $ pick ! (λ u. split ! $ returns ! (look ! 9 refl) $
-        forget ! 4 refl $ forget ! 0 refl $ forget ! 7 refl $ forget ! 9 refl $ move ! (9 ∷ 10 ∷ []) $ free1 ! $
-        move ! (7 ∷ 8 ∷ []) $ free1 ! $ move ! (0 ∷ 6 ∷ []) $ free1 ! $ move ! (3 ∷ 4 ∷ []) $ free1 ! $ free0 ! $
+        gone ! 9 9 refl refl $ gone ! 7 7 refl refl $ gone ! 0 5 refl refl $ gone ! 3 3 refl refl $ free0 ! $
         keep ! (4 ∷ 3 ∷ 2 ∷ []) $ by ! (exits lends E.the-row 𝓤 H A Promised κs qs a r tt v W e)))))))))))))
 
 pub read-at-spec : {M : Type 1} → stated.statement M

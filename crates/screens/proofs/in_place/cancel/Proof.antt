@@ -24,9 +24,8 @@ use contract.Running.{givenOf, tables, tablesOf}
 use types.Kit.{Given, Item, ‵, raw, _⊛_, ⋆, some, later, _$_, _∵_, !, qed, by, move, keep, drop, use1, use3, split}
 use types.Kit.{join, pick, rewrite, fsplit, fjoin, frame, await, done}
 use types.Part.{whole, sub, look-in, agg}
-use types.Run.{look, look-raw, init, store, store-raw, forget, stop, hop, fld, from, load, lit, of-opd, bin, and-then}
-use types.Run.{no-more, land, assigns, returns, enter, alloc1, alloc0, params1, pass1, pass0, free1, free0}
-use types.Run.{returns-within}
+use types.Run.{look, look-raw, init, store, store-raw, stop, hop, fld, from, load, lit, of-opd, bin, and-then, no-more}
+use types.Run.{land, assigns, returns, enter, alloc1, alloc0, params1, pass1, pass0, free1, free0, returns-within}
 use sound.WpLaws.{FmC, fmOf, WpFn-mono}
 use denote.RattleType.{owns, flat}
 use denote.Laws.{Is, shows}
@@ -141,26 +140,23 @@ module _ {M : Type 1} (𝓤 : URA M) (H : Heap 𝓤) (A : Atoms 𝓤) (W : Given
         (from ! (stop !)) (init ! 6 refl (tt, tt)) $ unless ! (load ! (from ! (stop !)) (look ! 6 refl)) (λ other.
         assigns ! (agg ! (and-then ! (lit ! tt) (and-then ! (lit ! tt) (no-more !)))) (from ! (stop !)) (init ! 18
         refl (EL.lawful D.the-type D′.the-laws 𝓤 H A W tt .typed (Refused 25) _ refused-is-25 .0)) $
-        returns-within ! (Post lends D.the-row 𝓤 H A Promised κs qs a) refl (look ! 18 refl) $ forget ! 6 refl $
-        forget ! 8 refl $ forget ! 14 refl $ forget ! 16 refl $ forget ! 18 refl $ move ! (18 ∷ 19 ∷ []) $ free1 ! $
-        move ! (16 ∷ 17 ∷ []) $ free1 ! $ move ! (14 ∷ 15 ∷ []) $ free1 ! $ move ! (12 ∷ 13 ∷ []) $ free1 ! $
-        move ! (10 ∷ 11 ∷ []) $ free1 ! $ move ! (8 ∷ 9 ∷ []) $ free1 ! $ move ! (6 ∷ 7 ∷ []) $ free1 ! $
-        move ! (4 ∷ 5 ∷ []) $ free1 ! $ move ! (2 ∷ 3 ∷ []) $ free1 ! $ move ! (0 ∷ 1 ∷ []) $ free1 ! $ free0 ! $
-        move ! (3 ∷ []) $ drop ! $ nothing ! $ owned ! D.the-row (Is D.the-row) (EL.makes D.the-type D′.the-plain 𝓤 H
-        A) (Refused 25) _ refused-is-25 $ keep ! (2 ∷ 3 ∷ 4 ∷ 5 ∷ 1 ∷ 0 ∷ []) $
-        by ! (exits lends D.the-row 𝓤 H A Promised κs qs a (Refused 25) (now (a .0)) tt _ W room fits refl (none-told
-        (now (a .0)) (screens.cancelOn (a .1 .0)) (not-eight (now (a .0)) other)))) (λ same. let eight = is-eight (now
-        (a .0)) same in assigns ! (bin ! (lit ! tt) (load ! (from ! (stop !)) (look ! 14 refl)) tt) (from ! (stop !))
-        (store ! 6 refl (tt, tt)) $ unless ! (load ! (from ! (stop !)) (look ! 6 refl)) (λ beyond. assigns ! (agg !
-        (and-then ! (lit ! tt) (and-then ! (lit ! tt) (no-more !)))) (from ! (stop !)) (init ! 18 refl (EL.lawful
-        D.the-type D′.the-laws 𝓤 H A W tt .typed (Refused 25) _ refused-is-25 .0)) $
-        returns-within ! (Post lends D.the-row 𝓤 H A Promised κs qs a) refl (look ! 18 refl) $ forget ! 6 refl $
-        forget ! 8 refl $ forget ! 14 refl $ forget ! 16 refl $ forget ! 18 refl $ move ! (18 ∷ 19 ∷ []) $ free1 ! $
-        move ! (16 ∷ 17 ∷ []) $ free1 ! $ move ! (14 ∷ 15 ∷ []) $ free1 ! $ move ! (12 ∷ 13 ∷ []) $ free1 ! $
-        move ! (10 ∷ 11 ∷ []) $ free1 ! $ move ! (8 ∷ 9 ∷ []) $ free1 ! $ move ! (6 ∷ 7 ∷ []) $ free1 ! $
-        move ! (4 ∷ 5 ∷ []) $ free1 ! $ move ! (2 ∷ 3 ∷ []) $ free1 ! $ move ! (0 ∷ 1 ∷ []) $ free1 ! $ free0 ! $
-        move ! (3 ∷ []) $ drop ! $ nothing ! $ owned ! D.the-row (Is D.the-row) (EL.makes D.the-type D′.the-plain 𝓤 H
-        A) (Refused 25) _ refused-is-25 $ keep ! (2 ∷ 3 ∷ 4 ∷ 5 ∷ 1 ∷ 0 ∷ []) $
+        returns-within ! (Post lends D.the-row 𝓤 H A Promised κs qs a) refl (look ! 18 refl) $
+        gone ! 18 18 refl refl $ gone ! 16 16 refl refl $ gone ! 14 14 refl refl $ move ! (12 ∷ 13 ∷ []) $ free1 ! $
+        move ! (10 ∷ 11 ∷ []) $ free1 ! $ gone ! 8 8 refl refl $ gone ! 6 6 refl refl $ move ! (4 ∷ 5 ∷ []) $
+        free1 ! $ move ! (2 ∷ 3 ∷ []) $ free1 ! $ move ! (0 ∷ 1 ∷ []) $ free1 ! $ free0 ! $ move ! (3 ∷ []) $ drop ! $
+        nothing ! $ owned ! D.the-row (Is D.the-row) (EL.makes D.the-type D′.the-plain 𝓤 H A) (Refused 25) _
+        refused-is-25 $ keep ! (2 ∷ 3 ∷ 4 ∷ 5 ∷ 1 ∷ 0 ∷ []) $ by ! (exits lends D.the-row 𝓤 H A Promised κs qs a
+        (Refused 25) (now (a .0)) tt _ W room fits refl (none-told (now (a .0)) (screens.cancelOn (a .1 .0))
+        (not-eight (now (a .0)) other)))) (λ same. let eight = is-eight (now (a .0)) same in assigns ! (bin ! (lit !
+        tt) (load ! (from ! (stop !)) (look ! 14 refl)) tt) (from ! (stop !)) (store ! 6 refl (tt, tt)) $
+        unless ! (load ! (from ! (stop !)) (look ! 6 refl)) (λ beyond. assigns ! (agg ! (and-then ! (lit ! tt)
+        (and-then ! (lit ! tt) (no-more !)))) (from ! (stop !)) (init ! 18 refl (EL.lawful D.the-type D′.the-laws 𝓤 H
+        A W tt .typed (Refused 25) _ refused-is-25 .0)) $ returns-within ! (Post lends D.the-row 𝓤 H A Promised κs qs
+        a) refl (look ! 18 refl) $ gone ! 18 18 refl refl $ gone ! 16 16 refl refl $ gone ! 14 14 refl refl $
+        move ! (12 ∷ 13 ∷ []) $ free1 ! $ move ! (10 ∷ 11 ∷ []) $ free1 ! $ gone ! 8 8 refl refl $
+        gone ! 6 6 refl refl $ move ! (4 ∷ 5 ∷ []) $ free1 ! $ move ! (2 ∷ 3 ∷ []) $ free1 ! $ move ! (0 ∷ 1 ∷ []) $
+        free1 ! $ free0 ! $ move ! (3 ∷ []) $ drop ! $ nothing ! $ owned ! D.the-row (Is D.the-row) (EL.makes
+        D.the-type D′.the-plain 𝓤 H A) (Refused 25) _ refused-is-25 $ keep ! (2 ∷ 3 ∷ 4 ∷ 5 ∷ 1 ∷ 0 ∷ []) $
         by ! (exits lends D.the-row 𝓤 H A Promised κs qs a (Refused 25) (now (a .0)) tt _ W room fits refl
         (beyond-told (now (a .0)) (screens.cancelOn (a .1 .0)) (a .1 .0) calls.cancel (names-cancel (now (a .0)) (a .1
         .0)) eight (ltb→lt 7 (a .1 .0) beyond)))) (λ below. let inside = nltb→le 7 (a .1 .0) below in move ! (20 ∷ 21
@@ -199,17 +195,14 @@ module _ {M : Type 1} (𝓤 : URA M) (H : Heap 𝓤) (A : Atoms 𝓤) (W : Given
         elem-put ! T.the-row fullShare (now (a .0)) (a .1 .0) (r .session) (vals (r .session)) (ptr (a .0) .0) (ptr (a
         .0) .1) (has (now (a .0)) (a .1 .0) eight inside) $ move ! (0 ∷ 3 ∷ 4 ∷ 5 ∷ []) $
         closes-slice ! tt T.the-row (now (a .0)) (set (now (a .0)) (a .1 .0) (r .session)) (length-set (now (a .0)) (a
-        .1 .0) (r .session)) (ptr (a .0) .0) (ptr (a .0) .1) $ returns ! (look ! 23 refl) $ forget ! 5 refl $
-        forget ! 7 refl $ forget ! 9 refl $ forget ! 11 refl $ forget ! 13 refl $ forget ! 15 refl $
-        forget ! 17 refl $ forget ! 19 refl $ forget ! 21 refl $ forget ! 23 refl $ move ! (23 ∷ 24 ∷ []) $ free1 ! $
-        move ! (21 ∷ 22 ∷ []) $ free1 ! $ move ! (19 ∷ 20 ∷ []) $ free1 ! $ move ! (17 ∷ 18 ∷ []) $ free1 ! $
-        move ! (15 ∷ 16 ∷ []) $ free1 ! $ move ! (13 ∷ 14 ∷ []) $ free1 ! $ move ! (11 ∷ 12 ∷ []) $ free1 ! $
-        move ! (9 ∷ 10 ∷ []) $ free1 ! $ move ! (7 ∷ 8 ∷ []) $ free1 ! $ move ! (5 ∷ 6 ∷ []) $ free1 ! $ free0 ! $
-        owned ! D.the-row (Is D.the-row) (EL.makes D.the-type D′.the-plain 𝓤 H A) (r .answer) _ (answer-is r v is) $
-        keep ! (1 ∷ 2 ∷ 3 ∷ 4 ∷ 5 ∷ 0 ∷ []) $ by ! (exits lends D.the-row 𝓤 H A Promised κs qs a (r .answer) (set (now
-        (a .0)) (a .1 .0) (r .session)) (ws .1) _ W room fits (length-set (now (a .0)) (a .1 .0) (r .session))
-        (to-screen (now (a .0)) (screens.cancelOn (a .1 .0)) (a .1 .0) calls.cancel (names-cancel (now (a .0)) (a .1
-        .0)) _ (r .session) eight inside e))))))))))))))))))))
+        .1 .0) (r .session)) (ptr (a .0) .0) (ptr (a .0) .1) $ returns ! (look ! 23 refl) $ gone ! 23 23 refl refl $
+        gone ! 21 21 refl refl $ gone ! 19 19 refl refl $ gone ! 17 17 refl refl $ gone ! 15 15 refl refl $
+        gone ! 13 13 refl refl $ gone ! 11 11 refl refl $ gone ! 9 9 refl refl $ gone ! 7 7 refl refl $
+        gone ! 5 5 refl refl $ free0 ! $ owned ! D.the-row (Is D.the-row) (EL.makes D.the-type D′.the-plain 𝓤 H A) (r
+        .answer) _ (answer-is r v is) $ keep ! (1 ∷ 2 ∷ 3 ∷ 4 ∷ 5 ∷ 0 ∷ []) $ by ! (exits lends D.the-row 𝓤 H A
+        Promised κs qs a (r .answer) (set (now (a .0)) (a .1 .0) (r .session)) (ws .1) _ W room fits (length-set (now
+        (a .0)) (a .1 .0) (r .session)) (to-screen (now (a .0)) (screens.cancelOn (a .1 .0)) (a .1 .0) calls.cancel
+        (names-cancel (now (a .0)) (a .1 .0)) _ (r .session) eight inside e))))))))))))))))))))
 
 pub cancel-spec : {M : Type 1} → stated.statement M
 unfolding code.routine tablesOf

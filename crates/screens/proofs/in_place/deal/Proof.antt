@@ -24,9 +24,8 @@ use contract.Running.{givenOf, tables, tablesOf}
 use types.Kit.{Given, Item, ‵, raw, _⊛_, ⋆, some, later, _$_, _∵_, !, qed, by, move, keep, drop, use0, use1, use3}
 use types.Kit.{split, join, pick, rewrite, fsplit, fjoin, frame, await, done}
 use types.Part.{whole, sub, look-in, agg}
-use types.Run.{look, look-raw, init, store, store-raw, forget, stop, hop, fld, from, load, lit, of-opd, bin, and-then}
-use types.Run.{no-more, land, assigns, returns, enter, alloc1, alloc0, params1, pass1, pass0, free1, free0}
-use types.Run.{returns-within}
+use types.Run.{look, look-raw, init, store, store-raw, stop, hop, fld, from, load, lit, of-opd, bin, and-then, no-more}
+use types.Run.{land, assigns, returns, enter, alloc1, alloc0, params1, pass1, pass0, free1, free0, returns-within}
 use sound.WpLaws.{FmC, fmOf, WpFn-mono}
 use denote.RattleType.{owns, flat}
 use denote.Laws.{Is, shows}
@@ -247,48 +246,43 @@ module _ {M : Type 1} (𝓤 : URA M) (H : Heap 𝓤) (A : Atoms 𝓤) (W : Given
         unless ! (load ! (from ! (stop !)) (look ! 38 refl)) (λ other. assigns ! (agg ! (and-then ! (lit ! tt)
         (and-then ! (lit ! tt) (no-more !)))) (from ! (stop !)) (init ! 60 refl (EL.lawful D.the-type D′.the-laws 𝓤 H
         A W tt .typed (Refused 25) _ refused-is-25 .0)) $ returns-within ! (Post lends D.the-row 𝓤 H A Promised κs qs
-        a) refl (look ! 60 refl) $ forget ! 38 refl $ forget ! 40 refl $ forget ! 48 refl $ forget ! 50 refl $
-        forget ! 52 refl $ forget ! 54 refl $ forget ! 56 refl $ forget ! 58 refl $ forget ! 60 refl $
-        move ! (60 ∷ 61 ∷ []) $ free1 ! $ move ! (58 ∷ 59 ∷ []) $ free1 ! $ move ! (56 ∷ 57 ∷ []) $ free1 ! $
-        move ! (54 ∷ 55 ∷ []) $ free1 ! $ move ! (52 ∷ 53 ∷ []) $ free1 ! $ move ! (50 ∷ 51 ∷ []) $ free1 ! $
-        move ! (48 ∷ 49 ∷ []) $ free1 ! $ move ! (46 ∷ 47 ∷ []) $ free1 ! $ move ! (44 ∷ 45 ∷ []) $ free1 ! $
-        move ! (42 ∷ 43 ∷ []) $ free1 ! $ move ! (40 ∷ 41 ∷ []) $ free1 ! $ move ! (38 ∷ 39 ∷ []) $ free1 ! $
-        move ! (36 ∷ 37 ∷ []) $ free1 ! $ move ! (34 ∷ 35 ∷ []) $ free1 ! $ move ! (32 ∷ 33 ∷ []) $ free1 ! $
-        move ! (30 ∷ 31 ∷ []) $ free1 ! $ move ! (28 ∷ 29 ∷ []) $ free1 ! $ move ! (26 ∷ 27 ∷ []) $ free1 ! $
-        move ! (24 ∷ 25 ∷ []) $ free1 ! $ move ! (22 ∷ 23 ∷ []) $ free1 ! $ move ! (20 ∷ 21 ∷ []) $ free1 ! $
-        move ! (18 ∷ 19 ∷ []) $ free1 ! $ move ! (16 ∷ 17 ∷ []) $ free1 ! $ move ! (14 ∷ 15 ∷ []) $ free1 ! $
-        move ! (12 ∷ 13 ∷ []) $ free1 ! $ move ! (10 ∷ 11 ∷ []) $ free1 ! $ move ! (8 ∷ 9 ∷ []) $ free1 ! $
-        move ! (6 ∷ 7 ∷ []) $ free1 ! $ move ! (4 ∷ 5 ∷ []) $ free1 ! $ move ! (2 ∷ 3 ∷ []) $ free1 ! $
-        move ! (0 ∷ 1 ∷ []) $ free1 ! $ free0 ! $ move ! (3 ∷ []) $ drop ! $ nothing ! $ nothing ! $ fjoin ! $
-        nothing ! $ fjoin ! $ nothing ! $ fjoin ! $ nothing ! $ fjoin ! $ owned ! D.the-row (Is D.the-row) (EL.makes
-        D.the-type D′.the-plain 𝓤 H A) (Refused 25) _ refused-is-25 $ keep ! (2 ∷ 3 ∷ 4 ∷ 5 ∷ 1 ∷ 0 ∷ []) $
-        by ! (exits lends D.the-row 𝓤 H A Promised κs qs a (Refused 25) (now (a .0)) (tt, (tt, (tt, (tt, tt)))) _ W
-        room fits refl (none-told (now (a .0)) (screens.deal (a .1 .0) (inputsOf (now (a .1 .1 .0)) (now (a .1 .1 .1
-        .0)) (now (a .1 .1 .1 .1 .0)) (now (a .1 .1 .1 .1 .1 .0)))) (not-eight (now (a .0)) other)))) (λ same. let
-        eight = is-eight (now (a .0)) same in assigns ! (bin ! (lit ! tt) (load ! (from ! (stop !)) (look ! 56 refl))
-        tt) (from ! (stop !)) (store ! 38 refl (tt, tt)) $ unless ! (load ! (from ! (stop !)) (look ! 38 refl)) (λ
-        beyond. assigns ! (agg ! (and-then ! (lit ! tt) (and-then ! (lit ! tt) (no-more !)))) (from ! (stop !)) (init
-        ! 60 refl (EL.lawful D.the-type D′.the-laws 𝓤 H A W tt .typed (Refused 25) _ refused-is-25 .0)) $
-        returns-within ! (Post lends D.the-row 𝓤 H A Promised κs qs a) refl (look ! 60 refl) $ forget ! 38 refl $
-        forget ! 40 refl $ forget ! 48 refl $ forget ! 50 refl $ forget ! 52 refl $ forget ! 54 refl $
-        forget ! 56 refl $ forget ! 58 refl $ forget ! 60 refl $ move ! (60 ∷ 61 ∷ []) $ free1 ! $
-        move ! (58 ∷ 59 ∷ []) $ free1 ! $ move ! (56 ∷ 57 ∷ []) $ free1 ! $ move ! (54 ∷ 55 ∷ []) $ free1 ! $
-        move ! (52 ∷ 53 ∷ []) $ free1 ! $ move ! (50 ∷ 51 ∷ []) $ free1 ! $ move ! (48 ∷ 49 ∷ []) $ free1 ! $
+        a) refl (look ! 60 refl) $ gone ! 60 60 refl refl $ gone ! 58 58 refl refl $ gone ! 56 56 refl refl $
+        gone ! 54 54 refl refl $ gone ! 52 52 refl refl $ gone ! 50 50 refl refl $ gone ! 48 48 refl refl $
         move ! (46 ∷ 47 ∷ []) $ free1 ! $ move ! (44 ∷ 45 ∷ []) $ free1 ! $ move ! (42 ∷ 43 ∷ []) $ free1 ! $
-        move ! (40 ∷ 41 ∷ []) $ free1 ! $ move ! (38 ∷ 39 ∷ []) $ free1 ! $ move ! (36 ∷ 37 ∷ []) $ free1 ! $
-        move ! (34 ∷ 35 ∷ []) $ free1 ! $ move ! (32 ∷ 33 ∷ []) $ free1 ! $ move ! (30 ∷ 31 ∷ []) $ free1 ! $
-        move ! (28 ∷ 29 ∷ []) $ free1 ! $ move ! (26 ∷ 27 ∷ []) $ free1 ! $ move ! (24 ∷ 25 ∷ []) $ free1 ! $
-        move ! (22 ∷ 23 ∷ []) $ free1 ! $ move ! (20 ∷ 21 ∷ []) $ free1 ! $ move ! (18 ∷ 19 ∷ []) $ free1 ! $
-        move ! (16 ∷ 17 ∷ []) $ free1 ! $ move ! (14 ∷ 15 ∷ []) $ free1 ! $ move ! (12 ∷ 13 ∷ []) $ free1 ! $
-        move ! (10 ∷ 11 ∷ []) $ free1 ! $ move ! (8 ∷ 9 ∷ []) $ free1 ! $ move ! (6 ∷ 7 ∷ []) $ free1 ! $
-        move ! (4 ∷ 5 ∷ []) $ free1 ! $ move ! (2 ∷ 3 ∷ []) $ free1 ! $ move ! (0 ∷ 1 ∷ []) $ free1 ! $ free0 ! $
-        move ! (3 ∷ []) $ drop ! $ nothing ! $ nothing ! $ fjoin ! $ nothing ! $ fjoin ! $ nothing ! $ fjoin ! $
-        nothing ! $ fjoin ! $ owned ! D.the-row (Is D.the-row) (EL.makes D.the-type D′.the-plain 𝓤 H A) (Refused 25) _
-        refused-is-25 $ keep ! (2 ∷ 3 ∷ 4 ∷ 5 ∷ 1 ∷ 0 ∷ []) $ by ! (exits lends D.the-row 𝓤 H A Promised κs qs a
-        (Refused 25) (now (a .0)) (tt, (tt, (tt, (tt, tt)))) _ W room fits refl (beyond-told (now (a .0)) (a .1 .0)
-        (inputsOf (now (a .1 .1 .0)) (now (a .1 .1 .1 .0)) (now (a .1 .1 .1 .1 .0)) (now (a .1 .1 .1 .1 .1 .0))) eight
-        (ltb→lt 7 (a .1 .0) beyond)))) (λ below. let first-in = nltb→le 7 (a .1 .0) below in move ! (62 ∷ 63 ∷ 64 ∷
-        []) $ opens-slice ! tt T.the-row (now (a .0)) (ptr (a .0) .0) (ptr (a .0) .1) $
+        gone ! 40 40 refl refl $ gone ! 38 38 refl refl $ move ! (36 ∷ 37 ∷ []) $ free1 ! $ move ! (34 ∷ 35 ∷ []) $
+        free1 ! $ move ! (32 ∷ 33 ∷ []) $ free1 ! $ move ! (30 ∷ 31 ∷ []) $ free1 ! $ move ! (28 ∷ 29 ∷ []) $
+        free1 ! $ move ! (26 ∷ 27 ∷ []) $ free1 ! $ move ! (24 ∷ 25 ∷ []) $ free1 ! $ move ! (22 ∷ 23 ∷ []) $
+        free1 ! $ move ! (20 ∷ 21 ∷ []) $ free1 ! $ move ! (18 ∷ 19 ∷ []) $ free1 ! $ move ! (16 ∷ 17 ∷ []) $
+        free1 ! $ move ! (14 ∷ 15 ∷ []) $ free1 ! $ move ! (12 ∷ 13 ∷ []) $ free1 ! $ move ! (10 ∷ 11 ∷ []) $
+        free1 ! $ move ! (8 ∷ 9 ∷ []) $ free1 ! $ move ! (6 ∷ 7 ∷ []) $ free1 ! $ move ! (4 ∷ 5 ∷ []) $ free1 ! $
+        move ! (2 ∷ 3 ∷ []) $ free1 ! $ move ! (0 ∷ 1 ∷ []) $ free1 ! $ free0 ! $ move ! (3 ∷ []) $ drop ! $
+        nothing ! $ nothing ! $ fjoin ! $ nothing ! $ fjoin ! $ nothing ! $ fjoin ! $ nothing ! $ fjoin ! $
+        owned ! D.the-row (Is D.the-row) (EL.makes D.the-type D′.the-plain 𝓤 H A) (Refused 25) _ refused-is-25 $
+        keep ! (2 ∷ 3 ∷ 4 ∷ 5 ∷ 1 ∷ 0 ∷ []) $ by ! (exits lends D.the-row 𝓤 H A Promised κs qs a (Refused 25) (now (a
+        .0)) (tt, (tt, (tt, (tt, tt)))) _ W room fits refl (none-told (now (a .0)) (screens.deal (a .1 .0) (inputsOf
+        (now (a .1 .1 .0)) (now (a .1 .1 .1 .0)) (now (a .1 .1 .1 .1 .0)) (now (a .1 .1 .1 .1 .1 .0)))) (not-eight
+        (now (a .0)) other)))) (λ same. let eight = is-eight (now (a .0)) same in assigns ! (bin ! (lit ! tt) (load !
+        (from ! (stop !)) (look ! 56 refl)) tt) (from ! (stop !)) (store ! 38 refl (tt, tt)) $
+        unless ! (load ! (from ! (stop !)) (look ! 38 refl)) (λ beyond. assigns ! (agg ! (and-then ! (lit ! tt)
+        (and-then ! (lit ! tt) (no-more !)))) (from ! (stop !)) (init ! 60 refl (EL.lawful D.the-type D′.the-laws 𝓤 H
+        A W tt .typed (Refused 25) _ refused-is-25 .0)) $ returns-within ! (Post lends D.the-row 𝓤 H A Promised κs qs
+        a) refl (look ! 60 refl) $ gone ! 60 60 refl refl $ gone ! 58 58 refl refl $ gone ! 56 56 refl refl $
+        gone ! 54 54 refl refl $ gone ! 52 52 refl refl $ gone ! 50 50 refl refl $ gone ! 48 48 refl refl $
+        move ! (46 ∷ 47 ∷ []) $ free1 ! $ move ! (44 ∷ 45 ∷ []) $ free1 ! $ move ! (42 ∷ 43 ∷ []) $ free1 ! $
+        gone ! 40 40 refl refl $ gone ! 38 38 refl refl $ move ! (36 ∷ 37 ∷ []) $ free1 ! $ move ! (34 ∷ 35 ∷ []) $
+        free1 ! $ move ! (32 ∷ 33 ∷ []) $ free1 ! $ move ! (30 ∷ 31 ∷ []) $ free1 ! $ move ! (28 ∷ 29 ∷ []) $
+        free1 ! $ move ! (26 ∷ 27 ∷ []) $ free1 ! $ move ! (24 ∷ 25 ∷ []) $ free1 ! $ move ! (22 ∷ 23 ∷ []) $
+        free1 ! $ move ! (20 ∷ 21 ∷ []) $ free1 ! $ move ! (18 ∷ 19 ∷ []) $ free1 ! $ move ! (16 ∷ 17 ∷ []) $
+        free1 ! $ move ! (14 ∷ 15 ∷ []) $ free1 ! $ move ! (12 ∷ 13 ∷ []) $ free1 ! $ move ! (10 ∷ 11 ∷ []) $
+        free1 ! $ move ! (8 ∷ 9 ∷ []) $ free1 ! $ move ! (6 ∷ 7 ∷ []) $ free1 ! $ move ! (4 ∷ 5 ∷ []) $ free1 ! $
+        move ! (2 ∷ 3 ∷ []) $ free1 ! $ move ! (0 ∷ 1 ∷ []) $ free1 ! $ free0 ! $ move ! (3 ∷ []) $ drop ! $
+        nothing ! $ nothing ! $ fjoin ! $ nothing ! $ fjoin ! $ nothing ! $ fjoin ! $ nothing ! $ fjoin ! $
+        owned ! D.the-row (Is D.the-row) (EL.makes D.the-type D′.the-plain 𝓤 H A) (Refused 25) _ refused-is-25 $
+        keep ! (2 ∷ 3 ∷ 4 ∷ 5 ∷ 1 ∷ 0 ∷ []) $ by ! (exits lends D.the-row 𝓤 H A Promised κs qs a (Refused 25) (now (a
+        .0)) (tt, (tt, (tt, (tt, tt)))) _ W room fits refl (beyond-told (now (a .0)) (a .1 .0) (inputsOf (now (a .1 .1
+        .0)) (now (a .1 .1 .1 .0)) (now (a .1 .1 .1 .1 .0)) (now (a .1 .1 .1 .1 .1 .0))) eight (ltb→lt 7 (a .1 .0)
+        beyond)))) (λ below. let first-in = nltb→le 7 (a .1 .0) below in move ! (62 ∷ 63 ∷ 64 ∷ []) $
+        opens-slice ! tt T.the-row (now (a .0)) (ptr (a .0) .0) (ptr (a .0) .1) $
         assigns ! (bin ! (load ! (from ! (fld ! refl (stop !))) (look-in ! 62 (sub ! 0 refl (whole !)))) (lit ! tt)
         tt) (from ! (stop !)) (init ! 40 refl (tt, tt)) $ rewrite ! 40 (λ (p : ℕ). ‵ (fat fullShare tyPtr l₁₂ 0 (vptr
         (ptr (a .0) .0) p))) (sym (place-is 992 (ptr (a .0) .1) 0)) refl $ elem-out ! T.the-row (Is T.the-row) (shows
@@ -383,24 +377,17 @@ module _ {M : Type 1} (𝓤 : URA M) (H : Heap 𝓤) (A : Atoms 𝓤) (W : Given
         64 refl (EL.lawful D.the-type D′.the-laws 𝓤 H A W tt .typed (Refused 1) _ refused-is-1 .0)) $
         move ! (0 ∷ 1 ∷ 2 ∷ 3 ∷ []) $ closes-slice ! tt T.the-row (now (a .0)) (now (a .0)) refl (ptr (a .0) .0) (ptr
         (a .0) .1) $ returns-within ! (Post lends D.the-row 𝓤 H A Promised κs qs a) refl (look ! 63 refl) $
-        forget ! 9 refl $ forget ! 11 refl $ forget ! 13 refl $ forget ! 15 refl $ forget ! 17 refl $
-        forget ! 19 refl $ forget ! 21 refl $ forget ! 23 refl $ forget ! 25 refl $ forget ! 27 refl $
-        forget ! 29 refl $ forget ! 31 refl $ forget ! 33 refl $ forget ! 35 refl $ forget ! 37 refl $
-        forget ! 39 refl $ forget ! 41 refl $ forget ! 43 refl $ forget ! 49 refl $ forget ! 51 refl $
-        forget ! 53 refl $ forget ! 55 refl $ forget ! 57 refl $ forget ! 59 refl $ forget ! 61 refl $
-        forget ! 63 refl $ move ! (63 ∷ 64 ∷ []) $ free1 ! $ move ! (61 ∷ 62 ∷ []) $ free1 ! $ move ! (59 ∷ 60 ∷ []) $
-        free1 ! $ move ! (57 ∷ 58 ∷ []) $ free1 ! $ move ! (55 ∷ 56 ∷ []) $ free1 ! $ move ! (53 ∷ 54 ∷ []) $
-        free1 ! $ move ! (51 ∷ 52 ∷ []) $ free1 ! $ move ! (49 ∷ 50 ∷ []) $ free1 ! $ move ! (47 ∷ 48 ∷ []) $
-        free1 ! $ move ! (45 ∷ 46 ∷ []) $ free1 ! $ move ! (43 ∷ 44 ∷ []) $ free1 ! $ move ! (41 ∷ 42 ∷ []) $
-        free1 ! $ move ! (39 ∷ 40 ∷ []) $ free1 ! $ move ! (37 ∷ 38 ∷ []) $ free1 ! $ move ! (35 ∷ 36 ∷ []) $
-        free1 ! $ move ! (33 ∷ 34 ∷ []) $ free1 ! $ move ! (31 ∷ 32 ∷ []) $ free1 ! $ move ! (29 ∷ 30 ∷ []) $
-        free1 ! $ move ! (27 ∷ 28 ∷ []) $ free1 ! $ move ! (25 ∷ 26 ∷ []) $ free1 ! $ move ! (23 ∷ 24 ∷ []) $
-        free1 ! $ move ! (21 ∷ 22 ∷ []) $ free1 ! $ move ! (19 ∷ 20 ∷ []) $ free1 ! $ move ! (17 ∷ 18 ∷ []) $
-        free1 ! $ move ! (15 ∷ 16 ∷ []) $ free1 ! $ move ! (13 ∷ 14 ∷ []) $ free1 ! $ move ! (11 ∷ 12 ∷ []) $
-        free1 ! $ move ! (9 ∷ 10 ∷ []) $ free1 ! $ move ! (7 ∷ 8 ∷ []) $ free1 ! $ move ! (5 ∷ 6 ∷ []) $ free1 ! $
-        move ! (3 ∷ 4 ∷ []) $ free1 ! $ free0 ! $ move ! (3 ∷ []) $ drop ! $ nothing ! $ nothing ! $ fjoin ! $
-        nothing ! $ fjoin ! $ nothing ! $ fjoin ! $ nothing ! $ fjoin ! $ owned ! D.the-row (Is D.the-row) (EL.makes
-        D.the-type D′.the-plain 𝓤 H A) (Refused 1) _ refused-is-1 $ keep ! (2 ∷ 3 ∷ 4 ∷ 5 ∷ 1 ∷ 0 ∷ []) $
+        gone ! 63 63 refl refl $ gone ! 61 61 refl refl $ gone ! 59 59 refl refl $ gone ! 57 57 refl refl $
+        gone ! 55 55 refl refl $ gone ! 53 53 refl refl $ gone ! 51 51 refl refl $ gone ! 49 49 refl refl $
+        move ! (47 ∷ 48 ∷ []) $ free1 ! $ move ! (45 ∷ 46 ∷ []) $ free1 ! $ gone ! 43 43 refl refl $
+        gone ! 41 41 refl refl $ gone ! 39 39 refl refl $ gone ! 37 37 refl refl $ gone ! 35 35 refl refl $
+        gone ! 33 33 refl refl $ gone ! 31 31 refl refl $ gone ! 29 29 refl refl $ gone ! 27 27 refl refl $
+        gone ! 25 25 refl refl $ gone ! 23 23 refl refl $ gone ! 21 21 refl refl $ gone ! 19 19 refl refl $
+        gone ! 17 17 refl refl $ gone ! 15 15 refl refl $ gone ! 13 13 refl refl $ gone ! 11 11 refl refl $
+        gone ! 9 9 refl refl $ move ! (7 ∷ 8 ∷ []) $ free1 ! $ move ! (5 ∷ 6 ∷ []) $ free1 ! $ move ! (3 ∷ 4 ∷ []) $
+        free1 ! $ free0 ! $ move ! (3 ∷ []) $ drop ! $ nothing ! $ nothing ! $ fjoin ! $ nothing ! $ fjoin ! $
+        nothing ! $ fjoin ! $ nothing ! $ fjoin ! $ owned ! D.the-row (Is D.the-row) (EL.makes D.the-type D′.the-plain
+        𝓤 H A) (Refused 1) _ refused-is-1 $ keep ! (2 ∷ 3 ∷ 4 ∷ 5 ∷ 1 ∷ 0 ∷ []) $
         by ! (exits lends D.the-row 𝓤 H A Promised κs qs a (Refused 1) (now (a .0)) (tt, (tt, (tt, (tt, tt)))) _ W
         room fits refl (none-runs (now (a .0)) (a .1 .0) f (inputsOf (now (a .1 .1 .0)) (now (a .1 .1 .1 .0)) (now (a
         .1 .1 .1 .1 .0)) (now (a .1 .1 .1 .1 .1 .0))) eight first-in is-found (ltb→lt 7 f none)))) (λ small. let
@@ -445,27 +432,19 @@ module _ {M : Type 1} (𝓤 : URA M) (H : Heap 𝓤) (A : Atoms 𝓤) (W : Given
         (r .session)) (ptr (a .0) .0) (ptr (a .0) .1) (has (now (a .0)) f eight inside) $
         move ! (0 ∷ 3 ∷ 4 ∷ 5 ∷ []) $ closes-slice ! tt T.the-row (now (a .0)) (set (now (a .0)) f (r .session))
         (length-set (now (a .0)) f (r .session)) (ptr (a .0) .0) (ptr (a .0) .1) $ returns ! (look ! 65 refl) $
-        forget ! 5 refl $ forget ! 7 refl $ forget ! 9 refl $ forget ! 11 refl $ forget ! 13 refl $ forget ! 15 refl $
-        forget ! 17 refl $ forget ! 19 refl $ forget ! 21 refl $ forget ! 23 refl $ forget ! 25 refl $
-        forget ! 27 refl $ forget ! 29 refl $ forget ! 31 refl $ forget ! 33 refl $ forget ! 35 refl $
-        forget ! 37 refl $ forget ! 39 refl $ forget ! 41 refl $ forget ! 43 refl $ forget ! 45 refl $
-        forget ! 47 refl $ forget ! 49 refl $ forget ! 51 refl $ forget ! 53 refl $ forget ! 55 refl $
-        forget ! 57 refl $ forget ! 59 refl $ forget ! 61 refl $ forget ! 63 refl $ forget ! 65 refl $
-        move ! (65 ∷ 66 ∷ []) $ free1 ! $ move ! (63 ∷ 64 ∷ []) $ free1 ! $ move ! (61 ∷ 62 ∷ []) $ free1 ! $
-        move ! (59 ∷ 60 ∷ []) $ free1 ! $ move ! (57 ∷ 58 ∷ []) $ free1 ! $ move ! (55 ∷ 56 ∷ []) $ free1 ! $
-        move ! (53 ∷ 54 ∷ []) $ free1 ! $ move ! (51 ∷ 52 ∷ []) $ free1 ! $ move ! (49 ∷ 50 ∷ []) $ free1 ! $
-        move ! (47 ∷ 48 ∷ []) $ free1 ! $ move ! (45 ∷ 46 ∷ []) $ free1 ! $ move ! (43 ∷ 44 ∷ []) $ free1 ! $
-        move ! (41 ∷ 42 ∷ []) $ free1 ! $ move ! (39 ∷ 40 ∷ []) $ free1 ! $ move ! (37 ∷ 38 ∷ []) $ free1 ! $
-        move ! (35 ∷ 36 ∷ []) $ free1 ! $ move ! (33 ∷ 34 ∷ []) $ free1 ! $ move ! (31 ∷ 32 ∷ []) $ free1 ! $
-        move ! (29 ∷ 30 ∷ []) $ free1 ! $ move ! (27 ∷ 28 ∷ []) $ free1 ! $ move ! (25 ∷ 26 ∷ []) $ free1 ! $
-        move ! (23 ∷ 24 ∷ []) $ free1 ! $ move ! (21 ∷ 22 ∷ []) $ free1 ! $ move ! (19 ∷ 20 ∷ []) $ free1 ! $
-        move ! (17 ∷ 18 ∷ []) $ free1 ! $ move ! (15 ∷ 16 ∷ []) $ free1 ! $ move ! (13 ∷ 14 ∷ []) $ free1 ! $
-        move ! (11 ∷ 12 ∷ []) $ free1 ! $ move ! (9 ∷ 10 ∷ []) $ free1 ! $ move ! (7 ∷ 8 ∷ []) $ free1 ! $
-        move ! (5 ∷ 6 ∷ []) $ free1 ! $ free0 ! $ owned ! D.the-row (Is D.the-row) (EL.makes D.the-type D′.the-plain 𝓤
-        H A) t _ ist $ keep ! (1 ∷ 2 ∷ 3 ∷ 4 ∷ 5 ∷ 0 ∷ []) $ by ! (exits lends D.the-row 𝓤 H A Promised κs qs a t (set
-        (now (a .0)) f (r .session)) (ws .1) _ W room fits (length-set (now (a .0)) f (r .session)) (deal-served (now
-        (a .0)) (a .1 .0) f (inputsOf (now (a .1 .1 .0)) (now (a .1 .1 .1 .0)) (now (a .1 .1 .1 .1 .0)) (now (a .1 .1
-        .1 .1 .1 .0))) _ _ (r .session) eight first-in is-found inside says-so
+        gone ! 65 65 refl refl $ gone ! 63 63 refl refl $ gone ! 61 61 refl refl $ gone ! 59 59 refl refl $
+        gone ! 57 57 refl refl $ gone ! 55 55 refl refl $ gone ! 53 53 refl refl $ gone ! 51 51 refl refl $
+        gone ! 49 49 refl refl $ gone ! 47 47 refl refl $ gone ! 45 45 refl refl $ gone ! 43 43 refl refl $
+        gone ! 41 41 refl refl $ gone ! 39 39 refl refl $ gone ! 37 37 refl refl $ gone ! 35 35 refl refl $
+        gone ! 33 33 refl refl $ gone ! 31 31 refl refl $ gone ! 29 29 refl refl $ gone ! 27 27 refl refl $
+        gone ! 25 25 refl refl $ gone ! 23 23 refl refl $ gone ! 21 21 refl refl $ gone ! 19 19 refl refl $
+        gone ! 17 17 refl refl $ gone ! 15 15 refl refl $ gone ! 13 13 refl refl $ gone ! 11 11 refl refl $
+        gone ! 9 9 refl refl $ gone ! 7 7 refl refl $ gone ! 5 5 refl refl $ free0 ! $
+        owned ! D.the-row (Is D.the-row) (EL.makes D.the-type D′.the-plain 𝓤 H A) t _ ist $
+        keep ! (1 ∷ 2 ∷ 3 ∷ 4 ∷ 5 ∷ 0 ∷ []) $ by ! (exits lends D.the-row 𝓤 H A Promised κs qs a t (set (now (a .0)) f
+        (r .session)) (ws .1) _ W room fits (length-set (now (a .0)) f (r .session)) (deal-served (now (a .0)) (a .1
+        .0) f (inputsOf (now (a .1 .1 .0)) (now (a .1 .1 .1 .0)) (now (a .1 .1 .1 .1 .0)) (now (a .1 .1 .1 .1 .1 .0)))
+        _ _ (r .session) eight first-in is-found inside says-so
         e))))))))))))))))))))))))))))))))))))))))))))))))))))))))))
 
 pub deal-spec : {M : Type 1} → stated.statement M

@@ -24,9 +24,8 @@ use contract.Running.{givenOf, tables, tablesOf}
 use types.Kit.{Given, Item, ‵, raw, _⊛_, ⋆, some, later, _$_, _∵_, !, qed, by, move, keep, drop, use1, use3, split}
 use types.Kit.{join, pick, rewrite, fsplit, fjoin, frame, await, done}
 use types.Part.{whole, sub, look-in, agg}
-use types.Run.{look, look-raw, init, store, store-raw, forget, stop, hop, fld, from, load, lit, of-opd, bin, and-then}
-use types.Run.{no-more, land, assigns, returns, enter, alloc1, alloc0, params1, pass1, pass0, free1, free0}
-use types.Run.{returns-within}
+use types.Run.{look, look-raw, init, store, store-raw, stop, hop, fld, from, load, lit, of-opd, bin, and-then, no-more}
+use types.Run.{land, assigns, returns, enter, alloc1, alloc0, params1, pass1, pass0, free1, free0, returns-within}
 use sound.WpLaws.{FmC, fmOf, WpFn-mono}
 use denote.RattleType.{owns, flat}
 use denote.Laws.{Is, shows}
@@ -149,14 +148,11 @@ module _ {M : Type 1} (𝓤 : URA M) (H : Heap 𝓤) (A : Atoms 𝓤) (W : Given
         (from ! (stop !)) (init ! 6 refl (tt, tt)) $ unless ! (load ! (from ! (stop !)) (look ! 6 refl)) (λ other.
         assigns ! (agg ! (and-then ! (lit ! tt) (and-then ! (lit ! tt) (no-more !)))) (from ! (stop !)) (init ! 30
         refl (EL.lawful D.the-type D′.the-laws 𝓤 H A W tt .typed (Refused 25) _ refused-is-25 .0)) $
-        returns-within ! (Post lends D.the-row 𝓤 H A Promised κs qs a) refl (look ! 30 refl) $ forget ! 6 refl $
-        forget ! 8 refl $ forget ! 14 refl $ forget ! 16 refl $ forget ! 18 refl $ forget ! 20 refl $
-        forget ! 22 refl $ forget ! 24 refl $ forget ! 26 refl $ forget ! 28 refl $ forget ! 30 refl $
-        move ! (30 ∷ 31 ∷ []) $ free1 ! $ move ! (28 ∷ 29 ∷ []) $ free1 ! $ move ! (26 ∷ 27 ∷ []) $ free1 ! $
-        move ! (24 ∷ 25 ∷ []) $ free1 ! $ move ! (22 ∷ 23 ∷ []) $ free1 ! $ move ! (20 ∷ 21 ∷ []) $ free1 ! $
-        move ! (18 ∷ 19 ∷ []) $ free1 ! $ move ! (16 ∷ 17 ∷ []) $ free1 ! $ move ! (14 ∷ 15 ∷ []) $ free1 ! $
-        move ! (12 ∷ 13 ∷ []) $ free1 ! $ move ! (10 ∷ 11 ∷ []) $ free1 ! $ move ! (8 ∷ 9 ∷ []) $ free1 ! $
-        move ! (6 ∷ 7 ∷ []) $ free1 ! $ move ! (4 ∷ 5 ∷ []) $ free1 ! $ move ! (2 ∷ 3 ∷ []) $ free1 ! $
+        returns-within ! (Post lends D.the-row 𝓤 H A Promised κs qs a) refl (look ! 30 refl) $
+        gone ! 30 30 refl refl $ gone ! 28 28 refl refl $ gone ! 26 26 refl refl $ gone ! 24 24 refl refl $
+        gone ! 22 22 refl refl $ gone ! 20 20 refl refl $ gone ! 18 18 refl refl $ gone ! 16 16 refl refl $
+        gone ! 14 14 refl refl $ move ! (12 ∷ 13 ∷ []) $ free1 ! $ move ! (10 ∷ 11 ∷ []) $ free1 ! $
+        gone ! 8 8 refl refl $ gone ! 6 6 refl refl $ move ! (4 ∷ 5 ∷ []) $ free1 ! $ move ! (2 ∷ 3 ∷ []) $ free1 ! $
         move ! (0 ∷ 1 ∷ []) $ free1 ! $ free0 ! $ move ! (3 ∷ []) $ drop ! $ nothing ! $ nothing ! $ fjoin ! $
         nothing ! $ fjoin ! $ nothing ! $ fjoin ! $ nothing ! $ fjoin ! $ nothing ! $ fjoin ! $ nothing ! $ fjoin ! $
         owned ! D.the-row (Is D.the-row) (EL.makes D.the-type D′.the-plain 𝓤 H A) (Refused 25) _ refused-is-25 $
@@ -168,14 +164,11 @@ module _ {M : Type 1} (𝓤 : URA M) (H : Heap 𝓤) (A : Atoms 𝓤) (W : Given
         refl)) tt) (from ! (stop !)) (store ! 6 refl (tt, tt)) $ unless ! (load ! (from ! (stop !)) (look ! 6 refl))
         (λ beyond. assigns ! (agg ! (and-then ! (lit ! tt) (and-then ! (lit ! tt) (no-more !)))) (from ! (stop !))
         (init ! 30 refl (EL.lawful D.the-type D′.the-laws 𝓤 H A W tt .typed (Refused 25) _ refused-is-25 .0)) $
-        returns-within ! (Post lends D.the-row 𝓤 H A Promised κs qs a) refl (look ! 30 refl) $ forget ! 6 refl $
-        forget ! 8 refl $ forget ! 14 refl $ forget ! 16 refl $ forget ! 18 refl $ forget ! 20 refl $
-        forget ! 22 refl $ forget ! 24 refl $ forget ! 26 refl $ forget ! 28 refl $ forget ! 30 refl $
-        move ! (30 ∷ 31 ∷ []) $ free1 ! $ move ! (28 ∷ 29 ∷ []) $ free1 ! $ move ! (26 ∷ 27 ∷ []) $ free1 ! $
-        move ! (24 ∷ 25 ∷ []) $ free1 ! $ move ! (22 ∷ 23 ∷ []) $ free1 ! $ move ! (20 ∷ 21 ∷ []) $ free1 ! $
-        move ! (18 ∷ 19 ∷ []) $ free1 ! $ move ! (16 ∷ 17 ∷ []) $ free1 ! $ move ! (14 ∷ 15 ∷ []) $ free1 ! $
-        move ! (12 ∷ 13 ∷ []) $ free1 ! $ move ! (10 ∷ 11 ∷ []) $ free1 ! $ move ! (8 ∷ 9 ∷ []) $ free1 ! $
-        move ! (6 ∷ 7 ∷ []) $ free1 ! $ move ! (4 ∷ 5 ∷ []) $ free1 ! $ move ! (2 ∷ 3 ∷ []) $ free1 ! $
+        returns-within ! (Post lends D.the-row 𝓤 H A Promised κs qs a) refl (look ! 30 refl) $
+        gone ! 30 30 refl refl $ gone ! 28 28 refl refl $ gone ! 26 26 refl refl $ gone ! 24 24 refl refl $
+        gone ! 22 22 refl refl $ gone ! 20 20 refl refl $ gone ! 18 18 refl refl $ gone ! 16 16 refl refl $
+        gone ! 14 14 refl refl $ move ! (12 ∷ 13 ∷ []) $ free1 ! $ move ! (10 ∷ 11 ∷ []) $ free1 ! $
+        gone ! 8 8 refl refl $ gone ! 6 6 refl refl $ move ! (4 ∷ 5 ∷ []) $ free1 ! $ move ! (2 ∷ 3 ∷ []) $ free1 ! $
         move ! (0 ∷ 1 ∷ []) $ free1 ! $ free0 ! $ move ! (3 ∷ []) $ drop ! $ nothing ! $ nothing ! $ fjoin ! $
         nothing ! $ fjoin ! $ nothing ! $ fjoin ! $ nothing ! $ fjoin ! $ nothing ! $ fjoin ! $ nothing ! $ fjoin ! $
         owned ! D.the-row (Is D.the-row) (EL.makes D.the-type D′.the-plain 𝓤 H A) (Refused 25) _ refused-is-25 $
@@ -226,25 +219,20 @@ module _ {M : Type 1} (𝓤 : URA M) (H : Heap 𝓤) (A : Atoms 𝓤) (W : Given
         .session)) (ptr (a .0) .0) (ptr (a .0) .1) (has (now (a .0)) (a .1 .0) eight inside) $
         move ! (0 ∷ 3 ∷ 4 ∷ 5 ∷ []) $ closes-slice ! tt T.the-row (now (a .0)) (set (now (a .0)) (a .1 .0) (r
         .session)) (length-set (now (a .0)) (a .1 .0) (r .session)) (ptr (a .0) .0) (ptr (a .0) .1) $
-        returns ! (look ! 35 refl) $ forget ! 5 refl $ forget ! 7 refl $ forget ! 9 refl $ forget ! 11 refl $
-        forget ! 13 refl $ forget ! 15 refl $ forget ! 17 refl $ forget ! 19 refl $ forget ! 21 refl $
-        forget ! 23 refl $ forget ! 25 refl $ forget ! 27 refl $ forget ! 29 refl $ forget ! 31 refl $
-        forget ! 33 refl $ forget ! 35 refl $ move ! (35 ∷ 36 ∷ []) $ free1 ! $ move ! (33 ∷ 34 ∷ []) $ free1 ! $
-        move ! (31 ∷ 32 ∷ []) $ free1 ! $ move ! (29 ∷ 30 ∷ []) $ free1 ! $ move ! (27 ∷ 28 ∷ []) $ free1 ! $
-        move ! (25 ∷ 26 ∷ []) $ free1 ! $ move ! (23 ∷ 24 ∷ []) $ free1 ! $ move ! (21 ∷ 22 ∷ []) $ free1 ! $
-        move ! (19 ∷ 20 ∷ []) $ free1 ! $ move ! (17 ∷ 18 ∷ []) $ free1 ! $ move ! (15 ∷ 16 ∷ []) $ free1 ! $
-        move ! (13 ∷ 14 ∷ []) $ free1 ! $ move ! (11 ∷ 12 ∷ []) $ free1 ! $ move ! (9 ∷ 10 ∷ []) $ free1 ! $
-        move ! (7 ∷ 8 ∷ []) $ free1 ! $ move ! (5 ∷ 6 ∷ []) $ free1 ! $ free0 ! $
-        owned ! D.the-row (Is D.the-row) (EL.makes D.the-type D′.the-plain 𝓤 H A) (r .answer) _ (answer-is r v is) $
-        keep ! (1 ∷ 2 ∷ 3 ∷ 4 ∷ 5 ∷ 0 ∷ []) $ by ! (exits lends D.the-row 𝓤 H A Promised κs qs a (r .answer) (set (now
-        (a .0)) (a .1 .0) (r .session)) (ws .1) _ W room fits (length-set (now (a .0)) (a .1 .0) (r .session))
-        (to-screen (now (a .0)) (screens.startOn (a .1 .0) (inputsOf (now (a .1 .1 .0)) (now (a .1 .1 .1 .0)) (now (a
+        returns ! (look ! 35 refl) $ gone ! 35 35 refl refl $ gone ! 33 33 refl refl $ gone ! 31 31 refl refl $
+        gone ! 29 29 refl refl $ gone ! 27 27 refl refl $ gone ! 25 25 refl refl $ gone ! 23 23 refl refl $
+        gone ! 21 21 refl refl $ gone ! 19 19 refl refl $ gone ! 17 17 refl refl $ gone ! 15 15 refl refl $
+        gone ! 13 13 refl refl $ gone ! 11 11 refl refl $ gone ! 9 9 refl refl $ gone ! 7 7 refl refl $
+        gone ! 5 5 refl refl $ free0 ! $ owned ! D.the-row (Is D.the-row) (EL.makes D.the-type D′.the-plain 𝓤 H A) (r
+        .answer) _ (answer-is r v is) $ keep ! (1 ∷ 2 ∷ 3 ∷ 4 ∷ 5 ∷ 0 ∷ []) $ by ! (exits lends D.the-row 𝓤 H A
+        Promised κs qs a (r .answer) (set (now (a .0)) (a .1 .0) (r .session)) (ws .1) _ W room fits (length-set (now
+        (a .0)) (a .1 .0) (r .session)) (to-screen (now (a .0)) (screens.startOn (a .1 .0) (inputsOf (now (a .1 .1
+        .0)) (now (a .1 .1 .1 .0)) (now (a .1 .1 .1 .1 .0)) (now (a .1 .1 .1 .1 .1 .0))) (now (a .1 .1 .1 .1 .1 .1
+        .0)) (now (a .1 .1 .1 .1 .1 .1 .1 .0))) (a .1 .0) (calls.start (inputsOf (now (a .1 .1 .0)) (now (a .1 .1 .1
+        .0)) (now (a .1 .1 .1 .1 .0)) (now (a .1 .1 .1 .1 .1 .0))) (now (a .1 .1 .1 .1 .1 .1 .0)) (now (a .1 .1 .1 .1
+        .1 .1 .1 .0))) (names-start (now (a .0)) (a .1 .0) (inputsOf (now (a .1 .1 .0)) (now (a .1 .1 .1 .0)) (now (a
         .1 .1 .1 .1 .0)) (now (a .1 .1 .1 .1 .1 .0))) (now (a .1 .1 .1 .1 .1 .1 .0)) (now (a .1 .1 .1 .1 .1 .1 .1
-        .0))) (a .1 .0) (calls.start (inputsOf (now (a .1 .1 .0)) (now (a .1 .1 .1 .0)) (now (a .1 .1 .1 .1 .0)) (now
-        (a .1 .1 .1 .1 .1 .0))) (now (a .1 .1 .1 .1 .1 .1 .0)) (now (a .1 .1 .1 .1 .1 .1 .1 .0))) (names-start (now (a
-        .0)) (a .1 .0) (inputsOf (now (a .1 .1 .0)) (now (a .1 .1 .1 .0)) (now (a .1 .1 .1 .1 .0)) (now (a .1 .1 .1 .1
-        .1 .0))) (now (a .1 .1 .1 .1 .1 .1 .0)) (now (a .1 .1 .1 .1 .1 .1 .1 .0))) _ (r .session) eight inside
-        e))))))))))))))))))))))))))
+        .0))) _ (r .session) eight inside e))))))))))))))))))))))))))
 
 pub start-spec : {M : Type 1} → stated.statement M
 unfolding code.routine tablesOf

@@ -17,8 +17,8 @@ use contract.Monad.{Fun, fact}
 use contract.Running.{givenOf, tables, tablesOf}
 use types.Kit.{Given, ‵, raw, _⊛_, ⋆, some, later, _$_, _∵_, !, qed, by, move, keep, drop, use1, split, join, pick}
 use types.Kit.{suffices, fsplit, fsplit3, fjoin, frame, await, done}
-use types.Run.{look, look-raw, init, forget, stop, hop, from, load, of-opd, and-then, no-more, land, assigns, returns}
-use types.Run.{enter, alloc1, alloc0, params1, pass1, pass0, free1, free0}
+use types.Run.{look, look-raw, init, stop, hop, from, load, of-opd, and-then, no-more, land, assigns, returns, enter}
+use types.Run.{alloc1, alloc0, params1, pass1, pass0, free0}
 use sound.WpLaws.{FmC, fmOf, WpFn-mono}
 use denote.RattleType.{owns, flat}
 use denote.Laws.{Is, shows}
@@ -39,6 +39,7 @@ use denote.Enum.Laws as EL
 use Rattle.session.proofs.state.Session as T
 use Rattle.session.proofs.state.Session.Laws as T′
 use Rattle.session.proofs.in_place.InPlace.{vals}
+use Rattle.session.proofs.in_place.WalkSteps.{gone}
 use Rattle.model.specs.Calls as calls
 use Rattle.session.specs.Answers.{readAnswer}
 use Rattle.session.specs.Promises.{answerOn}
@@ -115,8 +116,7 @@ module _ {M : Type 1} (𝓤 : URA M) (H : Heap 𝓤) (A : Atoms 𝓤) (W : Given
         use1 W (raw (fact 𝓤 (Holds r))) (said r) $ heard ! (Holds r) (λ e. split ! $ move ! (1 ∷ []) $
         peeks ! E.the-row (Is E.the-row) (shows 𝓤 H A E.the-row) r (v ∷ []) (λ is. land ! (from ! (stop !)) (init ! 11
         refl (EL.lawful E.the-type E′.the-laws 𝓤 H A W tt .typed r _ is .0)) $ returns ! (look ! 11 refl) $
-        forget ! 7 refl $ forget ! 9 refl $ forget ! 11 refl $ move ! (11 ∷ 12 ∷ []) $ free1 ! $
-        move ! (9 ∷ 10 ∷ []) $ free1 ! $ move ! (7 ∷ 8 ∷ []) $ free1 ! $ free0 ! $ keep ! (2 ∷ 0 ∷ []) $
+        gone ! 11 11 refl refl $ gone ! 9 9 refl refl $ gone ! 7 7 refl refl $ free0 ! $ keep ! (2 ∷ 0 ∷ []) $
         by ! (exits-at r v e))))))))))
 
 pub read-spec : {M : Type 1} → stated.statement M
