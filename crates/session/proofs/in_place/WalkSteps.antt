@@ -4,7 +4,7 @@
 --     calls-with               the same, where the call is passed what P and Q own, and tokens
 --     opened                   the borrow of a session's record is opened: its machine values are spelled out
 --     enum-spelled, enum-same  the machine value of an answer that a call returned
---     Walks                    walks of code f, which calls what has a given contract at the key k
+--     Walkable                 a contract, and walks that are enough for it.   Walks   those of code that calls a function
 --     by-walk                  a function whose code is walked meets its contract, where what it calls meets its own
 use mathlib.Core.Path.{_≡_, refl, sym, subst}
 use Prim.Native.Nat.{ℕ, zero}
@@ -64,20 +64,18 @@ module _ {M : Type 1} {𝓤 : URA M} {H : Heap 𝓤} {A : Atoms 𝓤} {K : Type 
       (sel⊢ 𝓤 H A (i ∷ j ∷ []) (put 𝓤 H A i (‵ (froom τ b zero)) Γ))
       (subst (λ (Δ : List (Item 𝓤)). Seq K W Δ (frees ((τ, b) ∷ E) g)) (sym rest) (free1 t $ s) .prf)))
 
-  module _ {E : Env 𝓤 H} {C : Calls 𝓤 H} {Λ : Loops 𝓤 H} {q : Post 𝓤 H} {f : Name} {xs : List Operand} {d : Place} {b : Code} where
-    pub calls-on : K → FmC 𝓤 H (W .laws) C → (T : Ended) (c : Clauses 𝓤 T)
-        → Triple 𝓤 (C f) (tripleOf 𝓤 H A (T .signature) (closing 𝓤 H A T c))
-        → (x : Bound 𝓤 H A (T .signature)) (g : c (x .0) (x .3) .ghost)
-        → (P : Res (T .signature) (x .0) → Lasts T (x .0) (x .3) → Type 0)
-        → ((r : Res (T .signature) (x .0)) (ws : Lasts T (x .0) (x .3))
-        → c (x .0) (x .3) .ensures g r (atExit T (x .0) (x .3) ws) ≡ fact 𝓤 (P r ws))
-        → {i : Item 𝓤} → ent 𝓤 (mean 𝓤 H A i) (tripleOf 𝓤 H A (T .signature) (closing 𝓤 H A T c) .pre (x, g))
+  -- a call of a function with clauses c, at what x binds and the ghost value g, which says Φ
+  module _ {E : Env 𝓤 H} {C : Calls 𝓤 H} {Λ : Loops 𝓤 H} {q : Post 𝓤 H} {f : Name} {xs : List Operand} {d : Place} {b : Code}
+      (t : K) (fm : FmC 𝓤 H (W .laws) C) (T : Ended) (c : Clauses 𝓤 T) (met : Triple 𝓤 (C f) (tripleOf 𝓤 H A (T .signature) (closing 𝓤 H A T c)))
+      (x : Bound 𝓤 H A (T .signature)) (g : c (x .0) (x .3) .ghost) (Φ : Res (T .signature) (x .0) → Lasts T (x .0) (x .3) → Type 0)
+      (is-fact : (r : Res (T .signature) (x .0)) (ws : Lasts T (x .0) (x .3))
+      → c (x .0) (x .3) .ensures g r (atExit T (x .0) (x .3) ws) ≡ fact 𝓤 (Φ r ws)) where
+    pub calls-on : {i : Item 𝓤} → ent 𝓤 (mean 𝓤 H A i) (tripleOf 𝓤 H A (T .signature) (closing 𝓤 H A T c) .pre (x, g))
         → Opds K W (i ∷ Γ) E xs (passed 𝓤 H A (T .signature) x)
-        → ((v : Val) (r : Res (T .signature) (x .0)) (ws : Lasts T (x .0) (x .3)) → P r ws
-        → Is (typeAt (T .signature .result) (x .0)) r (v ∷ [])
+        → ((v : Val) (r : Res (T .signature) (x .0)) (ws : Lasts T (x .0) (x .3)) → Φ r ws → Is (typeAt (T .signature .result) (x .0)) r (v ∷ [])
         → Seq K W (‵ (lasts T (x .0) (x .3) ws) ∷ raw (alive 𝓤 H A (T .signature) (x .0) (x .1)) ∷ Γ) (lands C Λ E d v b q))
         → Seq K W (i ∷ Γ) (runs C Λ E (seq (call f xs d) b) q)
-    calls-on t fm T c met x g P is-fact {i} asked os k =
+    calls-on {i} asked os k =
         let R = typeAt (T .signature .result) (x .0) in
         calls-from t fm i (passed 𝓤 H A (T .signature) x) (tripleOf 𝓤 H A (T .signature) (closing 𝓤 H A T c) .post (x, g))
         (via 𝓤 _ asked (met (x, g))) os (λ v.
@@ -87,24 +85,17 @@ module _ {M : Type 1} {𝓤 : URA M} {H : Heap 𝓤} {A : Atoms 𝓤} {K : Type 
         use1 W (some (λ (ws : Lasts T (x .0) (x .3)).
         ‵ (lasts T (x .0) (x .3) ws) ⊛ raw (c (x .0) (x .3) .ensures g r (atExit T (x .0) (x .3) ws)))) (id⊢ 𝓤 _) $
         pick t (λ ws. split t $ move t (1 ∷ []) $ rewrite t 0 (λ (S : SProp 𝓤). raw S) (is-fact r ws) refl $
-        heard t (P r ws) (λ e. move t (1 ∷ []) $ split t $ move t (1 ∷ []) $
+        heard t (Φ r ws) (λ e. move t (1 ∷ []) $ split t $ move t (1 ∷ []) $
         facts t R (Is R) (shows 𝓤 H A R) r (v ∷ []) (λ is. move t (1 ∷ 0 ∷ []) $ k v r ws e is)))))
 
-    pub calls-with : K → FmC 𝓤 H (W .laws) C → (T : Ended) (c : Clauses 𝓤 T)
-        → Triple 𝓤 (C f) (tripleOf 𝓤 H A (T .signature) (closing 𝓤 H A T c))
-        → (x : Bound 𝓤 H A (T .signature)) (g : c (x .0) (x .3) .ghost)
-        → (Φ : Res (T .signature) (x .0) → Lasts T (x .0) (x .3) → Type 0)
-        → ((r : Res (T .signature) (x .0)) (ws : Lasts T (x .0) (x .3))
-        → c (x .0) (x .3) .ensures g r (atExit T (x .0) (x .3) ws) ≡ fact 𝓤 (Φ r ws))
-        → {P Q : Fml} {tokens : SProp 𝓤}
+    pub calls-with : {P Q : Fml} {tokens : SProp 𝓤}
         → sep 𝓤 (sep 𝓤 tokens (sem 𝓤 H A (fsep P Q))) (emp 𝓤) ≡ tripleOf 𝓤 H A (T .signature) (closing 𝓤 H A T c) .pre (x, g)
         → Opds K W ((‵ P ⊛ ‵ Q ⊛ raw tokens) ∷ Γ) E xs (passed 𝓤 H A (T .signature) x)
-        → ((v : Val) (r : Res (T .signature) (x .0)) (ws : Lasts T (x .0) (x .3)) → Φ r ws
-        → Is (typeAt (T .signature .result) (x .0)) r (v ∷ [])
+        → ((v : Val) (r : Res (T .signature) (x .0)) (ws : Lasts T (x .0) (x .3)) → Φ r ws → Is (typeAt (T .signature .result) (x .0)) r (v ∷ [])
         → Seq K W (‵ (lasts T (x .0) (x .3) ws) ∷ raw (alive 𝓤 H A (T .signature) (x .0) (x .1)) ∷ Γ) (lands C Λ E d v b q))
         → Seq K W (‵ P ∷ ‵ Q ∷ raw tokens ∷ Γ) (runs C Λ E (seq (call f xs d) b) q)
-    calls-with t fm T c met x g Φ is-fact {P} {Q} {tokens} is-asked os k =
-        group t 3 $ calls-on t fm T c met x g Φ is-fact (subst (λ (S : SProp 𝓤). ent 𝓤 (mean 𝓤 H A (‵ P ⊛ ‵ Q ⊛ raw tokens)) S) is-asked
+    calls-with {P} {Q} {tokens} is-asked os k =
+        group t 3 $ calls-on (subst (λ (S : SProp 𝓤). ent 𝓤 (mean 𝓤 H A (‵ P ⊛ ‵ Q ⊛ raw tokens)) S) is-asked
         (qed W ((‵ P ⊛ ‵ Q ⊛ raw tokens) ∷ []) ∵ split3 ! $ fjoin ! $ move ! (1 ∷ 0 ∷ []) $ join ! $ frame ! $ done !)) os k
 
   module _ {G : Goal 𝓤 H} where
@@ -120,32 +111,34 @@ module _ {M : Type 1} {𝓤 : URA M} {H : Heap 𝓤} {A : Atoms 𝓤} {K : Type 
         spelt t T.the-row (Is T.the-row) (shows 𝓤 H A T.the-row) vals (LL.tells T.the-type T′.the-laws) fullShare h vs b o $
         move t (1 ∷ []) $ peeks t T.the-row (Is T.the-row) (shows 𝓤 H A T.the-row) h (vals h) (λ g. move t (1 ∷ 0 ∷ []) $ k g))
 
--- walks from arguments of which Q holds, whose machine values are `values`, to what `ends` says
-module _ {M : Type 1} (𝓤 : URA M) (H : Heap 𝓤) (A : Atoms 𝓤) (T : Ended)
-    (Q : (κs : Lfts (T .signature .lifetimes)) → Args (T .signature) κs → Type 0)
-    (values : (κs : Lfts (T .signature .lifetimes)) → Args (T .signature) κs → Vals (T .signature) κs)
-    (ends : (κs : Lfts (T .signature .lifetimes)) (qs : Shares (T .signature .lifetimes)) → Args (T .signature) κs → Val → SProp 𝓤) where
-  abbrev pub Walk : Fun 𝓤 → Type 1
-  Walk run =
-      (κs : Lfts (T .signature .lifetimes)) (qs : Shares (T .signature .lifetimes)) (a : Args (T .signature) κs) → Q κs a
-      → ent 𝓤 (onEntry 𝓤 H A (T .signature) κs qs a (values κs a)) (run (flat (typesAt (T .signature .params) κs) (values κs a)) (ends κs qs a))
+-- a contract, walks of runs that are enough for it, and that they are
+pub record Walkable {M : Type 1} (𝓤 : URA M) (H : Heap 𝓤) (A : Atoms 𝓤) : Type 2 where
+  pub contract : Contract 𝓤
+  pub Walk : Fun 𝓤 → Type 1
+  pub met : (run : Fun 𝓤) → ((vs : List Val) → Mono 𝓤 (run vs)) → Walk run → Triple 𝓤 run contract
 
-  abbrev pub Walks : Given 𝓤 H A → Fn → Name → Contract 𝓤 → Type 2
-  Walks W f k callee =
-      (C : Calls 𝓤 H) (Λ : Loops 𝓤 H) → FmC 𝓤 H (W .laws) C → Triple 𝓤 (C k) callee → Walk (WpFn 𝓤 H C Λ f)
+module _ {M : Type 1} (𝓤 : URA M) (H : Heap 𝓤) (A : Atoms 𝓤) where
+  -- walks from arguments of which Q holds, whose machine values are `values`, to what `ends` says
+  abbrev pub WalkOf : (S : Signature) (Q : (κs : Lfts (S .lifetimes)) → Args S κs → Type 0)
+      (values : (κs : Lfts (S .lifetimes)) → Args S κs → Vals S κs)
+      (ends : (κs : Lfts (S .lifetimes)) (qs : Shares (S .lifetimes)) → Args S κs → Val → SProp 𝓤) → Fun 𝓤 → Type 1
+  WalkOf S Q values ends run =
+      (κs : Lfts (S .lifetimes)) (qs : Shares (S .lifetimes)) (a : Args S κs) → Q κs a
+      → ent 𝓤 (onEntry 𝓤 H A S κs qs a (values κs a)) (run (flat (typesAt (S .params) κs) (values κs a)) (ends κs qs a))
+
+  abbrev pub Walks : Walkable 𝓤 H A → Given 𝓤 H A → Fn → Name → Contract 𝓤 → Type 2
+  Walks w W f k callee = (C : Calls 𝓤 H) (Λ : Loops 𝓤 H) → FmC 𝓤 H (W .laws) C → Triple 𝓤 (C k) callee → w .Walk (WpFn 𝓤 H C Λ f)
 
 -- what is walked is met, where the function of the environment γ at k meets what is asked of it
 module _ {M : Type 1} (𝓤 : URA M) (H : Heap 𝓤) (𝓜 : Model 𝓤 H) (𝓖 : GhostRules 𝓤 H) (𝓡 : Running 𝓤 H 𝓜) where
-  pub by-walk : (c : Contract 𝓤) (Walk : Fun 𝓤 → Type 1)
-      → ((run : Fun 𝓤) → ((vs : List Val) → Mono 𝓤 (run vs)) → Walk run → Triple 𝓤 run c)
-      → (γ : Names) (this : Name) (f : Fn) → Closed 𝓤 H (tables 𝓤 H 𝓜 𝓡 γ .C) (tables 𝓤 H 𝓜 𝓡 γ .Λ) this f
+  pub by-walk : (w : Walkable 𝓤 H (𝓖 .A)) (γ : Names) (this : Name) (f : Fn)
+      → Closed 𝓤 H (tables 𝓤 H 𝓜 𝓡 γ .C) (tables 𝓤 H 𝓜 𝓡 γ .Λ) this f
       → (k : Name) (r : Routine) → γ k ≡ r → (callee : Contract 𝓤) → Triple 𝓤 (𝓡 .run r) callee
-      → ((C : Calls 𝓤 H) (Λ : Loops 𝓤 H) → FmC 𝓤 H (givenOf 𝓤 H 𝓜 𝓖 .laws) C → Triple 𝓤 (C k) callee → Walk (WpFn 𝓤 H C Λ f))
-      → Triple 𝓤 (𝓡 .run (γ this)) c
+      → Walks 𝓤 H (𝓖 .A) w (givenOf 𝓤 H 𝓜 𝓖) f k callee → Triple 𝓤 (𝓡 .run (γ this)) (w .contract)
   unfolding tablesOf
-  by-walk c Walk met γ this f closed k r e callee known walk =
+  by-walk w γ this f closed k r e callee known walk =
       let 𝓣 = tablesOf 𝓤 H 𝓜 (tables 𝓤 H 𝓜 𝓡 γ) in
       let L = givenOf 𝓤 H 𝓜 𝓖 .laws in
-      entered 𝓤 H c (tables 𝓤 H 𝓜 𝓡 γ .C) (tables 𝓤 H 𝓜 𝓡 γ .Λ) this f closed
-      (met (WpFn 𝓤 H (𝓣 .C) (𝓣 .Λ) f) (WpFn-mono 𝓤 H L 𝓣 f)
+      entered 𝓤 H (w .contract) (tables 𝓤 H 𝓜 𝓡 γ .C) (tables 𝓤 H 𝓜 𝓡 γ .Λ) this f closed
+      (w .met (WpFn 𝓤 H (𝓣 .C) (𝓣 .Λ) f) (WpFn-mono 𝓤 H L 𝓣 f)
       (walk (𝓣 .C) (𝓣 .Λ) (fmOf 𝓤 H L 𝓣) (cited 𝓤 H callee 𝓜 𝓡 γ k r e known)))

@@ -54,6 +54,7 @@ use Rattle.screens.specs.in_place.OnStructs.{at, answerAll}
 use Rattle.session.proofs.state.Session as T
 use Rattle.session.proofs.state.Session.Laws as T′
 use Rattle.session.proofs.in_place.InPlace.{vals}
+use Rattle.session.proofs.in_place.WalkSteps.{gone}
 use Rattle.screens.proofs.in_place.OnRun.{unless, is-eight, not-eight, scaled, has}
 use Rattle.screens.proofs.in_place.DoneLaws.{no-run-read, no-screen-read, read-done}
 use Rattle.session.specs.declared.answers.ReadAnswer.{ReadAnswer}

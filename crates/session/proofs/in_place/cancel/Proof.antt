@@ -19,11 +19,9 @@ use contract.Running.{givenOf}
 use types.Kit.{Given, ‵, _$_, _∵_, !, by, move, keep, drop, rewrite, fsplit}
 use types.Part.{whole, sub, look-in}
 use types.Run.{look, look-raw, init, store-raw, stop, hop, fld, from, load, of-opd, and-then, no-more, land, assigns}
-use types.Run.{returns, enter, alloc1, alloc0, params1, pass1, pass0, free0}
-use denote.RattleType.{flat}
+use types.Run.{returns, alloc1, alloc0, params1, pass1, pass0, free0}
 use denote.Laws.{Is}
 use denote.Ref.{ptr, now}
-use denote.Signature.{typesAt}
 use denote.Steps.{closes, owned}
 use denote.Triple.Spec.{tripleOf}
 use denote.Triple.Clauses.{atExit}
@@ -32,8 +30,8 @@ use denote.Enum.Laws as EL
 use Rattle.session.proofs.state.Session as T
 use Rattle.session.proofs.state.Session.Laws as T′
 use Rattle.session.proofs.in_place.Lendings.{Lending}
-use Rattle.session.proofs.in_place.InPlace.{vals, passed, exits, begun, Walk, Walks, met, spelled}
-use Rattle.session.proofs.in_place.WalkSteps.{gone, calls-with, opened, by-walk}
+use Rattle.session.proofs.in_place.InPlace.{vals, passed, exits, begun, called, spelled}
+use Rattle.session.proofs.in_place.WalkSteps.{gone, calls-with, opened, Walks, by-walk}
 use Rattle.session.proofs.answers.Called as O
 use Rattle.session.proofs.answers.Called.Laws as O′
 use Rattle.session.proofs.answers.CallAnswer as E
@@ -52,10 +50,9 @@ abbrev lends : List (Lending 1)
 lends = []
 
 walk : {M : Type 1} (𝓤 : URA M) (H : Heap 𝓤) (A : Atoms 𝓤) (W : Given 𝓤 H A) (at-mem : Memory → SProp 𝓤) (run :
-    Routine → Fun 𝓤) → Walks lends E.the-row 𝓤 H A Promised W code.function #step (tripleOf 𝓤 H A step.signature
-    (step.spec 𝓤 H A at-mem run))
-walk 𝓤 H A W at-mem run C Λ fm known κs qs a fit = begun lends E.the-row 𝓤 H A Promised κs qs a W ∵
-    enter ! C Λ code.function (flat (typesAt (this.signature .params) κs) (passed lends E.the-row κs a)) _ $
+    Routine → Fun 𝓤) → Walks 𝓤 H A (called lends E.the-row 𝓤 H A Promised W) W code.function #step (tripleOf 𝓤 H A
+    step.signature (step.spec 𝓤 H A at-mem run))
+walk 𝓤 H A W at-mem run C Λ fm known κs qs a fit = begun lends E.the-row 𝓤 H A Promised κs qs a W C Λ code.function ∵
     alloc1 ! (λ l₀. alloc1 ! (λ l₁. alloc1 ! (λ l₂. alloc1 ! (λ l₃. alloc0 ! $ params1 ! $
     pass1 ! (init ! 4 refl (tt, tt)) $ pass0 ! $ move ! (8 ∷ 9 ∷ 10 ∷ []) $ opened ! tt (now (a .0)) (ptr (a .0) .0)
     (ptr (a .0) .1) (λ g. assigns ! (of-opd ! (load ! (from ! (hop ! (look ! 9 refl) (stop !))) (look-raw ! 0 refl)))
@@ -79,8 +76,7 @@ walk 𝓤 H A W at-mem run C Λ fm known κs qs a fit = begun lends E.the-row �
 
 pub cancel-spec : {M : Type 1} → stated.statement M
 unfolding code.routine
-cancel-spec 𝓤 H 𝓜 𝓖 𝓡 = let W = givenOf 𝓤 H 𝓜 𝓖 in by-walk 𝓤 H 𝓜 𝓖 𝓡 (tripleOf 𝓤 H (𝓖 .A) this.signature (this.spec 𝓤
-    H (𝓖 .A) (𝓜 .mem) (𝓡 .run))) (Walk lends E.the-row 𝓤 H (𝓖 .A) Promised) (met lends E.the-row 𝓤 H (𝓖 .A) Promised
-    W) code.env #this code.function (code.unfolded 𝓤 H 𝓜 𝓡) #step step-def.routine
+cancel-spec 𝓤 H 𝓜 𝓖 𝓡 = let W = givenOf 𝓤 H 𝓜 𝓖 in by-walk 𝓤 H 𝓜 𝓖 𝓡 (called lends E.the-row 𝓤 H (𝓖 .A) Promised W)
+    code.env #this code.function (code.unfolded 𝓤 H 𝓜 𝓡) #step step-def.routine
     code.calls-session·state·Session·cancel (tripleOf 𝓤 H (𝓖 .A) step.signature (step.spec 𝓤 H (𝓖 .A) (𝓜 .mem) (𝓡
     .run))) (step-thm.met 𝓤 H 𝓜 𝓖 𝓡) (walk 𝓤 H (𝓖 .A) W (𝓜 .mem) (𝓡 .run))
