@@ -9,8 +9,8 @@
 --     lends-run, run-back   a local of eight records is borrowed as a `&mut` slice, and owned again when that is over
 --     shows-run, run-again  the same of a `&` slice
 --     in-field         eight records stand for a field of a struct
---     in-struct        the machine value of eight records in a struct
---     same-run, spelled-run   it is that of records which a call in place left
+--     in-struct        the machine value of eight records in a struct.   spelled-run   it is that of records which a
+--                      call in place left
 --     by-mut, by-shr   what is handed to a call by `&mut`, or by `&`
 use mathlib.Core.Path.{_≡_, refl, sym, ap, _∙_, subst}
 use Prim.Native.Nat.{ℕ}
@@ -226,9 +226,6 @@ told : (ys : List Session) (v : Val) → Is Eight ys (v ∷ []) → v ∷ [] ≡
 told ys v is =
     array-tells T.the-row vals (LL.tells T.the-type T′.the-laws) 8 ys (v ∷ []) is
     ∙ ap (λ (us : List Val). arrayVal us ∷ []) (fused ys)
-
-pub same-run : (ys : List Session) (v : Val) → Is Eight ys (v ∷ []) → Is Eight ys (in-struct ys)
-same-run ys v is = subst (λ (us : List Val). Is Eight ys us) (told ys v is) is
 
 pub spelled-run : (ys : List Session) (v : Val) → Is Eight ys (v ∷ []) → v ≡ lowered ys
 spelled-run ys v is = let e : v ∷ [] ≡ lowered ys ∷ [] = told ys v is in (cc)

@@ -1,10 +1,11 @@
 -- Steps of the calculus of walks (`types.Kit`) that the walks of this project share, each made of several of its own.
 --     gone                     a local is freed, whatever it holds
---     calls-on                 a call of a function that promises a fact: its result r, the last values ws of its arguments, and the fact
+--     calls-on                 a call of a function that promises a fact: its result r, whose machine value is spelled out,
+--                              the last values ws of its arguments, and the fact
 --     calls-with               the same, where the call is passed what P and Q own, and tokens
 --     opened                   the borrow of a session's record is opened: its machine values are spelled out
---     enum-spelled, enum-same  the machine value of an answer that a call returned
---     Walkable                 a contract, and walks that are enough for it.   Walks   those of code that calls a function
+--     enum-spelled             the machine value of an answer that a call returned
+--     Walkable                 a contract, and walks that are enough for it.   Walks, over   those of code that calls a function
 --     by-walk                  a function whose code is walked meets its contract, where what it calls meets its own
 use mathlib.Core.Path.{_≡_, refl, sym, subst}
 use Prim.Native.Nat.{ℕ, zero}
@@ -23,7 +24,7 @@ use contract.Lifetimes.{Lfts, Shares}
 use contract.Monad.{Fun, Mono, fact}
 use contract.Running.{Running, GhostRules, givenOf, tables, tablesOf}
 use types.Kit.{Given, Item, ‵, raw, _⊛_, mean, nth, put, sel, sel⊢, ⋆, some, later, Post, Goal, Soaks, runs, lands, frees, Seq, Step, step}
-use types.Kit.{_$_, _∵_, !, qed, by, move, split, split3, join, fjoin, group, pick, rewrite, use1, await, frame, done}
+use types.Kit.{_$_, _∵_, !, qed, by, move, split, split3, join, fjoin, group, pick, rewrite, regoal, use1, await, frame, done}
 use types.Run.{Opds, forget, free1}
 use types.SemTy.{Body}
 use sound.WpLaws.{FmC, fmOf, WpFn-mono}
@@ -50,9 +51,6 @@ use Rattle.session.proofs.state.Session.Laws as T′
 pub enum-spelled : (E : EnumDeclared) (L : EL.Laws E) (d : E .D) (v : Val) → Is (enum-row E) d (v ∷ []) → v ≡ EL.val E L d
 enum-spelled E L d v is = let e : v ∷ [] ≡ EL.vals E L d = EL.tells E L d (v ∷ []) is in (cc)
 
-pub enum-same : (E : EnumDeclared) (L : EL.Laws E) (d : E .D) (v : Val) → Is (enum-row E) d (v ∷ []) → Is (enum-row E) d (EL.vals E L d)
-enum-same E L d v is = subst (λ (us : List Val). Is (enum-row E) d us) (EL.tells E L d (v ∷ []) is) is
-
 module _ {M : Type 1} {𝓤 : URA M} {H : Heap 𝓤} {A : Atoms 𝓤} {K : Type 0} {W : Given 𝓤 H A} {Γ : List (Item 𝓤)} where
   -- its cell is entry i, and its end is entry j of those that are left then
   pub gone : K → (i j : ℕ) {τ : Ty} {b : ℕ} {v : Val} {E : Env 𝓤 H} {g : Goal 𝓤 H} {Γ′ : List (Item 𝓤)}
@@ -69,11 +67,12 @@ module _ {M : Type 1} {𝓤 : URA M} {H : Heap 𝓤} {A : Atoms 𝓤} {K : Type 
       (t : K) (fm : FmC 𝓤 H (W .laws) C) (T : Ended) (c : Clauses 𝓤 T) (met : Triple 𝓤 (C f) (tripleOf 𝓤 H A (T .signature) (closing 𝓤 H A T c)))
       (x : Bound 𝓤 H A (T .signature)) (g : c (x .0) (x .3) .ghost) (Φ : Res (T .signature) (x .0) → Lasts T (x .0) (x .3) → Type 0)
       (is-fact : (r : Res (T .signature) (x .0)) (ws : Lasts T (x .0) (x .3))
-      → c (x .0) (x .3) .ensures g r (atExit T (x .0) (x .3) ws) ≡ fact 𝓤 (Φ r ws)) where
+      → c (x .0) (x .3) .ensures g r (atExit T (x .0) (x .3) ws) ≡ fact 𝓤 (Φ r ws)) (value : Res (T .signature) (x .0) → Val)
+      (spelled : (r : Res (T .signature) (x .0)) (v : Val) → Is (typeAt (T .signature .result) (x .0)) r (v ∷ []) → v ≡ value r) where
     pub calls-on : {i : Item 𝓤} → ent 𝓤 (mean 𝓤 H A i) (tripleOf 𝓤 H A (T .signature) (closing 𝓤 H A T c) .pre (x, g))
         → Opds K W (i ∷ Γ) E xs (passed 𝓤 H A (T .signature) x)
-        → ((v : Val) (r : Res (T .signature) (x .0)) (ws : Lasts T (x .0) (x .3)) → Φ r ws → Is (typeAt (T .signature .result) (x .0)) r (v ∷ [])
-        → Seq K W (‵ (lasts T (x .0) (x .3) ws) ∷ raw (alive 𝓤 H A (T .signature) (x .0) (x .1)) ∷ Γ) (lands C Λ E d v b q))
+        → ((r : Res (T .signature) (x .0)) (ws : Lasts T (x .0) (x .3)) → Φ r ws → Is (typeAt (T .signature .result) (x .0)) r (value r ∷ [])
+        → Seq K W (‵ (lasts T (x .0) (x .3) ws) ∷ raw (alive 𝓤 H A (T .signature) (x .0) (x .1)) ∷ Γ) (lands C Λ E d (value r) b q))
         → Seq K W (i ∷ Γ) (runs C Λ E (seq (call f xs d) b) q)
     calls-on {i} asked os k =
         let R = typeAt (T .signature .result) (x .0) in
@@ -86,13 +85,15 @@ module _ {M : Type 1} {𝓤 : URA M} {H : Heap 𝓤} {A : Atoms 𝓤} {K : Type 
         ‵ (lasts T (x .0) (x .3) ws) ⊛ raw (c (x .0) (x .3) .ensures g r (atExit T (x .0) (x .3) ws)))) (id⊢ 𝓤 _) $
         pick t (λ ws. split t $ move t (1 ∷ []) $ rewrite t 0 (λ (S : SProp 𝓤). raw S) (is-fact r ws) refl $
         heard t (Φ r ws) (λ e. move t (1 ∷ []) $ split t $ move t (1 ∷ []) $
-        facts t R (Is R) (shows 𝓤 H A R) r (v ∷ []) (λ is. move t (1 ∷ 0 ∷ []) $ k v r ws e is)))))
+        facts t R (Is R) (shows 𝓤 H A R) r (v ∷ []) (λ is. move t (1 ∷ 0 ∷ []) $
+        regoal t (λ u. lands C Λ E d u b q) (spelled r v is) refl $
+        k r ws e (subst (λ (u : Val). Is R r (u ∷ [])) (spelled r v is) is))))))
 
     pub calls-with : {P Q : Fml} {tokens : SProp 𝓤}
         → sep 𝓤 (sep 𝓤 tokens (sem 𝓤 H A (fsep P Q))) (emp 𝓤) ≡ tripleOf 𝓤 H A (T .signature) (closing 𝓤 H A T c) .pre (x, g)
         → Opds K W ((‵ P ⊛ ‵ Q ⊛ raw tokens) ∷ Γ) E xs (passed 𝓤 H A (T .signature) x)
-        → ((v : Val) (r : Res (T .signature) (x .0)) (ws : Lasts T (x .0) (x .3)) → Φ r ws → Is (typeAt (T .signature .result) (x .0)) r (v ∷ [])
-        → Seq K W (‵ (lasts T (x .0) (x .3) ws) ∷ raw (alive 𝓤 H A (T .signature) (x .0) (x .1)) ∷ Γ) (lands C Λ E d v b q))
+        → ((r : Res (T .signature) (x .0)) (ws : Lasts T (x .0) (x .3)) → Φ r ws → Is (typeAt (T .signature .result) (x .0)) r (value r ∷ [])
+        → Seq K W (‵ (lasts T (x .0) (x .3) ws) ∷ raw (alive 𝓤 H A (T .signature) (x .0) (x .1)) ∷ Γ) (lands C Λ E d (value r) b q))
         → Seq K W (‵ P ∷ ‵ Q ∷ raw tokens ∷ Γ) (runs C Λ E (seq (call f xs d) b) q)
     calls-with {P} {Q} {tokens} is-asked os k =
         group t 3 $ calls-on (subst (λ (S : SProp 𝓤). ent 𝓤 (mean 𝓤 H A (‵ P ⊛ ‵ Q ⊛ raw tokens)) S) is-asked
@@ -126,19 +127,24 @@ module _ {M : Type 1} (𝓤 : URA M) (H : Heap 𝓤) (A : Atoms 𝓤) where
       (κs : Lfts (S .lifetimes)) (qs : Shares (S .lifetimes)) (a : Args S κs) → Q κs a
       → ent 𝓤 (onEntry 𝓤 H A S κs qs a (values κs a)) (run (flat (typesAt (S .params) κs) (values κs a)) (ends κs qs a))
 
-  abbrev pub Walks : Walkable 𝓤 H A → Given 𝓤 H A → Fn → Name → Contract 𝓤 → Type 2
-  Walks w W f k callee = (C : Calls 𝓤 H) (Λ : Loops 𝓤 H) → FmC 𝓤 H (W .laws) C → Triple 𝓤 (C k) callee → w .Walk (WpFn 𝓤 H C Λ f)
+-- a walk of the code f, whose only call, at the key k, has the contract c
+pub record Walks {M : Type 1} (𝓤 : URA M) (H : Heap 𝓤) (A : Atoms 𝓤) (w : Walkable 𝓤 H A) (W : Given 𝓤 H A) (f : Fn) (k : Name)
+    (c : Contract 𝓤) : Type 2 where
+  pub walk : (C : Calls 𝓤 H) (Λ : Loops 𝓤 H) → FmC 𝓤 H (W .laws) C → Triple 𝓤 (C k) c → w .Walk (WpFn 𝓤 H C Λ f)
+
+pub over : {M : Type 1} {𝓤 : URA M} {H : Heap 𝓤} {A : Atoms 𝓤} {w : Walkable 𝓤 H A} {W : Given 𝓤 H A} {f : Fn} {k : Name} {c : Contract 𝓤}
+    → ((C : Calls 𝓤 H) (Λ : Loops 𝓤 H) → FmC 𝓤 H (W .laws) C → Triple 𝓤 (C k) c → w .Walk (WpFn 𝓤 H C Λ f)) → Walks 𝓤 H A w W f k c
+over walk = record { walk = walk }
 
 -- what is walked is met, where the function of the environment γ at k meets what is asked of it
 module _ {M : Type 1} (𝓤 : URA M) (H : Heap 𝓤) (𝓜 : Model 𝓤 H) (𝓖 : GhostRules 𝓤 H) (𝓡 : Running 𝓤 H 𝓜) where
-  pub by-walk : (w : Walkable 𝓤 H (𝓖 .A)) (γ : Names) (this : Name) (f : Fn)
-      → Closed 𝓤 H (tables 𝓤 H 𝓜 𝓡 γ .C) (tables 𝓤 H 𝓜 𝓡 γ .Λ) this f
-      → (k : Name) (r : Routine) → γ k ≡ r → (callee : Contract 𝓤) → Triple 𝓤 (𝓡 .run r) callee
-      → Walks 𝓤 H (𝓖 .A) w (givenOf 𝓤 H 𝓜 𝓖) f k callee → Triple 𝓤 (𝓡 .run (γ this)) (w .contract)
+  pub by-walk : {w : Walkable 𝓤 H (𝓖 .A)} {f : Fn} {k : Name} {c : Contract 𝓤} (walks : Walks 𝓤 H (𝓖 .A) w (givenOf 𝓤 H 𝓜 𝓖) f k c)
+      (γ : Names) (this : Name) → Closed 𝓤 H (tables 𝓤 H 𝓜 𝓡 γ .C) (tables 𝓤 H 𝓜 𝓡 γ .Λ) this f
+      → (r : Routine) → γ k ≡ r → Triple 𝓤 (𝓡 .run r) c → Triple 𝓤 (𝓡 .run (γ this)) (w .contract)
   unfolding tablesOf
-  by-walk w γ this f closed k r e callee known walk =
+  by-walk {w} {f} {k} {c} walks γ this closed r e known =
       let 𝓣 = tablesOf 𝓤 H 𝓜 (tables 𝓤 H 𝓜 𝓡 γ) in
       let L = givenOf 𝓤 H 𝓜 𝓖 .laws in
       entered 𝓤 H (w .contract) (tables 𝓤 H 𝓜 𝓡 γ .C) (tables 𝓤 H 𝓜 𝓡 γ .Λ) this f closed
       (w .met (WpFn 𝓤 H (𝓣 .C) (𝓣 .Λ) f) (WpFn-mono 𝓤 H L 𝓣 f)
-      (walk (𝓣 .C) (𝓣 .Λ) (fmOf 𝓤 H L 𝓣) (cited 𝓤 H callee 𝓜 𝓡 γ k r e known)))
+      (walks .walk (𝓣 .C) (𝓣 .Λ) (fmOf 𝓤 H L 𝓣) (cited 𝓤 H c 𝓜 𝓡 γ k r e known)))

@@ -35,10 +35,10 @@ use Rattle.session.specs.Answers.{readAnswer}
 use Rattle.session.proofs.state.Session as T
 use Rattle.session.proofs.state.Session.Laws as T′
 use Rattle.session.proofs.in_place.Lendings.{Lending, fitting}
-use Rattle.session.proofs.in_place.WalkSteps.{gone, calls-with, Walks, by-walk}
+use Rattle.session.proofs.in_place.WalkSteps.{gone, calls-with, enum-spelled, Walks, over, by-walk}
 use Rattle.probes.proofs.Lent.{borrowed, owned-again}
 use Rattle.probes.proofs.LentRun.{Eight, records, number, passed, exits, begun, called, shows-run, run-again}
-use Rattle.probes.proofs.LentRun.{lent-ref, by-shr, Shares-of}
+use Rattle.probes.proofs.LentRun.{lent-ref, by-shr, Shares-of, lowered, spelled-run}
 use Rattle.session.specs.declared.answers.ReadAnswer.{ReadAnswer}
 use Rattle.session.proofs.answers.ReadAnswer as E
 use Rattle.session.proofs.answers.ReadAnswer.Laws as E′
@@ -60,12 +60,12 @@ lends = records ∷ rest
 abbrev Promised : (κs : Lfts 0) (a : Args this.signature κs) → ReadAnswer → AtExit this.ended κs → Type 0
 Promised κs a r e = screens.one (readAnswer r) ≡ answerAll (a .0) (screens.readOn (a .1 .0))
 
-walk : {M : Type 1} (𝓤 : URA M) (H : Heap 𝓤) (A : Atoms 𝓤) (W : Given 𝓤 H A) (at-mem : Memory → SProp 𝓤) (run :
+walks : {M : Type 1} (𝓤 : URA M) (H : Heap 𝓤) (A : Atoms 𝓤) (W : Given 𝓤 H A) (at-mem : Memory → SProp 𝓤) (run :
     Routine → Fun 𝓤) → Walks 𝓤 H A (called lends E.the-row 𝓤 H A Promised W) W code.function #step (tripleOf 𝓤 H A
     step.signature (step.spec 𝓤 H A at-mem run))
-walk 𝓤 H A W at-mem run C Λ fm known κs qs a are = let fit = fitting κs 𝓤 H A W lends a are in begun lends E.the-row 𝓤
-    H A Promised κs qs a W C Λ code.function ∵ alloc1 ! (λ l₀. alloc1 ! (λ l₁. alloc1 ! (λ l₂. alloc1 ! (λ l₃. alloc1
-    ! (λ l₄. alloc1 ! (λ l₅. alloc0 ! $ params1 ! $ pass1 ! (init ! 8 refl (fit .0 .0)) $
+walks 𝓤 H A W at-mem run = over (λ C Λ fm known κs qs a are. let fit = fitting κs 𝓤 H A W lends a are in begun lends
+    E.the-row 𝓤 H A Promised κs qs a W C Λ code.function ∵ alloc1 ! (λ l₀. alloc1 ! (λ l₁. alloc1 ! (λ l₂. alloc1 ! (λ
+    l₃. alloc1 ! (λ l₄. alloc1 ! (λ l₅. alloc0 ! $ params1 ! $ pass1 ! (init ! 8 refl (fit .0 .0)) $
     pass1 ! (init ! 6 refl (fit .1 .0 .0)) $ pass0 ! $ move ! (12 ∷ []) $ fsplit ! $ drop ! $
     assigns ! (of-opd ! (load ! (from ! (stop !)) (look ! 9 refl))) (from ! (stop !)) (init ! 5 refl (fit .0 .0)) $
     assigns ! (addr ! (from ! (stop !))) (from ! (stop !)) (init ! 3 refl (tt, tt)) $
@@ -76,19 +76,18 @@ walk 𝓤 H A W at-mem run C Λ fm known κs qs a are = let fit = fitting κs �
     shows-run 𝓤 H A W (α ∷ []) (a .0) l₃) (λ α δ. move ! (0 ∷ 3 ∷ 2 ∷ []) $ calls-with ! fm step.ended (step.clauses 𝓤
     H A at-mem run) known
     ((α ∷ [], κs), (fullShare, qs), tt, (lent-ref (a .0) l₃ δ, a .1), (sliceVal (l₃, 0) 8 ∷ [], passed lends E.the-row κs a .1))
-    tt (λ r ws. Promised κs a r (atExit this.ended κs a (tt, ws .1))) (λ r ws. refl) refl (and-then ! (load ! (from !
-    (stop !)) (look ! 2 refl)) (and-then ! (load ! (from ! (stop !)) (look ! 7 refl)) (no-more !))) (λ v r ws e is.
-    fsplit ! $ land ! (from ! (stop !)) (init ! 13 refl (EL.lawful E.the-type E′.the-laws 𝓤 H A W tt .typed r _ is
-    .0)) $ move ! (0 ∷ 2 ∷ 3 ∷ []) $ owned-again ! tt 0 κs qs Eight refl (tyArray T′.mir 8) refl (a .0) l₃ (run-again
-    𝓤 H A W (α ∷ []) (a .0) l₃ ftrue) (λ u k. returns ! (look ! 12 refl) $ gone ! 12 12 refl refl $
-    gone ! 10 10 refl refl $ gone ! 8 8 refl refl $ gone ! 0 6 refl refl $ gone ! 4 4 refl refl $
-    gone ! 2 2 refl refl $ free0 ! $ owned ! E.the-row (Is E.the-row) (EL.makes E.the-type E′.the-plain 𝓤 H A) r _ is
-    $ move ! (2 ∷ []) $ nothing ! $ fjoin ! $ keep ! (2 ∷ 0 ∷ 1 ∷ []) $ by ! (exits lends E.the-row 𝓤 H A Promised κs
-    qs a r (tt, ws .1) _ W e))))))))))
+    tt (λ r ws. Promised κs a r (atExit this.ended κs a (tt, ws .1))) (λ r ws. refl) (EL.val E.the-type E′.the-laws)
+    (enum-spelled E.the-type E′.the-laws) refl (and-then ! (load ! (from ! (stop !)) (look ! 2 refl)) (and-then !
+    (load ! (from ! (stop !)) (look ! 7 refl)) (no-more !))) (λ r ws e is. fsplit ! $
+    land ! (from ! (stop !)) (init ! 13 refl (EL.lawful E.the-type E′.the-laws 𝓤 H A W tt .typed r _ is .0)) $
+    move ! (0 ∷ 2 ∷ 3 ∷ []) $ owned-again ! tt 0 κs qs Eight refl (tyArray T′.mir 8) refl (a .0) l₃ (run-again 𝓤 H A W
+    (α ∷ []) (a .0) l₃ ftrue) (lowered (a .0)) (spelled-run (a .0)) (λ k. returns ! (look ! 12 refl) $
+    gone ! 12 12 refl refl $ gone ! 10 10 refl refl $ gone ! 8 8 refl refl $ gone ! 0 6 refl refl $
+    gone ! 4 4 refl refl $ gone ! 2 2 refl refl $ free0 ! $ owned ! E.the-row (Is E.the-row) (EL.makes E.the-type
+    E′.the-plain 𝓤 H A) r _ is $ move ! (2 ∷ []) $ nothing ! $ fjoin ! $ keep ! (2 ∷ 0 ∷ 1 ∷ []) $
+    by ! (exits lends E.the-row 𝓤 H A Promised κs qs a r (tt, ws .1) _ W e)))))))))))
 
 pub read-on-spec : {M : Type 1} → stated.statement M
 unfolding code.routine
-read-on-spec 𝓤 H 𝓜 𝓖 𝓡 = let W = givenOf 𝓤 H 𝓜 𝓖 in by-walk 𝓤 H 𝓜 𝓖 𝓡 (called lends E.the-row 𝓤 H (𝓖 .A) Promised W)
-    code.env #this code.function (code.unfolded 𝓤 H 𝓜 𝓡) #step step-def.routine code.calls-screens·in-place·read
-    (tripleOf 𝓤 H (𝓖 .A) step.signature (step.spec 𝓤 H (𝓖 .A) (𝓜 .mem) (𝓡 .run))) (step-thm.met 𝓤 H 𝓜 𝓖 𝓡) (walk 𝓤 H
-    (𝓖 .A) W (𝓜 .mem) (𝓡 .run))
+read-on-spec 𝓤 H 𝓜 𝓖 𝓡 = by-walk 𝓤 H 𝓜 𝓖 𝓡 (walks 𝓤 H (𝓖 .A) (givenOf 𝓤 H 𝓜 𝓖) (𝓜 .mem) (𝓡 .run)) code.env #this
+    (code.unfolded 𝓤 H 𝓜 𝓡) step-def.routine code.calls-screens·in-place·read (step-thm.met 𝓤 H 𝓜 𝓖 𝓡)

@@ -34,7 +34,8 @@ use Rattle.session.specs.Promises.{answerOn}
 use Rattle.session.proofs.state.Session as T
 use Rattle.session.proofs.state.Session.Laws as T′
 use Rattle.session.proofs.in_place.Lendings.{Lending}
-use Rattle.session.proofs.in_place.WalkSteps.{gone, calls-with, Walks, by-walk}
+use Rattle.session.proofs.in_place.InPlace.{spelled}
+use Rattle.session.proofs.in_place.WalkSteps.{gone, calls-with, enum-spelled, Walks, over, by-walk}
 use Rattle.probes.proofs.Lent.{borrowed, owned-again}
 use Rattle.probes.proofs.LentRecord.{passed, exits, begun, called, lent-ref, by-shr, as-it-was}
 use Rattle.session.specs.declared.answers.ReadAnswer.{ReadAnswer}
@@ -55,11 +56,11 @@ lends = []
 abbrev Promised : (κs : Lfts 0) (a : Args this.signature κs) → ReadAnswer → AtExit this.ended κs → Type 0
 Promised κs a r e = readAnswer r ≡ answerOn (a .0) calls.read
 
-walk : {M : Type 1} (𝓤 : URA M) (H : Heap 𝓤) (A : Atoms 𝓤) (W : Given 𝓤 H A) (at-mem : Memory → SProp 𝓤) (run :
+walks : {M : Type 1} (𝓤 : URA M) (H : Heap 𝓤) (A : Atoms 𝓤) (W : Given 𝓤 H A) (at-mem : Memory → SProp 𝓤) (run :
     Routine → Fun 𝓤) → Walks 𝓤 H A (called lends E.the-row 𝓤 H A Promised W) W code.function #step (tripleOf 𝓤 H A
     step.signature (step.spec 𝓤 H A at-mem run))
-walk 𝓤 H A W at-mem run C Λ fm known κs qs a fit = begun lends E.the-row 𝓤 H A Promised κs qs a W C Λ code.function (λ
-    g. alloc1 ! (λ l₀. alloc1 ! (λ l₁. alloc1 ! (λ l₂. alloc1 ! (λ l₃. alloc0 ! $ params1 ! $
+walks 𝓤 H A W at-mem run = over (λ C Λ fm known κs qs a fit. begun lends E.the-row 𝓤 H A Promised κs qs a W C Λ
+    code.function (λ g. alloc1 ! (λ l₀. alloc1 ! (λ l₁. alloc1 ! (λ l₂. alloc1 ! (λ l₃. alloc0 ! $ params1 ! $
     pass1 ! (init ! 4 refl (LL.lawful T.the-type T′.the-laws 𝓤 H A W .typed (a .0) _ g .0)) $ pass0 ! $
     assigns ! (of-opd ! (load ! (from ! (stop !)) (look ! 4 refl))) (from ! (stop !)) (init ! 2 refl (LL.lawful
     T.the-type T′.the-laws 𝓤 H A W .typed (a .0) _ g .0)) $ assigns ! (addr ! (from ! (stop !))) (from ! (stop !))
@@ -68,18 +69,17 @@ walk 𝓤 H A W at-mem run C Λ fm known κs qs a fit = begun lends E.the-row �
     α. lends-shr 𝓤 H A W T.the-row (named 0) (α ∷ []) fullShare (a .0) l₂ 0) (λ α δ. move ! (0 ∷ 10 ∷ 2 ∷ []) $
     calls-with ! fm step.ended (step.clauses 𝓤 H A at-mem run) known
     ((α ∷ [], κs), (fullShare, qs), tt, (lent-ref (a .0) l₂ δ, a .1), (vptr l₂ 0 ∷ [], passed lends E.the-row κs a .1))
-    tt (λ r ws. Promised κs a r (atExit this.ended κs a (tt, ws .1))) (λ r ws. refl) refl (and-then ! (load ! (from !
-    (stop !)) (look ! 2 refl)) (no-more !)) (λ v r ws e is. fsplit ! $ land ! (from ! (stop !)) (init ! 9 refl
-    (EL.lawful E.the-type E′.the-laws 𝓤 H A W tt .typed r _ is .0)) $ move ! (0 ∷ 2 ∷ 3 ∷ []) $
-    owned-again ! tt 0 κs qs T.the-row refl T′.mir refl (a .0) l₂ (as-it-was 𝓤 H A W α (partAt T.the-row fullShare (a
-    .0) l₂ 0) ftrue) (λ u k. returns ! (look ! 8 refl) $ gone ! 8 8 refl refl $ gone ! 6 6 refl refl $
+    tt (λ r ws. Promised κs a r (atExit this.ended κs a (tt, ws .1))) (λ r ws. refl) (EL.val E.the-type E′.the-laws)
+    (enum-spelled E.the-type E′.the-laws) refl (and-then ! (load ! (from ! (stop !)) (look ! 2 refl)) (no-more !)) (λ
+    r ws e is. fsplit ! $ land ! (from ! (stop !)) (init ! 9 refl (EL.lawful E.the-type E′.the-laws 𝓤 H A W tt .typed
+    r _ is .0)) $ move ! (0 ∷ 2 ∷ 3 ∷ []) $ owned-again ! tt 0 κs qs T.the-row refl T′.mir refl (a .0) l₂ (as-it-was 𝓤
+    H A W α (partAt T.the-row fullShare (a .0) l₂ 0) ftrue) (LL.val T.the-type T′.the-laws (a .0)) (spelled T.the-type
+    T′.the-laws (a .0)) (λ k. returns ! (look ! 8 refl) $ gone ! 8 8 refl refl $ gone ! 6 6 refl refl $
     gone ! 0 4 refl refl $ gone ! 2 2 refl refl $ free0 ! $ owned ! E.the-row (Is E.the-row) (EL.makes E.the-type
     E′.the-plain 𝓤 H A) r _ is $ keep ! (1 ∷ 2 ∷ 0 ∷ []) $ by ! (exits lends E.the-row 𝓤 H A Promised κs qs a r (ws
-    .1) _ W e)))))))))
+    .1) _ W e))))))))))
 
 pub read-at-spec : {M : Type 1} → stated.statement M
 unfolding code.routine
-read-at-spec 𝓤 H 𝓜 𝓖 𝓡 = let W = givenOf 𝓤 H 𝓜 𝓖 in by-walk 𝓤 H 𝓜 𝓖 𝓡 (called lends E.the-row 𝓤 H (𝓖 .A) Promised W)
-    code.env #this code.function (code.unfolded 𝓤 H 𝓜 𝓡) #step step-def.routine code.calls-session·in-place·read
-    (tripleOf 𝓤 H (𝓖 .A) step.signature (step.spec 𝓤 H (𝓖 .A) (𝓜 .mem) (𝓡 .run))) (step-thm.met 𝓤 H 𝓜 𝓖 𝓡) (walk 𝓤 H
-    (𝓖 .A) W (𝓜 .mem) (𝓡 .run))
+read-at-spec 𝓤 H 𝓜 𝓖 𝓡 = by-walk 𝓤 H 𝓜 𝓖 𝓡 (walks 𝓤 H (𝓖 .A) (givenOf 𝓤 H 𝓜 𝓖) (𝓜 .mem) (𝓡 .run)) code.env #this
+    (code.unfolded 𝓤 H 𝓜 𝓡) step-def.routine code.calls-session·in-place·read (step-thm.met 𝓤 H 𝓜 𝓖 𝓡)

@@ -372,29 +372,29 @@ module _ {M : Type 1} (𝓤 : URA M) (H : Heap 𝓤) (A : Atoms 𝓤) (W : Given
         (κs .1, qs .1, tt, (at (now (a .0)) f, a .1 .1), (vals (at (now (a .0)) f), passed lends D.the-row κs a .1 .1))
         tt (λ r ws. CallDone (at (now (a .0)) f) (calls.advance (inputsOf (now (a .1 .1 .0)) (now (a .1 .1 .1 .0))
         (now (a .1 .1 .1 .1 .0)) (now (a .1 .1 .1 .1 .1 .0)))) (advanceAnswer (r .answer)) (r .session)) (λ r ws.
-        refl) refl (and-then ! (load ! (from ! (stop !)) (look ! 50 refl)) (and-then ! (load ! (from ! (stop !)) (look
-        ! 60 refl)) (and-then ! (load ! (from ! (stop !)) (look ! 58 refl)) (and-then ! (load ! (from ! (stop !))
-        (look ! 56 refl)) (and-then ! (load ! (from ! (stop !)) (look ! 54 refl)) (no-more !)))))) (λ v r ws e is. let
-        owed = LL.owed O.the-type O′.the-laws r (v ∷ []) is in fsplit ! $ drop ! $
-        land ! (from ! (stop !)) (init ! 49 refl (LL.lawful O.the-type O′.the-laws 𝓤 H A W .typed r _ is .0)) $
-        rewrite ! 49 (λ (u : Val). ‵ (fat fullShare O′.mir l₉ 0 u)) (spelled O.the-type O′.the-laws r v is) refl $
-        assigns ! (bin ! (load ! (from ! (stop !)) (look ! 53 refl)) (lit ! tt) (scaled f inside)) (from ! (stop !))
-        (store ! 47 refl (tt, scaled f inside)) $ assigns ! (bin ! (load ! (from ! (fld ! refl (stop !))) (look-in !
-        65 (sub ! 0 refl (whole !)))) (load ! (from ! (stop !)) (look ! 47 refl)) tt) (from ! (stop !)) (init ! 7 refl
-        (tt, tt)) $ rewrite ! 7 (λ (p : ℕ). ‵ (fat fullShare tyPtr l₃₀ 0 (vptr (ptr (a .0) .0) p))) (sym (place-is 992
-        (ptr (a .0) .1) f)) refl $ assigns ! (of-opd ! (load ! (from ! (fld ! refl (stop !))) (look-in ! 49 (sub ! 1
-        refl (whole !))))) (from ! (hop ! (look ! 7 refl) (stop !))) (store-raw ! 2 refl (LL.lawful T.the-type
-        T′.the-laws 𝓤 H A W .typed (r .session) _ (owed .1 .0) .0)) $ use0 W (raw (Tell 𝓤 H A at-mem run .pre (to-tell
-        r f))) (goes-tell r f (owed .0) (isf .1)) $ calls-at ! fm (Tell 𝓤 H A at-mem run) known-tell (to-tell r f)
-        (and-then ! (load ! (from ! (fld ! refl (stop !))) (look-in ! 50 (sub ! 0 refl (whole !)))) (and-then ! (load
-        ! (from ! (stop !)) (look ! 54 refl)) (no-more !))) (λ v₂. use1 W (later (some (λ (t : DealAnswer). (‵ ftrue ⊛
-        ‵ (D.the-row .own t (v₂ ∷ []))) ⊛ raw (Told-tell r f t)))) (id⊢ 𝓤 _) $ await ! tt $ pick ! (λ t. split ! $
-        move ! (1 ∷ []) $ use1 W (raw (fact 𝓤 (Says r f t))) (said-tell r f t) $
-        heard ! (Says r f t) (λ says-so. split ! $ drop ! $ facts ! D.the-row (Is D.the-row) (shows 𝓤 H A D.the-row) t
-        (v₂ ∷ []) (λ ist. land ! (from ! (stop !)) (init ! 67 refl (EL.lawful D.the-type D′.the-laws 𝓤 H A W tt .typed
-        t _ ist .0)) $ owned ! T.the-row (Is T.the-row) (LL.makes T.the-type T′.the-plain 𝓤 H A) (r .session) _ (owed
-        .1 .0) $ move ! (3 ∷ 0 ∷ 4 ∷ []) $ elem-put ! T.the-row fullShare (now (a .0)) f (r .session) (vals (r
-        .session)) (ptr (a .0) .0) (ptr (a .0) .1) (has (now (a .0)) f eight inside) $ move ! (0 ∷ 3 ∷ 4 ∷ 5 ∷ []) $
+        refl) (LL.val O.the-type O′.the-laws) (spelled O.the-type O′.the-laws) refl (and-then ! (load ! (from ! (stop
+        !)) (look ! 50 refl)) (and-then ! (load ! (from ! (stop !)) (look ! 60 refl)) (and-then ! (load ! (from !
+        (stop !)) (look ! 58 refl)) (and-then ! (load ! (from ! (stop !)) (look ! 56 refl)) (and-then ! (load ! (from
+        ! (stop !)) (look ! 54 refl)) (no-more !)))))) (λ r ws e is. let owed = LL.owed O.the-type O′.the-laws r
+        (LL.vals O.the-type O′.the-laws r) is in fsplit ! $ drop ! $ land ! (from ! (stop !)) (init ! 49 refl
+        (LL.lawful O.the-type O′.the-laws 𝓤 H A W .typed r _ is .0)) $ assigns ! (bin ! (load ! (from ! (stop !))
+        (look ! 53 refl)) (lit ! tt) (scaled f inside)) (from ! (stop !)) (store ! 47 refl (tt, scaled f inside)) $
+        assigns ! (bin ! (load ! (from ! (fld ! refl (stop !))) (look-in ! 65 (sub ! 0 refl (whole !)))) (load ! (from
+        ! (stop !)) (look ! 47 refl)) tt) (from ! (stop !)) (init ! 7 refl (tt, tt)) $
+        rewrite ! 7 (λ (p : ℕ). ‵ (fat fullShare tyPtr l₃₀ 0 (vptr (ptr (a .0) .0) p))) (sym (place-is 992 (ptr (a .0)
+        .1) f)) refl $ assigns ! (of-opd ! (load ! (from ! (fld ! refl (stop !))) (look-in ! 49 (sub ! 1 refl (whole
+        !))))) (from ! (hop ! (look ! 7 refl) (stop !))) (store-raw ! 2 refl (LL.lawful T.the-type T′.the-laws 𝓤 H A W
+        .typed (r .session) _ (owed .1 .0) .0)) $ use0 W (raw (Tell 𝓤 H A at-mem run .pre (to-tell r f))) (goes-tell r
+        f (owed .0) (isf .1)) $ calls-at ! fm (Tell 𝓤 H A at-mem run) known-tell (to-tell r f) (and-then ! (load !
+        (from ! (fld ! refl (stop !))) (look-in ! 50 (sub ! 0 refl (whole !)))) (and-then ! (load ! (from ! (stop !))
+        (look ! 54 refl)) (no-more !))) (λ v₂. use1 W (later (some (λ (t : DealAnswer). (‵ ftrue ⊛ ‵ (D.the-row .own t
+        (v₂ ∷ []))) ⊛ raw (Told-tell r f t)))) (id⊢ 𝓤 _) $ await ! tt $ pick ! (λ t. split ! $ move ! (1 ∷ []) $
+        use1 W (raw (fact 𝓤 (Says r f t))) (said-tell r f t) $ heard ! (Says r f t) (λ says-so. split ! $ drop ! $
+        facts ! D.the-row (Is D.the-row) (shows 𝓤 H A D.the-row) t (v₂ ∷ []) (λ ist. land ! (from ! (stop !)) (init !
+        67 refl (EL.lawful D.the-type D′.the-laws 𝓤 H A W tt .typed t _ ist .0)) $
+        owned ! T.the-row (Is T.the-row) (LL.makes T.the-type T′.the-plain 𝓤 H A) (r .session) _ (owed .1 .0) $
+        move ! (3 ∷ 0 ∷ 4 ∷ []) $ elem-put ! T.the-row fullShare (now (a .0)) f (r .session) (vals (r .session)) (ptr
+        (a .0) .0) (ptr (a .0) .1) (has (now (a .0)) f eight inside) $ move ! (0 ∷ 3 ∷ 4 ∷ 5 ∷ []) $
         closes-slice ! tt T.the-row (now (a .0)) (set (now (a .0)) f (r .session)) (length-set (now (a .0)) f (r
         .session)) (ptr (a .0) .0) (ptr (a .0) .1) $ returns ! (look ! 65 refl) $ gone ! 65 65 refl refl $
         gone ! 63 63 refl refl $ gone ! 61 61 refl refl $ gone ! 59 59 refl refl $ gone ! 57 57 refl refl $
