@@ -18,8 +18,8 @@ use contract.Monad.{Fun}
 use contract.Running.{givenOf}
 use types.Kit.{Given, _$_, _∵_, !, by, move, keep, drop, fsplit, fjoin}
 use types.Part.{agg}
-use types.Run.{look, init, stop, from, load, lit, of-opd, addr, and-then, no-more, land, assigns, returns, alloc1}
-use types.Run.{alloc0, params1, pass1, pass0, free0}
+use types.Run.{look, init, stop, from, lit, of-opd, addr, and-then, no-more, returns, alloc1, alloc0, params1, pass1}
+use types.Run.{pass0, free0}
 use denote.Laws.{Is}
 use denote.Array.{array-makes}
 use denote.Slice.{sliceVal}
@@ -35,7 +35,7 @@ use Rattle.session.specs.Answers.{readAnswer}
 use Rattle.session.proofs.state.Session as T
 use Rattle.session.proofs.state.Session.Laws as T′
 use Rattle.session.proofs.in_place.Lendings.{Lending, fitting}
-use Rattle.session.proofs.in_place.WalkSteps.{gone, calls-with, enum-spelled, Walks, over, by-walk}
+use Rattle.session.proofs.in_place.WalkSteps.{gone, of-local, sets, lands-in, calls-with, enum-spelled, Walks, over, by-walk}
 use Rattle.probes.proofs.Lent.{borrowed, owned-again}
 use Rattle.probes.proofs.LentRun.{Eight, records, number, passed, exits, begun, called, shows-run, run-again}
 use Rattle.probes.proofs.LentRun.{lent-ref, by-shr, Shares-of, lowered, spelled-run}
@@ -67,22 +67,19 @@ walks 𝓤 H A W at-mem run = over (λ C Λ fm known κs qs a are. let fit = fit
     E.the-row 𝓤 H A Promised κs qs a W C Λ code.function ∵ alloc1 ! (λ l₀. alloc1 ! (λ l₁. alloc1 ! (λ l₂. alloc1 ! (λ
     l₃. alloc1 ! (λ l₄. alloc1 ! (λ l₅. alloc0 ! $ params1 ! $ pass1 ! (init ! 8 refl (fit .0 .0)) $
     pass1 ! (init ! 6 refl (fit .1 .0 .0)) $ pass0 ! $ move ! (12 ∷ []) $ fsplit ! $ drop ! $
-    assigns ! (of-opd ! (load ! (from ! (stop !)) (look ! 9 refl))) (from ! (stop !)) (init ! 5 refl (fit .0 .0)) $
-    assigns ! (addr ! (from ! (stop !))) (from ! (stop !)) (init ! 3 refl (tt, tt)) $
-    assigns ! (agg ! (and-then ! (load ! (from ! (stop !)) (look ! 3 refl)) (and-then ! (lit ! tt) (no-more !))))
-    (from ! (stop !)) (init ! 1 refl (tt, (tt, (record { fits = lit< tt }, tt)))) $ move ! (5 ∷ 13 ∷ []) $
-    borrowed ! tt 0 κs qs Eight refl (tyArray T′.mir 8) refl (a .0) l₃ (array-makes 𝓤 H A W T.the-row (LL.makes
-    T.the-type T′.the-plain 𝓤 H A) 8) (are .0) (by-shr (a .0) l₃) (λ α δ. Shares-of 𝓤 H A W (α ∷ []) (a .0) l₃) (λ α.
-    shows-run 𝓤 H A W (α ∷ []) (a .0) l₃) (λ α δ. move ! (0 ∷ 3 ∷ 2 ∷ []) $ calls-with ! fm step.ended (step.clauses 𝓤
-    H A at-mem run) known
+    sets ! (of-opd ! (of-local ! 9 refl)) (init ! 5 refl (fit .0 .0)) $ sets ! (addr ! (from ! (stop !))) (init ! 3
+    refl (tt, tt)) $ sets ! (agg ! (and-then ! (of-local ! 3 refl) (and-then ! (lit ! tt) (no-more !)))) (init ! 1
+    refl (tt, (tt, (record { fits = lit< tt }, tt)))) $ move ! (5 ∷ 13 ∷ []) $ borrowed ! tt 0 κs qs Eight refl
+    (tyArray T′.mir 8) refl (a .0) l₃ (array-makes 𝓤 H A W T.the-row (LL.makes T.the-type T′.the-plain 𝓤 H A) 8) (are
+    .0) (by-shr (a .0) l₃) (λ α δ. Shares-of 𝓤 H A W (α ∷ []) (a .0) l₃) (λ α. shows-run 𝓤 H A W (α ∷ []) (a .0) l₃)
+    (λ α δ. move ! (0 ∷ 3 ∷ 2 ∷ []) $ calls-with ! fm step.ended (step.clauses 𝓤 H A at-mem run) known
     ((α ∷ [], κs), (fullShare, qs), tt, (lent-ref (a .0) l₃ δ, a .1), (sliceVal (l₃, 0) 8 ∷ [], passed lends E.the-row κs a .1))
     tt (λ r ws. Promised κs a r (atExit this.ended κs a (tt, ws .1))) (λ r ws. refl) (EL.val E.the-type E′.the-laws)
-    (enum-spelled E.the-type E′.the-laws) refl (and-then ! (load ! (from ! (stop !)) (look ! 2 refl)) (and-then !
-    (load ! (from ! (stop !)) (look ! 7 refl)) (no-more !))) (λ r ws e is. fsplit ! $
-    land ! (from ! (stop !)) (init ! 13 refl (EL.lawful E.the-type E′.the-laws 𝓤 H A W tt .typed r _ is .0)) $
-    move ! (0 ∷ 2 ∷ 3 ∷ []) $ owned-again ! tt 0 κs qs Eight refl (tyArray T′.mir 8) refl (a .0) l₃ (run-again 𝓤 H A W
-    (α ∷ []) (a .0) l₃ ftrue) (lowered (a .0)) (spelled-run (a .0)) (λ k. returns ! (look ! 12 refl) $
-    gone ! 12 12 refl refl $ gone ! 10 10 refl refl $ gone ! 8 8 refl refl $ gone ! 0 6 refl refl $
+    (enum-spelled E.the-type E′.the-laws) refl (and-then ! (of-local ! 2 refl) (and-then ! (of-local ! 7 refl)
+    (no-more !))) (λ r ws e is. fsplit ! $ lands-in ! (init ! 13 refl (EL.lawful E.the-type E′.the-laws 𝓤 H A W tt
+    .typed r _ is .0)) $ move ! (0 ∷ 2 ∷ 3 ∷ []) $ owned-again ! tt 0 κs qs Eight refl (tyArray T′.mir 8) refl (a .0)
+    l₃ (run-again 𝓤 H A W (α ∷ []) (a .0) l₃ ftrue) (lowered (a .0)) (spelled-run (a .0)) (λ k. returns ! (look ! 12
+    refl) $ gone ! 12 12 refl refl $ gone ! 10 10 refl refl $ gone ! 8 8 refl refl $ gone ! 0 6 refl refl $
     gone ! 4 4 refl refl $ gone ! 2 2 refl refl $ free0 ! $ owned ! E.the-row (Is E.the-row) (EL.makes E.the-type
     E′.the-plain 𝓤 H A) r _ is $ move ! (2 ∷ []) $ nothing ! $ fjoin ! $ keep ! (2 ∷ 0 ∷ 1 ∷ []) $
     by ! (exits lends E.the-row 𝓤 H A Promised κs qs a r (tt, ws .1) _ W e)))))))))))

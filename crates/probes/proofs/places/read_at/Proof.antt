@@ -17,8 +17,8 @@ use contract.Lifetimes.{Lfts}
 use contract.Monad.{Fun}
 use contract.Running.{givenOf}
 use types.Kit.{Given, _$_, !, by, move, keep, fsplit}
-use types.Run.{look, init, stop, from, load, of-opd, addr, and-then, no-more, land, assigns, returns, alloc1, alloc0}
-use types.Run.{params1, pass1, pass0, free0}
+use types.Run.{look, init, stop, from, of-opd, addr, and-then, no-more, returns, alloc1, alloc0, params1, pass1, pass0}
+use types.Run.{free0}
 use denote.Laws.{Is}
 use denote.Memory.{partAt}
 use denote.Lend.{lends-shr}
@@ -35,7 +35,7 @@ use Rattle.session.proofs.state.Session as T
 use Rattle.session.proofs.state.Session.Laws as T′
 use Rattle.session.proofs.in_place.Lendings.{Lending}
 use Rattle.session.proofs.in_place.InPlace.{spelled}
-use Rattle.session.proofs.in_place.WalkSteps.{gone, calls-with, enum-spelled, Walks, over, by-walk}
+use Rattle.session.proofs.in_place.WalkSteps.{gone, of-local, sets, lands-in, calls-with, enum-spelled, Walks, over, by-walk}
 use Rattle.probes.proofs.Lent.{borrowed, owned-again}
 use Rattle.probes.proofs.LentRecord.{passed, exits, begun, called, lent-ref, by-shr, as-it-was}
 use Rattle.session.specs.declared.answers.ReadAnswer.{ReadAnswer}
@@ -62,18 +62,17 @@ walks : {M : Type 1} (𝓤 : URA M) (H : Heap 𝓤) (A : Atoms 𝓤) (W : Given 
 walks 𝓤 H A W at-mem run = over (λ C Λ fm known κs qs a fit. begun lends E.the-row 𝓤 H A Promised κs qs a W C Λ
     code.function (λ g. alloc1 ! (λ l₀. alloc1 ! (λ l₁. alloc1 ! (λ l₂. alloc1 ! (λ l₃. alloc0 ! $ params1 ! $
     pass1 ! (init ! 4 refl (LL.lawful T.the-type T′.the-laws 𝓤 H A W .typed (a .0) _ g .0)) $ pass0 ! $
-    assigns ! (of-opd ! (load ! (from ! (stop !)) (look ! 4 refl))) (from ! (stop !)) (init ! 2 refl (LL.lawful
-    T.the-type T′.the-laws 𝓤 H A W .typed (a .0) _ g .0)) $ assigns ! (addr ! (from ! (stop !))) (from ! (stop !))
-    (init ! 0 refl (tt, tt)) $ move ! (2 ∷ 9 ∷ []) $ borrowed ! tt 0 κs qs T.the-row refl T′.mir refl (a .0) l₂
-    (LL.makes T.the-type T′.the-plain 𝓤 H A) g (by-shr (a .0) l₂) (λ α δ. partAt T.the-row fullShare (a .0) l₂ 0) (λ
-    α. lends-shr 𝓤 H A W T.the-row (named 0) (α ∷ []) fullShare (a .0) l₂ 0) (λ α δ. move ! (0 ∷ 10 ∷ 2 ∷ []) $
-    calls-with ! fm step.ended (step.clauses 𝓤 H A at-mem run) known
-    ((α ∷ [], κs), (fullShare, qs), tt, (lent-ref (a .0) l₂ δ, a .1), (vptr l₂ 0 ∷ [], passed lends E.the-row κs a .1))
+    sets ! (of-opd ! (of-local ! 4 refl)) (init ! 2 refl (LL.lawful T.the-type T′.the-laws 𝓤 H A W .typed (a .0) _ g
+    .0)) $ sets ! (addr ! (from ! (stop !))) (init ! 0 refl (tt, tt)) $ move ! (2 ∷ 9 ∷ []) $
+    borrowed ! tt 0 κs qs T.the-row refl T′.mir refl (a .0) l₂ (LL.makes T.the-type T′.the-plain 𝓤 H A) g (by-shr (a
+    .0) l₂) (λ α δ. partAt T.the-row fullShare (a .0) l₂ 0) (λ α. lends-shr 𝓤 H A W T.the-row (named 0) (α ∷ [])
+    fullShare (a .0) l₂ 0) (λ α δ. move ! (0 ∷ 10 ∷ 2 ∷ []) $ calls-with ! fm step.ended (step.clauses 𝓤 H A at-mem
+    run) known ((α ∷ [], κs), (fullShare, qs), tt, (lent-ref (a .0) l₂ δ, a .1), (vptr l₂ 0 ∷ [], passed lends E.the-row κs a .1))
     tt (λ r ws. Promised κs a r (atExit this.ended κs a (tt, ws .1))) (λ r ws. refl) (EL.val E.the-type E′.the-laws)
-    (enum-spelled E.the-type E′.the-laws) refl (and-then ! (load ! (from ! (stop !)) (look ! 2 refl)) (no-more !)) (λ
-    r ws e is. fsplit ! $ land ! (from ! (stop !)) (init ! 9 refl (EL.lawful E.the-type E′.the-laws 𝓤 H A W tt .typed
-    r _ is .0)) $ move ! (0 ∷ 2 ∷ 3 ∷ []) $ owned-again ! tt 0 κs qs T.the-row refl T′.mir refl (a .0) l₂ (as-it-was 𝓤
-    H A W α (partAt T.the-row fullShare (a .0) l₂ 0) ftrue) (LL.val T.the-type T′.the-laws (a .0)) (spelled T.the-type
+    (enum-spelled E.the-type E′.the-laws) refl (and-then ! (of-local ! 2 refl) (no-more !)) (λ r ws e is. fsplit ! $
+    lands-in ! (init ! 9 refl (EL.lawful E.the-type E′.the-laws 𝓤 H A W tt .typed r _ is .0)) $
+    move ! (0 ∷ 2 ∷ 3 ∷ []) $ owned-again ! tt 0 κs qs T.the-row refl T′.mir refl (a .0) l₂ (as-it-was 𝓤 H A W α
+    (partAt T.the-row fullShare (a .0) l₂ 0) ftrue) (LL.val T.the-type T′.the-laws (a .0)) (spelled T.the-type
     T′.the-laws (a .0)) (λ k. returns ! (look ! 8 refl) $ gone ! 8 8 refl refl $ gone ! 6 6 refl refl $
     gone ! 0 4 refl refl $ gone ! 2 2 refl refl $ free0 ! $ owned ! E.the-row (Is E.the-row) (EL.makes E.the-type
     E′.the-plain 𝓤 H A) r _ is $ keep ! (1 ∷ 2 ∷ 0 ∷ []) $ by ! (exits lends E.the-row 𝓤 H A Promised κs qs a r (ws

@@ -15,8 +15,8 @@ use contract.Monad.{Fun}
 use contract.Running.{givenOf}
 use types.Kit.{Given, _$_, _∵_, !, by, move, keep, drop, fsplit}
 use types.Part.{whole, sub, look-in}
-use types.Run.{look, look-raw, init, store-raw, stop, hop, fld, from, load, of-opd, and-then, no-more, land, assigns}
-use types.Run.{returns, alloc1, alloc0, params1, pass1, pass0, free0}
+use types.Run.{look, look-raw, init, store-raw, stop, hop, fld, from, load, of-opd, and-then, no-more, assigns, returns}
+use types.Run.{alloc1, alloc0, params1, pass1, pass0, free0}
 use denote.Laws.{Is}
 use denote.Ref.{ptr, now}
 use denote.Steps.{closes, owned}
@@ -28,7 +28,7 @@ use Rattle.session.proofs.state.Session as T
 use Rattle.session.proofs.state.Session.Laws as T′
 use Rattle.session.proofs.in_place.Lendings.{Lending}
 use Rattle.session.proofs.in_place.InPlace.{vals, passed, exits, begun, called, spelled}
-use Rattle.session.proofs.in_place.WalkSteps.{gone, calls-with, opened, Walks, over, by-walk}
+use Rattle.session.proofs.in_place.WalkSteps.{gone, of-local, sets, lands-in, calls-with, opened, Walks, over, by-walk}
 use Rattle.session.proofs.answers.Called as O
 use Rattle.session.proofs.answers.Called.Laws as O′
 use Rattle.session.proofs.answers.CallAnswer as E
@@ -52,19 +52,19 @@ walks : {M : Type 1} (𝓤 : URA M) (H : Heap 𝓤) (A : Atoms 𝓤) (W : Given 
 walks 𝓤 H A W at-mem run = over (λ C Λ fm known κs qs a fit. begun lends E.the-row 𝓤 H A Promised κs qs a W C Λ
     code.function ∵ alloc1 ! (λ l₀. alloc1 ! (λ l₁. alloc1 ! (λ l₂. alloc1 ! (λ l₃. alloc0 ! $ params1 ! $
     pass1 ! (init ! 4 refl (tt, tt)) $ pass0 ! $ move ! (8 ∷ 9 ∷ 10 ∷ []) $ opened ! tt (now (a .0)) (ptr (a .0) .0)
-    (ptr (a .0) .1) (λ g. assigns ! (of-opd ! (load ! (from ! (hop ! (look ! 9 refl) (stop !))) (look-raw ! 0 refl)))
-    (from ! (stop !)) (init ! 7 refl (LL.lawful T.the-type T′.the-laws 𝓤 H A W .typed (now (a .0)) _ g .0)) $
+    (ptr (a .0) .1) (λ g. sets ! (of-opd ! (load ! (from ! (hop ! (look ! 9 refl) (stop !))) (look-raw ! 0 refl)))
+    (init ! 7 refl (LL.lawful T.the-type T′.the-laws 𝓤 H A W .typed (now (a .0)) _ g .0)) $
     move ! (1 ∷ 13 ∷ 14 ∷ []) $ calls-with ! fm step.ended (step.clauses 𝓤 H A at-mem run) known
     (κs .1, qs .1, tt, ((now (a .0)), a .1), (vals (now (a .0)), passed lends E.the-row κs a .1)) tt (λ r ws. Promised
     κs a (r .answer) (atExit this.ended κs a (r .session, ws .1))) (λ r ws. refl) (LL.val O.the-type O′.the-laws)
-    (spelled O.the-type O′.the-laws) refl (and-then ! (load ! (from ! (stop !)) (look ! 7 refl)) (no-more !)) (λ r ws
-    e is. let owed = LL.owed O.the-type O′.the-laws r (LL.vals O.the-type O′.the-laws r) is in fsplit ! $ drop ! $
-    land ! (from ! (stop !)) (init ! 6 refl (LL.lawful O.the-type O′.the-laws 𝓤 H A W .typed r _ is .0)) $
+    (spelled O.the-type O′.the-laws) refl (and-then ! (of-local ! 7 refl) (no-more !)) (λ r ws e is. let owed =
+    LL.owed O.the-type O′.the-laws r (LL.vals O.the-type O′.the-laws r) is in fsplit ! $ drop ! $
+    lands-in ! (init ! 6 refl (LL.lawful O.the-type O′.the-laws 𝓤 H A W .typed r _ is .0)) $
     assigns ! (of-opd ! (load ! (from ! (fld ! refl (stop !))) (look-in ! 6 (sub ! 1 refl (whole !))))) (from ! (hop !
     (look ! 10 refl) (stop !))) (store-raw ! 2 refl (LL.lawful T.the-type T′.the-laws 𝓤 H A W .typed (r .session) _
-    (owed .1 .0) .0)) $ assigns ! (of-opd ! (load ! (from ! (fld ! refl (stop !))) (look-in ! 6 (sub ! 0 refl (whole
-    !))))) (from ! (stop !)) (init ! 12 refl (EL.lawful E.the-type E′.the-laws 𝓤 H A W tt .typed (r .answer) _ (owed
-    .0) .0)) $ owned ! T.the-row (Is T.the-row) (LL.makes T.the-type T′.the-plain 𝓤 H A) (r .session) _ (owed .1 .0) $
+    (owed .1 .0) .0)) $ sets ! (of-opd ! (load ! (from ! (fld ! refl (stop !))) (look-in ! 6 (sub ! 0 refl (whole
+    !))))) (init ! 12 refl (EL.lawful E.the-type E′.the-laws 𝓤 H A W tt .typed (r .answer) _ (owed .0) .0)) $
+    owned ! T.the-row (Is T.the-row) (LL.makes T.the-type T′.the-plain 𝓤 H A) (r .session) _ (owed .1 .0) $
     move ! (3 ∷ 0 ∷ 4 ∷ 5 ∷ 6 ∷ []) $ closes ! tt T.the-row (r .session) (vals (r .session)) (ptr (a .0) .0) (ptr (a
     .0) .1) $ returns ! (look ! 11 refl) $ gone ! 11 11 refl refl $ gone ! 9 9 refl refl $ gone ! 7 7 refl refl $
     gone ! 5 5 refl refl $ free0 ! $ owned ! E.the-row (Is E.the-row) (EL.makes E.the-type E′.the-plain 𝓤 H A) (r

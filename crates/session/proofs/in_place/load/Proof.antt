@@ -15,8 +15,8 @@ use contract.Monad.{Fun}
 use contract.Running.{givenOf}
 use types.Kit.{Given, _$_, _∵_, !, by, move, keep, drop, fsplit}
 use types.Part.{whole, sub, look-in, agg}
-use types.Run.{look, look-raw, init, store-raw, stop, hop, fld, from, load, of-opd, addr, and-then, no-more, land}
-use types.Run.{assigns, returns, alloc1, alloc0, params1, pass1, pass0, free0}
+use types.Run.{look, look-raw, init, store-raw, stop, hop, fld, from, load, of-opd, addr, and-then, no-more, assigns}
+use types.Run.{returns, alloc1, alloc0, params1, pass1, pass0, free0}
 use denote.Laws.{Is}
 use denote.Builtin.{u8, u16}
 use denote.Ref.{ptr, now}
@@ -29,7 +29,7 @@ use Rattle.session.proofs.state.Session as T
 use Rattle.session.proofs.state.Session.Laws as T′
 use Rattle.session.proofs.in_place.Lendings.{Lending, shared, written}
 use Rattle.session.proofs.in_place.InPlace.{vals, passed, exits, begun, called, spelled}
-use Rattle.session.proofs.in_place.WalkSteps.{gone, calls-with, opened, Walks, over, by-walk}
+use Rattle.session.proofs.in_place.WalkSteps.{gone, of-local, sets, lands-in, calls-with, opened, Walks, over, by-walk}
 use Rattle.session.proofs.answers.Called as O
 use Rattle.session.proofs.answers.Called.Laws as O′
 use Rattle.session.proofs.answers.CallAnswer as E
@@ -56,28 +56,26 @@ walks 𝓤 H A W at-mem run = over (λ C Λ fm known κs qs a fit. begun lends E
     params1 ! $ pass1 ! (init ! 20 refl (tt, tt)) $ pass1 ! (init ! 18 refl (fit .0 .0)) $
     pass1 ! (init ! 16 refl (fit .1 .0 .0)) $ pass1 ! (init ! 14 refl (fit .1 .1 .0 .0)) $
     pass1 ! (init ! 12 refl (fit .1 .1 .1 .0 .0)) $ pass0 ! $ move ! (24 ∷ 25 ∷ 26 ∷ []) $
-    opened ! tt (now (a .0)) (ptr (a .0) .0) (ptr (a .0) .1) (λ g. assigns ! (of-opd ! (load ! (from ! (hop ! (look !
-    25 refl) (stop !))) (look-raw ! 0 refl))) (from ! (stop !)) (init ! 15 refl (LL.lawful T.the-type T′.the-laws 𝓤 H
-    A W .typed (now (a .0)) _ g .0)) $ assigns ! (addr ! (from ! (fld ! refl (hop ! (look-in ! 19 (sub ! 0 refl (whole
-    !))) (stop !))))) (from ! (stop !)) (init ! 11 refl (tt, tt)) $ assigns ! (agg ! (and-then ! (load ! (from ! (stop
-    !)) (look ! 11 refl)) (and-then ! (load ! (from ! (fld ! refl (stop !))) (look-in ! 19 (sub ! 1 refl (whole !))))
-    (no-more !)))) (from ! (stop !)) (init ! 9 refl (fit .1 .1 .0 .0)) $ assigns ! (addr ! (from ! (fld ! refl (hop !
-    (look-in ! 17 (sub ! 0 refl (whole !))) (stop !))))) (from ! (stop !)) (init ! 7 refl (tt, tt)) $
-    assigns ! (agg ! (and-then ! (load ! (from ! (stop !)) (look ! 7 refl)) (and-then ! (load ! (from ! (fld ! refl
-    (stop !))) (look-in ! 17 (sub ! 1 refl (whole !)))) (no-more !)))) (from ! (stop !)) (init ! 5 refl (fit .1 .1 .1
-    .0 .0)) $ move ! (1 ∷ 29 ∷ 30 ∷ []) $ calls-with ! fm step.ended (step.clauses 𝓤 H A at-mem run) known
+    opened ! tt (now (a .0)) (ptr (a .0) .0) (ptr (a .0) .1) (λ g. sets ! (of-opd ! (load ! (from ! (hop ! (look ! 25
+    refl) (stop !))) (look-raw ! 0 refl))) (init ! 15 refl (LL.lawful T.the-type T′.the-laws 𝓤 H A W .typed (now (a
+    .0)) _ g .0)) $ sets ! (addr ! (from ! (fld ! refl (hop ! (look-in ! 19 (sub ! 0 refl (whole !))) (stop !)))))
+    (init ! 11 refl (tt, tt)) $ sets ! (agg ! (and-then ! (of-local ! 11 refl) (and-then ! (load ! (from ! (fld ! refl
+    (stop !))) (look-in ! 19 (sub ! 1 refl (whole !)))) (no-more !)))) (init ! 9 refl (fit .1 .1 .0 .0)) $
+    sets ! (addr ! (from ! (fld ! refl (hop ! (look-in ! 17 (sub ! 0 refl (whole !))) (stop !))))) (init ! 7 refl
+    (tt, tt)) $ sets ! (agg ! (and-then ! (of-local ! 7 refl) (and-then ! (load ! (from ! (fld ! refl (stop !)))
+    (look-in ! 17 (sub ! 1 refl (whole !)))) (no-more !)))) (init ! 5 refl (fit .1 .1 .1 .0 .0)) $
+    move ! (1 ∷ 29 ∷ 30 ∷ []) $ calls-with ! fm step.ended (step.clauses 𝓤 H A at-mem run) known
     (κs .1, qs .1, tt, ((now (a .0)), a .1), (vals (now (a .0)), passed lends E.the-row κs a .1)) tt (λ r ws. Promised
     κs a (r .answer) (atExit this.ended κs a (r .session, ws .1))) (λ r ws. refl) (LL.val O.the-type O′.the-laws)
-    (spelled O.the-type O′.the-laws) refl (and-then ! (load ! (from ! (stop !)) (look ! 15 refl)) (and-then ! (load !
-    (from ! (stop !)) (look ! 23 refl)) (and-then ! (load ! (from ! (stop !)) (look ! 21 refl)) (and-then ! (load !
-    (from ! (stop !)) (look ! 9 refl)) (and-then ! (load ! (from ! (stop !)) (look ! 5 refl)) (no-more !)))))) (λ r ws
-    e is. let owed = LL.owed O.the-type O′.the-laws r (LL.vals O.the-type O′.the-laws r) is in fsplit ! $ drop ! $
-    land ! (from ! (stop !)) (init ! 14 refl (LL.lawful O.the-type O′.the-laws 𝓤 H A W .typed r _ is .0)) $
+    (spelled O.the-type O′.the-laws) refl (and-then ! (of-local ! 15 refl) (and-then ! (of-local ! 23 refl) (and-then
+    ! (of-local ! 21 refl) (and-then ! (of-local ! 9 refl) (and-then ! (of-local ! 5 refl) (no-more !)))))) (λ r ws e
+    is. let owed = LL.owed O.the-type O′.the-laws r (LL.vals O.the-type O′.the-laws r) is in fsplit ! $ drop ! $
+    lands-in ! (init ! 14 refl (LL.lawful O.the-type O′.the-laws 𝓤 H A W .typed r _ is .0)) $
     assigns ! (of-opd ! (load ! (from ! (fld ! refl (stop !))) (look-in ! 14 (sub ! 1 refl (whole !))))) (from ! (hop
     ! (look ! 26 refl) (stop !))) (store-raw ! 2 refl (LL.lawful T.the-type T′.the-laws 𝓤 H A W .typed (r .session) _
-    (owed .1 .0) .0)) $ assigns ! (of-opd ! (load ! (from ! (fld ! refl (stop !))) (look-in ! 14 (sub ! 0 refl (whole
-    !))))) (from ! (stop !)) (init ! 28 refl (EL.lawful E.the-type E′.the-laws 𝓤 H A W tt .typed (r .answer) _ (owed
-    .0) .0)) $ owned ! T.the-row (Is T.the-row) (LL.makes T.the-type T′.the-plain 𝓤 H A) (r .session) _ (owed .1 .0) $
+    (owed .1 .0) .0)) $ sets ! (of-opd ! (load ! (from ! (fld ! refl (stop !))) (look-in ! 14 (sub ! 0 refl (whole
+    !))))) (init ! 28 refl (EL.lawful E.the-type E′.the-laws 𝓤 H A W tt .typed (r .answer) _ (owed .0) .0)) $
+    owned ! T.the-row (Is T.the-row) (LL.makes T.the-type T′.the-plain 𝓤 H A) (r .session) _ (owed .1 .0) $
     move ! (3 ∷ 0 ∷ 4 ∷ 5 ∷ 6 ∷ []) $ closes ! tt T.the-row (r .session) (vals (r .session)) (ptr (a .0) .0) (ptr (a
     .0) .1) $ returns ! (look ! 27 refl) $ gone ! 27 27 refl refl $ gone ! 25 25 refl refl $ gone ! 23 23 refl refl $
     gone ! 21 21 refl refl $ gone ! 19 19 refl refl $ gone ! 17 17 refl refl $ gone ! 15 15 refl refl $

@@ -15,8 +15,8 @@ use contract.Monad.{Fun}
 use contract.Running.{givenOf}
 use types.Kit.{Given, _$_, _∵_, !, by, move, keep, drop, fsplit}
 use types.Part.{whole, sub, look-in}
-use types.Run.{look, look-raw, init, store-raw, stop, hop, fld, from, load, of-opd, and-then, no-more, land, assigns}
-use types.Run.{returns, alloc1, alloc0, params1, pass1, pass0, free0}
+use types.Run.{look, look-raw, init, store-raw, stop, hop, fld, from, load, of-opd, and-then, no-more, assigns, returns}
+use types.Run.{alloc1, alloc0, params1, pass1, pass0, free0}
 use denote.Laws.{Is}
 use denote.Builtin.{u8, u16}
 use denote.Ref.{ptr, now}
@@ -29,7 +29,7 @@ use Rattle.session.proofs.state.Session as T
 use Rattle.session.proofs.state.Session.Laws as T′
 use Rattle.session.proofs.in_place.Lendings.{Lending, shared}
 use Rattle.session.proofs.in_place.InPlace.{vals, passed, exits, begun, called, spelled}
-use Rattle.session.proofs.in_place.WalkSteps.{gone, calls-with, opened, Walks, over, by-walk}
+use Rattle.session.proofs.in_place.WalkSteps.{gone, of-local, sets, lands-in, calls-with, opened, Walks, over, by-walk}
 use Rattle.session.proofs.answers.Started as O
 use Rattle.session.proofs.answers.Started.Laws as O′
 use Rattle.session.proofs.answers.StartAnswer as E
@@ -56,30 +56,28 @@ walks 𝓤 H A W at-mem run = over (λ C Λ fm known κs qs a fit. begun lends E
     pass1 ! (init ! 16 refl (tt, tt)) $ pass1 ! (init ! 14 refl (fit .0 .0)) $ pass1 ! (init ! 12 refl (fit .1 .0 .0))
     $ pass1 ! (init ! 10 refl (fit .1 .1 .0 .0)) $ pass1 ! (init ! 8 refl (fit .1 .1 .1 .0 .0)) $
     pass1 ! (init ! 6 refl (fit .1 .1 .1 .1 .0 .0)) $ pass1 ! (init ! 4 refl (fit .1 .1 .1 .1 .1 .0 .0)) $ pass0 ! $
-    move ! (20 ∷ 21 ∷ 22 ∷ []) $ opened ! tt (now (a .0)) (ptr (a .0) .0) (ptr (a .0) .1) (λ g. assigns ! (of-opd !
-    (load ! (from ! (hop ! (look ! 21 refl) (stop !))) (look-raw ! 0 refl))) (from ! (stop !)) (init ! 7 refl
-    (LL.lawful T.the-type T′.the-laws 𝓤 H A W .typed (now (a .0)) _ g .0)) $ move ! (1 ∷ 25 ∷ 26 ∷ []) $
+    move ! (20 ∷ 21 ∷ 22 ∷ []) $ opened ! tt (now (a .0)) (ptr (a .0) .0) (ptr (a .0) .1) (λ g. sets ! (of-opd ! (load
+    ! (from ! (hop ! (look ! 21 refl) (stop !))) (look-raw ! 0 refl))) (init ! 7 refl (LL.lawful T.the-type
+    T′.the-laws 𝓤 H A W .typed (now (a .0)) _ g .0)) $ move ! (1 ∷ 25 ∷ 26 ∷ []) $
     calls-with ! fm step.ended (step.clauses 𝓤 H A at-mem run) known
     (κs .1, qs .1, tt, ((now (a .0)), a .1), (vals (now (a .0)), passed lends E.the-row κs a .1)) tt (λ r ws. Promised
     κs a (r .answer) (atExit this.ended κs a (r .session, ws .1))) (λ r ws. refl) (LL.val O.the-type O′.the-laws)
-    (spelled O.the-type O′.the-laws) refl (and-then ! (load ! (from ! (stop !)) (look ! 7 refl)) (and-then ! (load !
-    (from ! (stop !)) (look ! 19 refl)) (and-then ! (load ! (from ! (stop !)) (look ! 17 refl)) (and-then ! (load !
-    (from ! (stop !)) (look ! 15 refl)) (and-then ! (load ! (from ! (stop !)) (look ! 13 refl)) (and-then ! (load !
-    (from ! (stop !)) (look ! 11 refl)) (and-then ! (load ! (from ! (stop !)) (look ! 9 refl)) (no-more !)))))))) (λ r
-    ws e is. let owed = LL.owed O.the-type O′.the-laws r (LL.vals O.the-type O′.the-laws r) is in fsplit ! $ drop ! $
-    land ! (from ! (stop !)) (init ! 6 refl (LL.lawful O.the-type O′.the-laws 𝓤 H A W .typed r _ is .0)) $
-    assigns ! (of-opd ! (load ! (from ! (fld ! refl (stop !))) (look-in ! 6 (sub ! 1 refl (whole !))))) (from ! (hop !
-    (look ! 22 refl) (stop !))) (store-raw ! 2 refl (LL.lawful T.the-type T′.the-laws 𝓤 H A W .typed (r .session) _
-    (owed .1 .0) .0)) $ assigns ! (of-opd ! (load ! (from ! (fld ! refl (stop !))) (look-in ! 6 (sub ! 0 refl (whole
-    !))))) (from ! (stop !)) (init ! 24 refl (EL.lawful E.the-type E′.the-laws 𝓤 H A W tt .typed (r .answer) _ (owed
-    .0) .0)) $ owned ! T.the-row (Is T.the-row) (LL.makes T.the-type T′.the-plain 𝓤 H A) (r .session) _ (owed .1 .0) $
-    move ! (3 ∷ 0 ∷ 4 ∷ 5 ∷ 6 ∷ []) $ closes ! tt T.the-row (r .session) (vals (r .session)) (ptr (a .0) .0) (ptr (a
-    .0) .1) $ returns ! (look ! 23 refl) $ gone ! 23 23 refl refl $ gone ! 21 21 refl refl $ gone ! 19 19 refl refl $
-    gone ! 17 17 refl refl $ gone ! 15 15 refl refl $ gone ! 13 13 refl refl $ gone ! 11 11 refl refl $
-    gone ! 9 9 refl refl $ gone ! 7 7 refl refl $ gone ! 5 5 refl refl $ free0 ! $
-    owned ! E.the-row (Is E.the-row) (EL.makes E.the-type E′.the-plain 𝓤 H A) (r .answer) _ (owed .0) $
-    keep ! (1 ∷ 2 ∷ 3 ∷ 5 ∷ 4 ∷ 0 ∷ []) $ by ! (exits lends E.the-row 𝓤 H A Promised κs qs a (r .answer) (r .session)
-    (ws .1) _ W e))))))))))))))
+    (spelled O.the-type O′.the-laws) refl (and-then ! (of-local ! 7 refl) (and-then ! (of-local ! 19 refl) (and-then !
+    (of-local ! 17 refl) (and-then ! (of-local ! 15 refl) (and-then ! (of-local ! 13 refl) (and-then ! (of-local ! 11
+    refl) (and-then ! (of-local ! 9 refl) (no-more !)))))))) (λ r ws e is. let owed = LL.owed O.the-type O′.the-laws r
+    (LL.vals O.the-type O′.the-laws r) is in fsplit ! $ drop ! $ lands-in ! (init ! 6 refl (LL.lawful O.the-type
+    O′.the-laws 𝓤 H A W .typed r _ is .0)) $ assigns ! (of-opd ! (load ! (from ! (fld ! refl (stop !))) (look-in ! 6
+    (sub ! 1 refl (whole !))))) (from ! (hop ! (look ! 22 refl) (stop !))) (store-raw ! 2 refl (LL.lawful T.the-type
+    T′.the-laws 𝓤 H A W .typed (r .session) _ (owed .1 .0) .0)) $ sets ! (of-opd ! (load ! (from ! (fld ! refl (stop
+    !))) (look-in ! 6 (sub ! 0 refl (whole !))))) (init ! 24 refl (EL.lawful E.the-type E′.the-laws 𝓤 H A W tt .typed
+    (r .answer) _ (owed .0) .0)) $ owned ! T.the-row (Is T.the-row) (LL.makes T.the-type T′.the-plain 𝓤 H A) (r
+    .session) _ (owed .1 .0) $ move ! (3 ∷ 0 ∷ 4 ∷ 5 ∷ 6 ∷ []) $ closes ! tt T.the-row (r .session) (vals (r
+    .session)) (ptr (a .0) .0) (ptr (a .0) .1) $ returns ! (look ! 23 refl) $ gone ! 23 23 refl refl $
+    gone ! 21 21 refl refl $ gone ! 19 19 refl refl $ gone ! 17 17 refl refl $ gone ! 15 15 refl refl $
+    gone ! 13 13 refl refl $ gone ! 11 11 refl refl $ gone ! 9 9 refl refl $ gone ! 7 7 refl refl $
+    gone ! 5 5 refl refl $ free0 ! $ owned ! E.the-row (Is E.the-row) (EL.makes E.the-type E′.the-plain 𝓤 H A) (r
+    .answer) _ (owed .0) $ keep ! (1 ∷ 2 ∷ 3 ∷ 5 ∷ 4 ∷ 0 ∷ []) $ by ! (exits lends E.the-row 𝓤 H A Promised κs qs a (r
+    .answer) (r .session) (ws .1) _ W e))))))))))))))
 
 pub start-spec : {M : Type 1} → stated.statement M
 unfolding code.routine
