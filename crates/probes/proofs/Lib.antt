@@ -1,4 +1,5 @@
 pub mod EightLaws
+pub mod Lent
 pub mod LentRecord
 pub mod LentRun
 pub mod ProbeLaws

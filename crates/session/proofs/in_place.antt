@@ -2,3 +2,4 @@ pub mod InPlace
 pub mod InPlaceTheorem
 pub mod Lendings
 pub mod Promised
+pub mod WalkSteps

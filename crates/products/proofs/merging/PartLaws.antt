@@ -55,7 +55,7 @@ module _ (f g : List ℕ) (s2 at : ℕ) (l₀ l : List ℕ) (p : ℕ) (A : RowAr
   pub row-next : (r : List ℕ) → r ≡ written (at + p * s2) (tabulate (length g) (λ q. getD f p 0 * s2 + getD g q 0)) l
       → Fill at (length f * s2) (rowCell f g s2) l₀ r ((p + 1) * s2)
   row-next r e =
-      fill-block at (length f * s2) (rowCell f g s2) l₀ l (p * s2) F (length g) ((p + 1) * s2) (omega (arith, A .width))
+      fill-block F (length g) ((p + 1) * s2) (omega (arith, A .width))
       (omega (arith, next-in)) (λ q. getD f p 0 * s2 + getD g q 0) same-cell r e
 
 -- ---- row r of the inner run
@@ -203,7 +203,7 @@ module _ (f g : List ℕ) (s1 s2 k at s rows : ℕ) (l₀ l : List ℕ) (r : ℕ
       args = L .args;
       states = L .states;
       count = L .count;
-      fill = fill-block at (S * k * S) (innerCell f g s1 s2 k) l₀ l (r * S) (L .fill) S ((r + 1) * S) (omega arith) (omega
+      fill = fill-block (L .fill) S ((r + 1) * S) (omega arith) (omega
           (arith, row-ends))
           (rowAt f g s1 s2 k r) inner-same z (e ∙ ap (λ (x : ℕ). written (at + r * x) (tabulate S (rowAt f g s1 s2 k r)) l)
           (L .states));

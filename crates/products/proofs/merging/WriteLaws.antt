@@ -110,7 +110,7 @@ pub fill-start : (at n : ℕ) (c : ℕ → ℕ) (l : List ℕ) → Room at n l �
 unfolding tabulate
 fill-start at n c l R = record { room = R; upto = omega arith; long = refl; is = sym (written-none at l) }
 
-module _ (at n : ℕ) (c : ℕ → ℕ) (l₀ l : List ℕ) (i : ℕ) (F : Fill at n c l₀ l i) where
+module _ {at n : ℕ} {c : ℕ → ℕ} {l₀ l : List ℕ} {i : ℕ} (F : Fill at n c l₀ l i) where
   pub fill-place : i < n → (at + i < length l) × (at + i < 65536)
   fill-place h = (omega (arith, F .room .inside, F .long), omega (arith, F .room .small))
 

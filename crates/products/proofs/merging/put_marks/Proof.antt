@@ -57,53 +57,25 @@ mul-out c =
     )
 
 add-out : tie.Need-add-out Inv-loop μ-loop
-add-out c =
-    let g = c .before .before .before .before .args in
-    let l = c .before .before .before .loop in
-    omega (
-      arith,
-      fill-place (g .at) (g .n) (markCell (g .first .now) (g .second .now) (g .s2)) (g .out .now) (l .out)
-          (l .c) (l .inv .1) (c .before .before .loop-test .taken) .1,
-    )
+add-out c = omega (arith, fill-place (c .before .before .before .loop .inv .1) (c .before .before .loop-test .taken) .1)
 
 slice-write-out : tie.Need-slice-write-out Inv-loop μ-loop
-slice-write-out c =
-    let g = c .before .before .before .before .args in
-    let l = c .before .before .before .loop in
-    fill-place (g .at) (g .n) (markCell (g .first .now) (g .second .now) (g .s2)) (g .out .now) (l .out) (l .c)
-    (l .inv .1) (c .before .before .loop-test .taken) .0
+slice-write-out c = fill-place (c .before .before .before .loop .inv .1) (c .before .before .loop-test .taken) .0
 
 add-c : tie.Need-add-c Inv-loop μ-loop
-add-c c =
-    let g = c .before .before .before .before .args in
-    let l = c .before .before .before .loop in
-    omega (
-      arith,
-      fill-place (g .at) (g .n) (markCell (g .first .now) (g .second .now) (g .s2)) (g .out .now) (l .out)
-          (l .c) (l .inv .1) (c .before .before .loop-test .taken) .1,
-    )
+add-c c = omega (arith, fill-place (c .before .before .before .loop .inv .1) (c .before .before .loop-test .taken) .1)
 
 loop-less : tie.Need-loop-less Inv-loop μ-loop
 loop-less c = omega (arith, c .before .before .loop-test .taken)
 
 loop-again : tie.Need-loop-again Inv-loop μ-loop
-loop-again c =
-    let g = c .before .before .before .before .args in
-    let l = c .before .before .before .loop in (
-      l .inv .0,
-      fill-next (g .at) (g .n) (markCell (g .first .now) (g .second .now) (g .s2)) (g .out .now) (l .out)
-          (l .c) (l .inv .1) (c .before .before .loop-test .taken) _ refl,
-    )
+loop-again c = let l = c .before .before .before .loop in (l .inv .0, fill-next (l .inv .1) (c .before .before .loop-test .taken) _ refl)
 
 same-length : tie.Need-same-length Inv-loop μ-loop
 same-length c = c .before .loop .inv .1 .long
 
 returns : tie.Need-returns Inv-loop μ-loop
-returns c =
-    let g = c .before .before .args in
-    let l = c .before .loop in
-    fill-done (g .at) (g .n) (markCell (g .first .now) (g .second .now) (g .s2)) (g .out .now) (l .out) (l .c)
-    (l .inv .1) (c .loop-test .left)
+returns c = fill-done (c .before .loop .inv .1) (c .loop-test .left)
 
 pub put-marks-spec : {M : Type 1} → statement M
 put-marks-spec =

@@ -1,8 +1,9 @@
 -- `put_nth_row` meets its contract.
 use mathlib.Core.Path.{ap, _∙_}
 use mathlib.Core.List.{List}
-use Prim.Native.Nat.{ℕ}
-use Rattle.products.specs.merging.Writes.{written}
+use Prim.Native.Nat.{ℕ, _+_, _*_, _/_, _%_, _<_, _≤_}
+use lib.ListN.{length}
+use Rattle.products.specs.merging.Writes.{written, firstRow, secondRow}
 use Rattle.products.proofs.merging.PartLaws.{first-end, second-end, runs-small, rows-small, nth-row, nth-is}
 use native.Mathlib.Omega.{arith}
 use borrow.Author.Needs.{needs}
@@ -12,105 +13,49 @@ use Rattle.products.proofs.merging.put_nth_row.Reads as reads
 use Rattle.products.proofs.merging.put_nth_row.Lts as lts
 use Rattle.products.proofs.merging.put_row.Reads as put-row-reads
 
+-- the rows' numbers, and where the rows end
+module _ (s : tie.Start) where
+  small : let g = s .args in (g .r / g .k / g .s2 * g .k + g .r % g .k < 1024) × (g .r / g .k % g .s2 * g .k + g .r % g .k < 1024)
+  small = let g = s .args in rows-small (g .first .now) (g .second .now) (g .s1) (g .s2) (g .k) (g .r) (s .pre .inner) (s .pre .inside)
+
+  runs : (length (s .args .first .now) ≤ 16384) × (length (s .args .second .now) ≤ 16384)
+  runs = let g = s .args in runs-small (g .first .now) (g .second .now) (g .s1) (g .s2) (g .k) (g .r) (s .pre .inner) (s .pre .inside)
+
+  one-end : let g = s .args in firstRow (g .s1) (g .s2) (g .k) (g .r) + g .s1 ≤ length (g .first .now)
+  one-end = let g = s .args in first-end (g .first .now) (g .second .now) (g .s1) (g .s2) (g .k) (g .r) (s .pre .inner) (s .pre .inside)
+
+  two-end : let g = s .args in secondRow (g .s2) (g .k) (g .r) + g .s2 ≤ length (g .second .now)
+  two-end = let g = s .args in second-end (g .first .now) (g .second .now) (g .s1) (g .s2) (g .k) (g .r) (s .pre .inner) (s .pre .inside)
+
 mul-i : tie.Need-mul-i
-mul-i c =
-    let s = c .before .before .before in
-    let g = s .args in
-    omega (
-      arith,
-      rows-small (g .first .now) (g .second .now) (g .s1) (g .s2) (g .k) (g .r) (s .pre .inner)
-          (s .pre .inside) .0,
-    )
+mul-i c = let s = c .before .before .before in omega (arith, small s .0)
 
 add-i : tie.Need-add-i
-add-i c =
-    let s = c .before .before .before in
-    let g = s .args in
-    omega (
-      arith,
-      rows-small (g .first .now) (g .second .now) (g .s1) (g .s2) (g .k) (g .r) (s .pre .inner)
-          (s .pre .inside) .0,
-    )
+add-i c = let s = c .before .before .before in omega (arith, small s .0)
 
 mul-i-2 : tie.Need-mul-i-2
-mul-i-2 c =
-    let s = c .before .before .before in
-    let g = s .args in
-    omega (
-      arith,
-      first-end (g .first .now) (g .second .now) (g .s1) (g .s2) (g .k) (g .r) (s .pre .inner)
-          (s .pre .inside),
-      runs-small (g .first .now) (g .second .now) (g .s1) (g .s2) (g .k) (g .r) (s .pre .inner)
-          (s .pre .inside) .0,
-    )
+mul-i-2 c = let s = c .before .before .before in omega (arith, one-end s, runs s .0)
 
 mul-j : tie.Need-mul-j
-mul-j c =
-    let s = c .before .before .before in
-    let g = s .args in
-    omega (
-      arith,
-      rows-small (g .first .now) (g .second .now) (g .s1) (g .s2) (g .k) (g .r) (s .pre .inner)
-          (s .pre .inside) .1,
-    )
+mul-j c = let s = c .before .before .before in omega (arith, small s .1)
 
 add-j : tie.Need-add-j
-add-j c =
-    let s = c .before .before .before in
-    let g = s .args in
-    omega (
-      arith,
-      rows-small (g .first .now) (g .second .now) (g .s1) (g .s2) (g .k) (g .r) (s .pre .inner)
-          (s .pre .inside) .1,
-    )
+add-j c = let s = c .before .before .before in omega (arith, small s .1)
 
 mul-j-2 : tie.Need-mul-j-2
-mul-j-2 c =
-    let s = c .before .before .before in
-    let g = s .args in
-    omega (
-      arith,
-      second-end (g .first .now) (g .second .now) (g .s1) (g .s2) (g .k) (g .r) (s .pre .inner)
-          (s .pre .inside),
-      runs-small (g .first .now) (g .second .now) (g .s1) (g .s2) (g .k) (g .r) (s .pre .inner)
-          (s .pre .inside) .1,
-    )
+mul-j-2 c = let s = c .before .before .before in omega (arith, two-end s, runs s .1)
 
 add-put-row : tie.Need-add-put-row
-add-put-row c =
-    let s = c .before .before .before in
-    let g = s .args in
-    omega (
-      arith,
-      first-end (g .first .now) (g .second .now) (g .s1) (g .s2) (g .k) (g .r) (s .pre .inner)
-          (s .pre .inside),
-      runs-small (g .first .now) (g .second .now) (g .s1) (g .s2) (g .k) (g .r) (s .pre .inner)
-          (s .pre .inside) .0,
-    )
+add-put-row c = let s = c .before .before .before in omega (arith, one-end s, runs s .0)
 
 part-put-row-end : tie.Need-part-put-row-end
-part-put-row-end c =
-    let s = c .before .before .before in
-    let g = s .args in
-    first-end (g .first .now) (g .second .now) (g .s1) (g .s2) (g .k) (g .r) (s .pre .inner) (s .pre .inside)
+part-put-row-end c = one-end (c .before .before .before)
 
 add-put-row-2 : tie.Need-add-put-row-2
-add-put-row-2 c =
-    let s = c .before .before .before .before in
-    let g = s .args in
-    omega (
-      arith,
-      second-end (g .first .now) (g .second .now) (g .s1) (g .s2) (g .k) (g .r) (s .pre .inner)
-          (s .pre .inside),
-      runs-small (g .first .now) (g .second .now) (g .s1) (g .s2) (g .k) (g .r) (s .pre .inner)
-          (s .pre .inside) .1,
-    )
+add-put-row-2 c = let s = c .before .before .before .before in omega (arith, two-end s, runs s .1)
 
 part-put-row-end-2 : tie.Need-part-put-row-end-2
-part-put-row-end-2 c =
-    let s = c .before .before .before .before in
-    let g = s .args in
-    second-end (g .first .now) (g .second .now) (g .s1) (g .s2) (g .k) (g .r) (s .pre .inner) (s .pre .inside)
+part-put-row-end-2 c = two-end (c .before .before .before .before)
 
 put-row-requires : tie.Need-put-row-requires
 put-row-requires c κs =

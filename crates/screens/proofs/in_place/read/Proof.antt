@@ -22,8 +22,8 @@ use contract.Running.{givenOf, tables, tablesOf}
 use types.Kit.{Given, ‵, raw, _⊛_, ⋆, some, later, _$_, _∵_, !, qed, by, move, keep, drop, use0, use1, split, join}
 use types.Kit.{pick, rewrite, suffices, fsplit, fjoin, frame, await, done}
 use types.Part.{whole, sub, look-in, agg}
-use types.Run.{look, look-raw, init, store, forget, stop, hop, fld, from, load, lit, of-opd, bin, and-then, no-more}
-use types.Run.{land, assigns, returns, enter, alloc1, alloc0, params1, pass1, pass0, free1, free0, returns-within}
+use types.Run.{look, look-raw, init, store, stop, hop, fld, from, load, lit, of-opd, bin, and-then, no-more, returns}
+use types.Run.{enter, alloc1, alloc0, params1, pass1, pass0, free1, free0, returns-within}
 use sound.WpLaws.{FmC, fmOf, WpFn-mono}
 use denote.RattleType.{owns, flat}
 use denote.Laws.{Is, shows}
@@ -54,6 +54,7 @@ use Rattle.screens.specs.in_place.OnStructs.{at, answerAll}
 use Rattle.session.proofs.state.Session as T
 use Rattle.session.proofs.state.Session.Laws as T′
 use Rattle.session.proofs.in_place.InPlace.{vals}
+use Rattle.session.proofs.in_place.WalkSteps.{gone, of-local, sets, lands-in}
 use Rattle.screens.proofs.in_place.OnRun.{unless, is-eight, not-eight, scaled, has}
 use Rattle.screens.proofs.in_place.DoneLaws.{no-run-read, no-screen-read, read-done}
 use Rattle.session.specs.declared.answers.ReadAnswer.{ReadAnswer}
@@ -136,56 +137,47 @@ module _ {M : Type 1} (𝓤 : URA M) (H : Heap 𝓤) (A : Atoms 𝓤) (W : Given
         alloc1 ! (λ l₀. alloc1 ! (λ l₁. alloc1 ! (λ l₂. alloc1 ! (λ l₃. alloc1 ! (λ l₄. alloc1 ! (λ l₅. alloc1 ! (λ
         l₆. alloc1 ! (λ l₇. alloc0 ! $ params1 ! $ pass1 ! (init ! 12 refl
         (tt, (tt, (record { fits = room .0 }, tt)))) $ pass1 ! (init ! 10 refl (tt, record { fits = fits })) $
-        pass0 ! $ assigns ! (of-opd ! (load ! (from ! (fld ! refl (stop !))) (look-in ! 12 (sub ! 1 refl (whole !)))))
-        (from ! (stop !)) (init ! 6 refl (tt, record { fits = room .0 })) $ assigns ! (bin ! (load ! (from ! (stop !))
-        (look ! 6 refl)) (lit ! tt) tt) (from ! (stop !)) (init ! 4 refl (tt, tt)) $
-        unless ! (load ! (from ! (stop !)) (look ! 4 refl)) (λ other. assigns ! (agg ! (and-then ! (lit ! tt)
-        (and-then ! (lit ! tt) (no-more !)))) (from ! (stop !)) (init ! 14 refl (EL.lawful E.the-type E′.the-laws 𝓤 H
-        A W tt .typed (Refused 25) _ refused-is-25 .0)) $ returns-within ! Posted refl (look ! 14 refl) $
-        forget ! 4 refl $ forget ! 6 refl $ forget ! 10 refl $ forget ! 12 refl $ forget ! 14 refl $
-        move ! (14 ∷ 15 ∷ []) $ free1 ! $ move ! (12 ∷ 13 ∷ []) $ free1 ! $ move ! (10 ∷ 11 ∷ []) $ free1 ! $
-        move ! (8 ∷ 9 ∷ []) $ free1 ! $ move ! (6 ∷ 7 ∷ []) $ free1 ! $ move ! (4 ∷ 5 ∷ []) $ free1 ! $
-        move ! (2 ∷ 3 ∷ []) $ free1 ! $ move ! (0 ∷ 1 ∷ []) $ free1 ! $ free0 ! $
+        pass0 ! $ sets ! (of-opd ! (load ! (from ! (fld ! refl (stop !))) (look-in ! 12 (sub ! 1 refl (whole !)))))
+        (init ! 6 refl (tt, record { fits = room .0 })) $ sets ! (bin ! (of-local ! 6 refl) (lit ! tt) tt) (init ! 4
+        refl (tt, tt)) $ unless ! (of-local ! 4 refl) (λ other. sets ! (agg ! (and-then ! (lit ! tt) (and-then ! (lit
+        ! tt) (no-more !)))) (init ! 14 refl (EL.lawful E.the-type E′.the-laws 𝓤 H A W tt .typed (Refused 25) _
+        refused-is-25 .0)) $ returns-within ! Posted refl (look ! 14 refl) $ gone ! 14 14 refl refl $
+        gone ! 12 12 refl refl $ gone ! 10 10 refl refl $ move ! (8 ∷ 9 ∷ []) $ free1 ! $ gone ! 6 6 refl refl $
+        gone ! 4 4 refl refl $ move ! (2 ∷ 3 ∷ []) $ free1 ! $ move ! (0 ∷ 1 ∷ []) $ free1 ! $ free0 ! $
         owned ! E.the-row (Is E.the-row) (EL.makes E.the-type E′.the-plain 𝓤 H A) (Refused 25) _ refused-is-25 $
         keep ! (2 ∷ 0 ∷ []) $ by ! (exits-at (Refused 25) _ (none-told (now (a .0)) (a .1 .0) (not-eight (now (a .0))
-        other)))) (λ same. let eight = is-eight (now (a .0)) same in assigns ! (bin ! (lit ! tt) (load ! (from ! (stop
-        !)) (look ! 10 refl)) tt) (from ! (stop !)) (store ! 4 refl (tt, tt)) $
-        unless ! (load ! (from ! (stop !)) (look ! 4 refl)) (λ beyond. assigns ! (agg ! (and-then ! (lit ! tt)
-        (and-then ! (lit ! tt) (no-more !)))) (from ! (stop !)) (init ! 14 refl (EL.lawful E.the-type E′.the-laws 𝓤 H
-        A W tt .typed (Refused 25) _ refused-is-25 .0)) $ returns-within ! Posted refl (look ! 14 refl) $
-        forget ! 4 refl $ forget ! 6 refl $ forget ! 10 refl $ forget ! 12 refl $ forget ! 14 refl $
-        move ! (14 ∷ 15 ∷ []) $ free1 ! $ move ! (12 ∷ 13 ∷ []) $ free1 ! $ move ! (10 ∷ 11 ∷ []) $ free1 ! $
-        move ! (8 ∷ 9 ∷ []) $ free1 ! $ move ! (6 ∷ 7 ∷ []) $ free1 ! $ move ! (4 ∷ 5 ∷ []) $ free1 ! $
-        move ! (2 ∷ 3 ∷ []) $ free1 ! $ move ! (0 ∷ 1 ∷ []) $ free1 ! $ free0 ! $
+        other)))) (λ same. let eight = is-eight (now (a .0)) same in sets ! (bin ! (lit ! tt) (of-local ! 10 refl) tt)
+        (store ! 4 refl (tt, tt)) $ unless ! (of-local ! 4 refl) (λ beyond. sets ! (agg ! (and-then ! (lit ! tt)
+        (and-then ! (lit ! tt) (no-more !)))) (init ! 14 refl (EL.lawful E.the-type E′.the-laws 𝓤 H A W tt .typed
+        (Refused 25) _ refused-is-25 .0)) $ returns-within ! Posted refl (look ! 14 refl) $ gone ! 14 14 refl refl $
+        gone ! 12 12 refl refl $ gone ! 10 10 refl refl $ move ! (8 ∷ 9 ∷ []) $ free1 ! $ gone ! 6 6 refl refl $
+        gone ! 4 4 refl refl $ move ! (2 ∷ 3 ∷ []) $ free1 ! $ move ! (0 ∷ 1 ∷ []) $ free1 ! $ free0 ! $
         owned ! E.the-row (Is E.the-row) (EL.makes E.the-type E′.the-plain 𝓤 H A) (Refused 25) _ refused-is-25 $
         keep ! (2 ∷ 0 ∷ []) $ by ! (exits-at (Refused 25) _ (beyond-told (now (a .0)) (a .1 .0) eight (ltb→lt 7 (a .1
-        .0) beyond)))) (λ below. let inside = nltb→le 7 (a .1 .0) below in assigns ! (bin ! (load ! (from ! (stop !))
-        (look ! 10 refl)) (lit ! tt) (scaled (a .1 .0) inside)) (from ! (stop !)) (store ! 6 refl
-        (tt, scaled (a .1 .0) inside)) $ assigns ! (bin ! (load ! (from ! (fld ! refl (stop !))) (look-in ! 12 (sub !
-        0 refl (whole !)))) (load ! (from ! (stop !)) (look ! 6 refl)) tt) (from ! (stop !)) (init ! 2 refl (tt, tt))
-        $ rewrite ! 2 (λ (p : ℕ). ‵ (fat fullShare tyPtr l₆ 0 (vptr (ptr (a .0) .0) p))) (sym (place-is 992 (ptr (a
-        .0) .1) (a .1 .0))) refl $ move ! (16 ∷ 17 ∷ []) $ looks-slice ! tt T.the-row (Is T.the-row) (shows 𝓤 H A
-        T.the-row) vals (LL.tells T.the-type T′.the-laws) (LL.copy T.the-type T′.the-copy 𝓤 H A W) (now (a .0)) (ptr
-        (a .0) .0) (ptr (a .0) .1) (λ q. elem-out ! T.the-row (Is T.the-row) (shows 𝓤 H A T.the-row) vals (LL.tells
-        T.the-type T′.the-laws) q (now (a .0)) (a .1 .0) freshSession (ptr (a .0) .0) (ptr (a .0) .1) (has (now (a
-        .0)) (a .1 .0) eight inside) (λ g. assigns ! (of-opd ! (load ! (from ! (hop ! (look ! 7 refl) (stop !)))
-        (look-raw ! 0 refl))) (from ! (stop !)) (init ! 5 refl (LL.lawful T.the-type T′.the-laws 𝓤 H A W .typed (at
-        (now (a .0)) (a .1 .0)) _ g .0)) $ assigns ! (of-opd ! (load ! (from ! (stop !)) (look ! 5 refl))) (from !
-        (stop !)) (init ! 13 refl (LL.lawful T.the-type T′.the-laws 𝓤 H A W .typed (at (now (a .0)) (a .1 .0)) _ g
-        .0)) $ elem-back ! T.the-row q (now (a .0)) (a .1 .0) freshSession (vals (at (now (a .0)) (a .1 .0))) (ptr (a
-        .0) .0) (ptr (a .0) .1) (has (now (a .0)) (a .1 .0) eight inside) $ shuts-slice ! tt T.the-row q (now (a .0))
-        (ptr (a .0) .0) (ptr (a .0) .1) $ use0 W (raw (Step 𝓤 H A at-mem run .pre to-step)) (goes-step g) $
-        calls-at ! fm (Step 𝓤 H A at-mem run) known to-step (and-then ! (load ! (from ! (stop !)) (look ! 11 refl))
-        (no-more !)) (λ v. use1 W (later (some (λ (r : ReadAnswer). (‵ ftrue ⊛ ‵ (E.the-row .own r (v ∷ []))) ⊛ raw
-        (Ensured r)))) (id⊢ 𝓤 _) $ await ! tt $ pick ! (λ r. split ! $ move ! (1 ∷ []) $
-        use1 W (raw (fact 𝓤 (readAnswer r ≡ answerOn (at (now (a .0)) (a .1 .0)) calls.read))) (said r) $
-        heard ! (readAnswer r ≡ answerOn (at (now (a .0)) (a .1 .0)) calls.read) (λ e. split ! $ drop ! $
-        peeks ! E.the-row (Is E.the-row) (shows 𝓤 H A E.the-row) r (v ∷ []) (λ is. land ! (from ! (stop !)) (init ! 17
-        refl (EL.lawful E.the-type E′.the-laws 𝓤 H A W tt .typed r _ is .0)) $ returns ! (look ! 17 refl) $
-        forget ! 3 refl $ forget ! 5 refl $ forget ! 7 refl $ forget ! 9 refl $ forget ! 11 refl $ forget ! 13 refl $
-        forget ! 15 refl $ forget ! 17 refl $ move ! (17 ∷ 18 ∷ []) $ free1 ! $ move ! (15 ∷ 16 ∷ []) $ free1 ! $
-        move ! (13 ∷ 14 ∷ []) $ free1 ! $ move ! (11 ∷ 12 ∷ []) $ free1 ! $ move ! (9 ∷ 10 ∷ []) $ free1 ! $
-        move ! (7 ∷ 8 ∷ []) $ free1 ! $ move ! (5 ∷ 6 ∷ []) $ free1 ! $ move ! (3 ∷ 4 ∷ []) $ free1 ! $ free0 ! $
+        .0) beyond)))) (λ below. let inside = nltb→le 7 (a .1 .0) below in sets ! (bin ! (of-local ! 10 refl) (lit !
+        tt) (scaled (a .1 .0) inside)) (store ! 6 refl (tt, scaled (a .1 .0) inside)) $
+        sets ! (bin ! (load ! (from ! (fld ! refl (stop !))) (look-in ! 12 (sub ! 0 refl (whole !)))) (of-local ! 6
+        refl) tt) (init ! 2 refl (tt, tt)) $ rewrite ! 2 (λ (p : ℕ). ‵ (fat fullShare tyPtr l₆ 0 (vptr (ptr (a .0) .0)
+        p))) (sym (place-is 992 (ptr (a .0) .1) (a .1 .0))) refl $ move ! (16 ∷ 17 ∷ []) $
+        looks-slice ! tt T.the-row (Is T.the-row) (shows 𝓤 H A T.the-row) vals (LL.tells T.the-type T′.the-laws)
+        (LL.copy T.the-type T′.the-copy 𝓤 H A W) (now (a .0)) (ptr (a .0) .0) (ptr (a .0) .1) (λ q. elem-out !
+        T.the-row (Is T.the-row) (shows 𝓤 H A T.the-row) vals (LL.tells T.the-type T′.the-laws) q (now (a .0)) (a .1
+        .0) freshSession (ptr (a .0) .0) (ptr (a .0) .1) (has (now (a .0)) (a .1 .0) eight inside) (λ g. sets !
+        (of-opd ! (load ! (from ! (hop ! (look ! 7 refl) (stop !))) (look-raw ! 0 refl))) (init ! 5 refl (LL.lawful
+        T.the-type T′.the-laws 𝓤 H A W .typed (at (now (a .0)) (a .1 .0)) _ g .0)) $
+        sets ! (of-opd ! (of-local ! 5 refl)) (init ! 13 refl (LL.lawful T.the-type T′.the-laws 𝓤 H A W .typed (at
+        (now (a .0)) (a .1 .0)) _ g .0)) $ elem-back ! T.the-row q (now (a .0)) (a .1 .0) freshSession (vals (at (now
+        (a .0)) (a .1 .0))) (ptr (a .0) .0) (ptr (a .0) .1) (has (now (a .0)) (a .1 .0) eight inside) $
+        shuts-slice ! tt T.the-row q (now (a .0)) (ptr (a .0) .0) (ptr (a .0) .1) $
+        use0 W (raw (Step 𝓤 H A at-mem run .pre to-step)) (goes-step g) $ calls-at ! fm (Step 𝓤 H A at-mem run) known
+        to-step (and-then ! (of-local ! 11 refl) (no-more !)) (λ v. use1 W (later (some (λ (r : ReadAnswer). (‵ ftrue
+        ⊛ ‵ (E.the-row .own r (v ∷ []))) ⊛ raw (Ensured r)))) (id⊢ 𝓤 _) $ await ! tt $ pick ! (λ r. split ! $
+        move ! (1 ∷ []) $ use1 W (raw (fact 𝓤 (readAnswer r ≡ answerOn (at (now (a .0)) (a .1 .0)) calls.read))) (said
+        r) $ heard ! (readAnswer r ≡ answerOn (at (now (a .0)) (a .1 .0)) calls.read) (λ e. split ! $ drop ! $
+        peeks ! E.the-row (Is E.the-row) (shows 𝓤 H A E.the-row) r (v ∷ []) (λ is. lands-in ! (init ! 17 refl
+        (EL.lawful E.the-type E′.the-laws 𝓤 H A W tt .typed r _ is .0)) $ returns ! (look ! 17 refl) $
+        gone ! 17 17 refl refl $ gone ! 15 15 refl refl $ gone ! 13 13 refl refl $ gone ! 11 11 refl refl $
+        gone ! 9 9 refl refl $ gone ! 7 7 refl refl $ gone ! 5 5 refl refl $ gone ! 3 3 refl refl $ free0 ! $
         keep ! (1 ∷ 0 ∷ []) $ by ! (exits-at r v (read-done (now (a .0)) (a .1 .0) _ eight inside e))))))))))))))))))
 
 pub read-spec : {M : Type 1} → stated.statement M

@@ -17,8 +17,8 @@ use contract.Monad.{Fun, fact}
 use contract.Running.{givenOf, tables, tablesOf}
 use types.Kit.{Given, ‵, raw, _⊛_, ⋆, some, later, _$_, _∵_, !, qed, by, move, keep, drop, use1, split, join, pick}
 use types.Kit.{suffices, fsplit, fsplit3, fjoin, frame, await, done}
-use types.Run.{look, look-raw, init, forget, stop, hop, from, load, of-opd, and-then, no-more, land, assigns, returns}
-use types.Run.{enter, alloc1, alloc0, params1, pass1, pass0, free1, free0}
+use types.Run.{look, look-raw, init, stop, hop, from, load, of-opd, and-then, no-more, returns, enter, alloc1, alloc0}
+use types.Run.{params1, pass1, pass0, free0}
 use sound.WpLaws.{FmC, fmOf, WpFn-mono}
 use denote.RattleType.{owns, flat}
 use denote.Laws.{Is, shows}
@@ -39,6 +39,7 @@ use denote.Enum.Laws as EL
 use Rattle.session.proofs.state.Session as T
 use Rattle.session.proofs.state.Session.Laws as T′
 use Rattle.session.proofs.in_place.InPlace.{vals}
+use Rattle.session.proofs.in_place.WalkSteps.{gone, of-local, sets, lands-in}
 use Rattle.model.specs.Calls as calls
 use Rattle.session.specs.Answers.{readAnswer}
 use Rattle.session.specs.Promises.{answerOn}
@@ -104,19 +105,17 @@ module _ {M : Type 1} (𝓤 : URA M) (H : Heap 𝓤) (A : Atoms 𝓤) (W : Given
         T.the-type T′.the-copy 𝓤 H A W) (now (a .0)) (ptr (a .0) .0) (ptr (a .0) .1) (λ q vs. spelt ! T.the-row (Is
         T.the-row) (shows 𝓤 H A T.the-row) vals (LL.tells T.the-type T′.the-laws) q (now (a .0)) vs (ptr (a .0) .0)
         (ptr (a .0) .1) $ move ! (1 ∷ []) $ peeks ! T.the-row (Is T.the-row) (shows 𝓤 H A T.the-row) (now (a .0))
-        (vals (now (a .0))) (λ g. move ! (1 ∷ 0 ∷ []) $ assigns ! (of-opd ! (load ! (from ! (hop ! (look ! 9 refl)
-        (stop !))) (look-raw ! 0 refl))) (from ! (stop !)) (init ! 7 refl (LL.lawful T.the-type T′.the-laws 𝓤 H A W
-        .typed (now (a .0)) _ g .0)) $ shuts ! tt T.the-row q (now (a .0)) (vals (now (a .0))) (ptr (a .0) .0) (ptr (a
-        .0) .1) $ owned ! T.the-row (Is T.the-row) (LL.makes T.the-type T′.the-plain 𝓤 H A) (now (a .0)) (vals (now (a
-        .0))) g $ use1 W (raw (Step 𝓤 H A at-mem run .pre to-step)) goes-step $
-        calls-at ! fm (Step 𝓤 H A at-mem run) known to-step (and-then ! (load ! (from ! (stop !)) (look ! 6 refl))
-        (no-more !)) (λ v. use1 W (later (some (λ (r : ReadAnswer). (‵ ftrue ⊛ ‵ (E.the-row .own r (v ∷ []))) ⊛ raw
-        (Ensured r)))) (id⊢ 𝓤 _) $ await ! tt $ pick ! (λ r. split ! $ move ! (1 ∷ []) $
-        use1 W (raw (fact 𝓤 (Holds r))) (said r) $ heard ! (Holds r) (λ e. split ! $ move ! (1 ∷ []) $
-        peeks ! E.the-row (Is E.the-row) (shows 𝓤 H A E.the-row) r (v ∷ []) (λ is. land ! (from ! (stop !)) (init ! 11
-        refl (EL.lawful E.the-type E′.the-laws 𝓤 H A W tt .typed r _ is .0)) $ returns ! (look ! 11 refl) $
-        forget ! 7 refl $ forget ! 9 refl $ forget ! 11 refl $ move ! (11 ∷ 12 ∷ []) $ free1 ! $
-        move ! (9 ∷ 10 ∷ []) $ free1 ! $ move ! (7 ∷ 8 ∷ []) $ free1 ! $ free0 ! $ keep ! (2 ∷ 0 ∷ []) $
+        (vals (now (a .0))) (λ g. move ! (1 ∷ 0 ∷ []) $ sets ! (of-opd ! (load ! (from ! (hop ! (look ! 9 refl) (stop
+        !))) (look-raw ! 0 refl))) (init ! 7 refl (LL.lawful T.the-type T′.the-laws 𝓤 H A W .typed (now (a .0)) _ g
+        .0)) $ shuts ! tt T.the-row q (now (a .0)) (vals (now (a .0))) (ptr (a .0) .0) (ptr (a .0) .1) $
+        owned ! T.the-row (Is T.the-row) (LL.makes T.the-type T′.the-plain 𝓤 H A) (now (a .0)) (vals (now (a .0))) g $
+        use1 W (raw (Step 𝓤 H A at-mem run .pre to-step)) goes-step $ calls-at ! fm (Step 𝓤 H A at-mem run) known
+        to-step (and-then ! (of-local ! 6 refl) (no-more !)) (λ v. use1 W (later (some (λ (r : ReadAnswer). (‵ ftrue ⊛
+        ‵ (E.the-row .own r (v ∷ []))) ⊛ raw (Ensured r)))) (id⊢ 𝓤 _) $ await ! tt $ pick ! (λ r. split ! $
+        move ! (1 ∷ []) $ use1 W (raw (fact 𝓤 (Holds r))) (said r) $ heard ! (Holds r) (λ e. split ! $
+        move ! (1 ∷ []) $ peeks ! E.the-row (Is E.the-row) (shows 𝓤 H A E.the-row) r (v ∷ []) (λ is. lands-in ! (init
+        ! 11 refl (EL.lawful E.the-type E′.the-laws 𝓤 H A W tt .typed r _ is .0)) $ returns ! (look ! 11 refl) $
+        gone ! 11 11 refl refl $ gone ! 9 9 refl refl $ gone ! 7 7 refl refl $ free0 ! $ keep ! (2 ∷ 0 ∷ []) $
         by ! (exits-at r v e))))))))))
 
 pub read-spec : {M : Type 1} → stated.statement M

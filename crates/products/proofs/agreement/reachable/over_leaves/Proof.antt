@@ -1,8 +1,10 @@
 -- `over_leaves` meets its contract.
-use Prim.Native.Nat.{_+_, _-_}
+use Prim.Native.Nat.{_+_, _-_, _*_, _<_, _≤_}
+use lib.ListN.{getD}
 use mathlib.Core.Path.{_∙_}
 use mathlib.Core.Logic.{_⊎_, inl, inr}
 use native.Mathlib.Omega.{arith}
+use Rattle.products.specs.agreement.reachable.SearchRecord.{pairLeaf}
 use Rattle.products.proofs.agreement.reachable.LeavesLoop.{LeavesLoop, leaves-loop-start, leaves-loop-first, leaves-loop-second}
 use Rattle.products.proofs.agreement.reachable.LeavesLoop.{leaves-loop-product, leaves-loop-code, leaves-loop-room}
 use Rattle.products.proofs.agreement.reachable.LeavesLoop.{leaves-loop-new, leaves-loop-old, leaves-loop-done}
@@ -25,88 +27,49 @@ loop-holds c =
     let g = s .args in
     leaves-loop-start (g .first .now) (g .second .now) (g .s1) (g .s2) (g .k) (g .s) (s .pre)
 
+-- of the label that the loop looks at: the two leaves' states, and the pair of them
+module _ (a : tie.At-loop Inv-loop μ-loop) where
+  states : let g = a .before .before .before .args in
+      (getD (g .first .now) (a .loop .label) 0 < 16) × (getD (g .second .now) (a .loop .label) 0 < 16) × (getD (g .first .now) (a .loop .label) 0 * g .s2 ≤ 256)
+  states =
+      let g = a .before .before .before .args in
+      let l = a .loop in (
+        leaves-loop-first (g .first .now) (g .second .now) (g .s1) (g .s2) (g .k) (g .s) (l .t) (l .label) (l .inv),
+        leaves-loop-second (g .first .now) (g .second .now) (g .s1) (g .s2) (g .k) (g .s) (l .t) (l .label) (l .inv),
+        leaves-loop-product (g .first .now) (g .second .now) (g .s1) (g .s2) (g .k) (g .s) (l .t) (l .label) (l .inv),
+      )
+
+  code : let g = a .before .before .before .args in pairLeaf (g .first .now) (g .second .now) (g .s2) (a .loop .label) < 256
+  code =
+      let g = a .before .before .before .args in
+      let l = a .loop in leaves-loop-code (g .first .now) (g .second .now) (g .s1) (g .s2) (g .k) (g .s) (l .t) (l .label) (l .inv)
+
 shared-slice-read-x : tie.Need-shared-slice-read-x Inv-loop μ-loop
-shared-slice-read-x c =
-    let a = c .before .before in
-    let g = a .before .before .before .args in
-    let l = a .loop in
-    omega (arith, l .inv .args .first-length, c .before .loop-test .taken)
+shared-slice-read-x c = omega (arith, c .before .before .loop .inv .args .first-length, c .before .loop-test .taken)
 
 cast-x : tie.Need-cast-x Inv-loop μ-loop
-cast-x c =
-    let a = c .before .before in
-    let g = a .before .before .before .args in
-    let l = a .loop in
-    omega (
-      arith,
-      leaves-loop-first (g .first .now) (g .second .now) (g .s1) (g .s2) (g .k) (g .s) (l .t) (l .label)
-          (l .inv),
-    )
+cast-x c = omega (arith, states (c .before .before) .0)
 
 shared-slice-read-y : tie.Need-shared-slice-read-y Inv-loop μ-loop
-shared-slice-read-y c =
-    let a = c .before .before .before in
-    let g = a .before .before .before .args in
-    let l = a .loop in
-    omega (arith, l .inv .args .second-length, c .before .before .loop-test .taken)
+shared-slice-read-y c = omega (arith, c .before .before .before .loop .inv .args .second-length, c .before .before .loop-test .taken)
 
 cast-y : tie.Need-cast-y Inv-loop μ-loop
-cast-y c =
-    let a = c .before .before .before in
-    let g = a .before .before .before .args in
-    let l = a .loop in
-    omega (
-      arith,
-      leaves-loop-second (g .first .now) (g .second .now) (g .s1) (g .s2) (g .k) (g .s) (l .t) (l .label)
-          (l .inv),
-    )
+cast-y c = omega (arith, states (c .before .before .before) .1)
 
 mul-c : tie.Need-mul-c Inv-loop μ-loop
-mul-c c =
-    let a = c .before .before .before in
-    let g = a .before .before .before .args in
-    let l = a .loop in
-    omega (
-      arith,
-      leaves-loop-product (g .first .now) (g .second .now) (g .s1) (g .s2) (g .k) (g .s) (l .t) (l .label)
-          (l .inv),
-    )
+mul-c c = omega (arith, states (c .before .before .before) .2)
 
 add-c : tie.Need-add-c Inv-loop μ-loop
-add-c c =
-    let a = c .before .before .before in
-    let g = a .before .before .before .args in
-    let l = a .loop in
-    omega (
-      arith,
-      leaves-loop-code (g .first .now) (g .second .now) (g .s1) (g .s2) (g .k) (g .s) (l .t) (l .label)
-          (l .inv),
-    )
+add-c c = omega (arith, code (c .before .before .before))
 
 element-copy-out-if1 : tie.Need-element-copy-out-if1 Inv-loop μ-loop
-element-copy-out-if1 c =
-    let a = c .before .before .before in
-    let g = a .before .before .before .args in
-    let l = a .loop in
-    leaves-loop-code (g .first .now) (g .second .now) (g .s1) (g .s2) (g .k) (g .s) (l .t) (l .label) (l .inv)
+element-copy-out-if1 c = code (c .before .before .before)
 
 cast-with-line : tie.Need-cast-with-line Inv-loop μ-loop
-cast-with-line c =
-    let a = c .before .before .before .before .before in
-    let g = a .before .before .before .args in
-    let l = a .loop in
-    omega (arith, l .inv .args .labels-most, c .before .before .before .before .loop-test .taken)
+cast-with-line c = omega (arith, c .before .before .before .before .before .loop .inv .args .labels-most, c .before .before .before .before .loop-test .taken)
 
 cast-with-line-2 : tie.Need-cast-with-line-2 Inv-loop μ-loop
-cast-with-line-2 c =
-    let a = c .before .before .before .before .before in
-    let g = a .before .before .before .args in
-    let l = a .loop in
-    omega (
-      arith,
-      leaves-loop-code (g .first .now) (g .second .now) (g .s1) (g .s2) (g .k) (g .s) (l .t) (l .label)
-          (l .inv),
-    )
+cast-with-line-2 c = omega (arith, code (c .before .before .before .before .before))
 
 with-line-requires : tie.Need-with-line-requires Inv-loop μ-loop
 with-line-requires c κs =
