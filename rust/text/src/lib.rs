@@ -35,7 +35,7 @@
 //! tables), `picture` and `svg` (any picture), `drawing` (what pictures of a question share); then a file a verb:
 //! `answer`, `outline`, `why` (with `repairs`), `suggest` (and `robust`), `count`, `script` (session), `screens`, `over`, `branch` (by a
 //! `branch_table`), `colours` (the same by colours), `stored` (build and check), `random`, `dot` (a small plan whole),
-//! `grids` (tables drawn), `agree` (a separating plan). Writing, showing, merging and choosing a picture are in this
+//! `grids` (tables drawn), `agree` (a separating plan), `lessons` (pages and sheets). Writing, showing, merging and choosing a picture are in this
 //! file.
 
 pub mod agree;
@@ -55,6 +55,7 @@ pub mod grids;
 pub mod help;
 pub mod input;
 pub mod json;
+pub mod lessons;
 pub mod lines;
 pub mod loaded;
 pub mod names;

@@ -99,6 +99,7 @@ fn written(args: &Args) -> Result<Made, Failure> {
         (name @ ("dot" | "svg"), [question]) => {
             draw(&input()?, a_question(question)?, true, args.page, one_of(name, &DRAWN)?)
         }
+        ("page", [question]) => text::lessons::page::of_question(&input()?, a_question(question)?),
         ("rules", [word]) => {
             let (how, input) = (one_of(word, &DRAWN)?, input()?);
             text::grids::rules(&input.rules, &input.names, how)

@@ -89,6 +89,9 @@ pub const ALL: &[Verb] = &[
         .more(PAGES)
         .options(&["--page", "--allowed"])
         .example("whatif-text svg 4 < examples/sample.txt > plan.svg"),
+    verb("page", "QUESTION", 1, 1, "a lesson: the question call by call, as a page for a browser")
+        .more("One file, which opens without network. Above 100 nodes it has the outline's nodes, and unfolds.")
+        .example("whatif-text page 4 < examples/sample.txt > lesson.html"),
     verb("rules", "dot|svg", 1, 1, "the rule table as a picture: a grid for each label")
         .example("whatif-text rules svg < examples/sample.txt > rules.svg"),
     verb("branch-table", "dot|svg", 1, 1, "the branch table of --branch FILE as a picture")
