@@ -126,8 +126,27 @@ impl Beside {
         };
         lines.extend(["start", "advance", "cancel"].map(|call| format!("disabled\t{}\t{}", call, refuses(call))));
         lines.extend((0..done).map(|i| format!("part\t{}", self.sentence(i))));
-        lines.extend(shown.iter().map(|&v| self.node(v, shown)));
+        for &v in shown {
+            lines.push(self.node(v, shown));
+            lines.extend(self.edge(v, shown));
+        }
         lines
+    }
+
+    /// What stands between a node and the next one above it that is drawn.
+    fn edge(&self, v: u16, shown: &BTreeSet<u16>) -> Option<String> {
+        let (mut at, mut between) = (self.panel.node(v)?.parent, 0);
+        while !shown.contains(&at) {
+            at = self.panel.node(at)?.parent;
+            between += 1;
+        }
+        let climb = self.climbs.get(&at).filter(|climb| climb.0 == v);
+        let part = self.roots.iter().position(|&root| root == at);
+        let told = match (climb, part) {
+            (Some(_), Some(i)) => format!("in {}", count(self.climbed(i).0, "link")),
+            _ => "between".to_string(),
+        };
+        (between > 0).then(|| format!("e{}\t{} {}", v, nodes(between), told))
     }
 
     fn nodes(&self) -> usize {
@@ -216,7 +235,7 @@ impl Beside {
             panel.cancel().unwrap();
         }
         panel.start(&self.changes).unwrap();
-        (0..i).for_each(|_| drop(panel.advance().unwrap()));
+        (0..i).for_each(|_| assert!(panel.advance().is_ok()));
         let before = so_far(panel.session());
         panel.advance().unwrap();
         let after = so_far(panel.session());
@@ -237,7 +256,7 @@ impl Beside {
             carried |= v == to;
             // above `from` and below `to`
             let size = |v: u16| self.panel.node(v).unwrap().size;
-            passed |= from < v && from > v - size(v) && v < to;
+            passed |= from < v && v - from < size(v) && v < to;
         }
         let named = |state: u8| self.names.state(state);
         let mut classes = vec!["node"];
@@ -362,6 +381,39 @@ fn walks(text: &str, question: usize) {
         assert_eq!(told.get(i), Some(line), "line {} of the page", i);
     }
     assert_eq!(told.len(), expected.len());
+}
+
+/// Above 100 nodes: three nodes of a climb at a time, the children of a node, and folded again.
+#[test]
+fn large_trees_unfold() {
+    if browser::skipped() {
+        return;
+    }
+    let input = Input::of_text(&random("--nodes 61471 --shape arch --seed 6")).unwrap();
+    let page = text::lessons::page::of_question(&input, 1).unwrap();
+    let mut beside = Beside::new(&input, 1);
+    let mut shown: BTreeSet<u16> = beside.roots.iter().copied().collect();
+    let (from, to) = *beside.climbs.values().next().unwrap();
+    let (part, above) = (beside.panel.node(to).unwrap().parent, |v: u16| beside.panel.node(v).unwrap().parent);
+    let path = [above(from), above(above(from)), above(above(above(from)))];
+    let (edge, node) = (format!("e{}", from), format!("n{}", part));
+    let children = beside.panel.plan().children()[usize::from(part)].unwrap();
+    let mut expected = beside.lines(&shown);
+    for (what, added) in [("end", vec![]), (&edge[..], path.to_vec()), (&node, vec![children.0, children.1])] {
+        expected.push(format!("pressed\t{}", what));
+        shown.extend(added);
+        if what == "end" {
+            beside.press(what);
+        }
+        expected.extend(beside.lines(&shown));
+    }
+    // folded: what was unfolded below this node
+    let size = beside.panel.node(part).unwrap().size;
+    shown.retain(|&v| beside.roots.contains(&v) || v >= part || part - v >= size);
+    expected.push(format!("pressed\t{}", node));
+    expected.extend(beside.lines(&shown));
+    let pressed = ["end", &edge, &node, &node];
+    assert_eq!(browser::told(&page, &format!("{}\nwalk({:?});", DRIVER, pressed)), expected);
 }
 
 fn random(words: &str) -> String {

@@ -16,10 +16,12 @@ function look() {
     if (group.getAttribute('aria-label') !== lines.join(', ')) tell('label', group.getAttribute('aria-label'));
     const sign = group.querySelector('.sign');
     tell(group.id, group.getAttribute('class'), lines.join(' / '), sign ? sign.textContent : '');
+    const edge = byId('e' + group.id.slice(1));
+    if (edge) tell(edge.id, edge.textContent);
   }
 }
 function press(what) {
-  if (byId(what)) byId(what).click();
+  if (byId(what)) byId(what).dispatchEvent(new MouseEvent('click', { bubbles: true, cancelable: true }));
   else document.dispatchEvent(new KeyboardEvent('keydown', { key: what, bubbles: true, cancelable: true }));
 }
 function walk(pressed) {
