@@ -100,6 +100,8 @@ fn written(args: &Args) -> Result<Made, Failure> {
             draw(&input()?, a_question(question)?, true, args.page, one_of(name, &DRAWN)?)
         }
         ("page", [question]) => text::lessons::page::of_question(&input()?, a_question(question)?),
+        ("sheet", [question]) => text::lessons::sheet::of_question(&input()?, a_question(question)?),
+        ("exercise", words) => text::lessons::exercise::made(words),
         ("rules", [word]) => {
             let (how, input) = (one_of(word, &DRAWN)?, input()?);
             text::grids::rules(&input.rules, &input.names, how)

@@ -1,6 +1,9 @@
 //! What `session` says of an advance, what stands on sheets and in exercises.
 
+use std::collections::BTreeSet;
 use text::input::Input;
+use text::lessons::{exercise, sheet};
+use text::loaded::Loaded;
 
 const SAMPLE: &str = include_str!("../../../examples/sample.txt");
 
@@ -34,4 +37,134 @@ fn another_question() {
     let refused = |i: usize, state: &str| told[i].starts_with("advance: refused 1: ") && told[i].ends_with(state);
     assert!(refused(0, "(it is empty)") && refused(2, "(it is loaded)") && refused(5, "(it is loaded)"), "{:?}", told);
     assert_eq!(told[7], "advance: part 1 of 2, more; node 3: state 0 to 1; a leaf with label 1 has state 1; no climb");
+}
+
+/// The words of a page, tags left out.
+fn words(html: &str) -> String {
+    let body = html.split("</style>").nth(1).unwrap().replace("</", " </");
+    let plain: String = body.split('<').filter_map(|piece| piece.split_once('>')).map(|(_, words)| words).collect();
+    let plain = plain.replace("&lt;", "<").replace("&gt;", ">").replace("&quot;", "\"").replace("&amp;", "&");
+    plain.split_whitespace().collect::<Vec<_>>().join(" ")
+}
+
+/// The task and the solution of a sheet.
+fn pages(html: &str) -> [String; 2] {
+    let (task, solution) = html.split_once("<section class=\"solution\">").unwrap();
+    [words(task), words(&format!("</style>{}", solution))]
+}
+
+/// No state and no part stands on the first page; every one of the library's on the second.
+#[test]
+fn a_sheet_of_the_sample() {
+    let [task, solution] = pages(&sheet::of_question(&Input::of_text(SAMPLE).unwrap(), 5).unwrap());
+    assert!(task.contains("node 4 label 1 to 0 state ____ to ____ "), "{}", task);
+    // in the node, and where the pointer rests
+    assert_eq!(task.matches("state ____ to ____").count(), 2 * 7);
+    assert!(!task.contains(", part ") && !task.contains("as before") && !task.contains("state 1 to 0"), "{}", task);
+    assert!(task.contains("A plan is cleared where its root has this state: 1."), "{}", task);
+    for said in [
+        "node 6, part 2 label 1 state 1 to 0",
+        "node 5 label 0 state 1",
+        "node 4, part 1 label 1 to 0 state 1 to 0",
+        "Climb 1 4 1 leaf 0 leaf 0 none 2 6 1 1 1 0 0 node 4 to 5: 1 link, 1 node passed over",
+        "2 parts, 1 link, 1 node passed over. 2 of 7 nodes worked out again. The plan is not cleared, state 0.",
+    ] {
+        assert!(solution.contains(said), "{}: {}", said, solution);
+    }
+}
+
+/// Of a large plan the roots of the parts, with the states as they are.
+#[test]
+fn a_sheet_of_a_large_plan() {
+    let words = "--nodes 1001 --shape random --seed 6 --changes 3 --questions 1".split(' ').collect::<Vec<_>>();
+    let input = Input::of_text(&text::random::text(&words).unwrap().unwrap()).unwrap();
+    let mut loaded = Loaded::of(&input).unwrap();
+    let asked = loaded.ask(&input.questions[0]).unwrap();
+    let [task, solution] = pages(&sheet::of_question(&input, 1).unwrap());
+    assert_eq!(task.matches(" to ____").count(), 2 * asked.roots.len());
+    for (i, (&root, &after)) in asked.roots.iter().zip(&asked.states).enumerate() {
+        assert!(task.contains(&format!("node {} label ", root)), "{}: {}", root, task);
+        assert!(solution.contains(&format!("node {}, part {} label ", root, i + 1)), "{}", solution);
+        let before = loaded.before(root);
+        let states = if before == after {
+            format!("state {}, as before", after)
+        } else {
+            format!("state {} to {}", before, after)
+        };
+        assert!(solution.contains(&states), "{}", states);
+    }
+}
+
+/// The plan of an exercise, and the changes that it tells.
+fn exercise(words: &[&str]) -> (Loaded, BTreeSet<(u16, u8)>, String) {
+    let made = exercise::made(&[words, &["--as", "text"]].concat()).unwrap();
+    let input = Input::of_text(&made).unwrap();
+    let told = input.questions.iter().map(|question| (question.len(), question[0])).map(|(one, change)| {
+        assert_eq!(one, 1);
+        change
+    });
+    (Loaded::of(&input).unwrap(), told.collect(), pages(&exercise::made(words).unwrap()).join(" Solution "))
+}
+
+/// Every single change that clears the plan, each by a fresh run.
+fn mending(loaded: &Loaded) -> BTreeSet<(u16, u8)> {
+    let k = loaded.rules().labels() as u8;
+    let all = (0..loaded.nodes() as u16).flat_map(|v| (0..k).map(move |label| (v, label)));
+    all.filter(|&change| loaded.panel.fresh_run(&[change]).unwrap().yes).collect()
+}
+
+#[test]
+fn exercises_of_single_changes() {
+    for seed in ["1", "200", "3000"] {
+        let (loaded, told, said) = exercise(&["fault", "--seed", seed]);
+        assert!(!loaded.is_cleared());
+        assert_eq!(told, mending(&loaded));
+        let nodes: BTreeSet<u16> = told.iter().map(|change| change.0).collect();
+        let node = *nodes.iter().next().unwrap();
+        assert!(nodes.len() == 1 && usize::from(node) + 1 < loaded.nodes());
+        assert!(said.contains(&format!("Node {} alone can mend it", node)), "{}", said);
+        for ways in [1, 2, 5] {
+            let (loaded, told, said) = exercise(&["mend", &ways.to_string(), "--seed", seed, "--nodes", "9"]);
+            assert!(!loaded.is_cleared() && loaded.nodes() == 9);
+            assert_eq!((&told, told.len()), (&mending(&loaded), ways));
+            assert!(said.contains(&format!("{} of 18 single changes clear it.", ways)), "{}", said);
+            for (node, label) in told {
+                let from = loaded.labels()[usize::from(node)];
+                assert!(said.contains(&format!("node {} from label {} to {}", node, from, label)), "{}", said);
+            }
+        }
+    }
+}
+
+/// All choices of labels, each by a fresh run.
+#[test]
+fn exercises_of_shares() {
+    for (share, open) in [("1/3", "2"), ("0/1", "1"), ("1/1", "1"), ("5/9", "2"), ("1/27", "3")] {
+        let (loaded, _, said) = exercise(&["share", share, "--open", open]);
+        let of = said.split("labels: ").nth(1).unwrap().split('.').next().unwrap();
+        let nodes: Vec<u16> = of.split(", ").map(|node| node.parse().unwrap()).collect();
+        assert_eq!(nodes.len().to_string(), open);
+        let choices = (0..3u32.pow(nodes.len() as u32)).map(|i| {
+            let digit = |(at, &v): (usize, &u16)| (v, (i / 3u32.pow(at as u32) % 3) as u8);
+            nodes.iter().enumerate().map(digit).collect::<Vec<_>>()
+        });
+        let verdicts: Vec<bool> = choices.map(|choice| loaded.panel.fresh_run(&choice).unwrap().yes).collect();
+        let clearing = verdicts.iter().filter(|&&yes| yes).count();
+        let (a, b) = share.split_once('/').unwrap();
+        assert_eq!(clearing * b.parse::<usize>().unwrap(), verdicts.len() * a.parse::<usize>().unwrap());
+        let told = format!("{} of {} choices clear the plan: {} of them.", clearing, verdicts.len(), share);
+        assert!(said.contains(&told), "{}: {}", told, said);
+    }
+}
+
+#[test]
+fn what_no_exercise_is() {
+    let what = |words: &[&str]| exercise::made(words).unwrap_err().what();
+    assert!(what(&[]).contains("an exercise is 'fault', 'mend K' or 'share A/B'"));
+    assert!(what(&["mend", "some"]).contains("'some' is no number of changes"));
+    assert!(what(&["share", "3/2"]).contains("'3/2' is no share"));
+    assert!(what(&["share", "1/7", "--nodes", "3"]).contains("none of 3000 plans"));
+    assert!(what(&["fault", "--nodes", "101"]).contains("at most 100 nodes"));
+    assert!(what(&["fault", "--nodes"]).contains("'--nodes' needs a value"));
+    assert!(what(&["fault", "--questions", "2"]).contains("'--questions' is no option of 'exercise'"));
 }

@@ -4,6 +4,8 @@
 //! of a page), then a file a verb: `page`, `screens_page`, `sheet`, `exercise`.
 
 pub mod advance;
+pub mod exercise;
 pub mod html;
 pub mod page;
+pub mod sheet;
 pub mod walk;
