@@ -100,6 +100,9 @@ fn written(args: &Args) -> Result<Made, Failure> {
             draw(&input()?, a_question(question)?, true, args.page, one_of(name, &DRAWN)?)
         }
         ("page", [question]) => text::lessons::page::of_question(&input()?, a_question(question)?),
+        ("screens-page", [script]) => {
+            text::lessons::screens_page::of_script(&files.read(words)?, &files::text(script)?)
+        }
         ("sheet", [question]) => text::lessons::sheet::of_question(&input()?, a_question(question)?),
         ("exercise", words) => text::lessons::exercise::made(words),
         ("rules", [word]) => {

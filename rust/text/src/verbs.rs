@@ -118,6 +118,8 @@ pub const ALL: &[Verb] = &[
     verb("screens", "SCRIPT", 1, 1, "the same for eight screens on one mill: load, start, deal, cancel, read")
         .more("A line is load, start SCREEN NODE->LABEL .., start SCREEN none, deal [TIMES|all], cancel SCREEN or read SCREEN.")
         .answers().example("whatif-text screens examples/screens.txt < examples/sample.txt"),
+    verb("screens-page", "SCRIPT", 1, 1, "the same as a page for a browser: who is served, who is next, who waits")
+        .example("whatif-text screens-page examples/screens.txt < examples/sample.txt > screens.html"),
     verb("build", "NODES STATES", 2, 2, "writes node table and state table into two files")
         .answers().example("whatif-text build nodes.tab states.tab < examples/sample.txt"),
     verb("check", "NODES STATES", 2, 2, "are these the tables that build writes? else the first wrong node")

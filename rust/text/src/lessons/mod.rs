@@ -7,5 +7,6 @@ pub mod advance;
 pub mod exercise;
 pub mod html;
 pub mod page;
+pub mod screens_page;
 pub mod sheet;
 pub mod walk;

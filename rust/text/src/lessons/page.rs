@@ -13,7 +13,7 @@ use crate::sentences::{self, count, verdict};
 use crate::DRAWN_WHOLE;
 use whatif::Kind;
 
-const STYLE: &str = include_str!("page.css");
+pub(super) const STYLE: &str = include_str!("page.css");
 const SCRIPT: &str = include_str!("page.js");
 
 /// Of one of the questions, counted from 1.
