@@ -100,7 +100,7 @@ impl Advances {
         [left, right].into_iter().find_map(|child| {
             // in post-order the nodes below a node stand right before it
             let first = child + 1 - panel.node(child)?.size;
-            let highest = roots.iter().copied().filter(|&v| first <= v && v <= child).last()?;
+            let highest = roots.iter().rev().copied().find(|&v| first <= v && v <= child)?;
             (highest != child).then_some((highest, child))
         })
     }
