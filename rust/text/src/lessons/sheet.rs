@@ -122,7 +122,7 @@ fn node(walk: &Walk, v: usize, solved: bool) -> Node {
     Node { tip: lines.join(", "), lines, look }
 }
 
-/// A row for each part, empty or filled in. A small plan's empty rows are four more than needed, so that their number
+/// A row for each part, empty or filled in. The empty rows are two more than needed, so that their number
 /// tells nothing.
 fn parts(walk: &Walk, solved: bool) -> String {
     let heads = ["Part", "Node", "State before", "Left state", "Label", "Right state", "State after", "Climb"];
@@ -132,7 +132,7 @@ fn parts(walk: &Walk, solved: bool) -> String {
         rows.extend(walk.advances.iter().map(|advance| row(&cells_of(advance, &walk.loaded.names))));
     } else {
         let empty = |i: usize| row(&[&[i.to_string()][..], &vec![String::new(); heads.len() - 1]].concat());
-        rows.extend((1..=walk.advances.len() + 4).map(empty));
+        rows.extend((1..=walk.advances.len() + 2).map(empty));
     }
     format!("<h2>The parts</h2>\n<table>\n{}</table>\n", rows)
 }
