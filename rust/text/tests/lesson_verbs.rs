@@ -24,9 +24,9 @@ fn an_advance_is_told_with_its_climb() {
     assert_eq!(told[3], format!("advance: part 2 of 2, finished; {}; {}", rule, climb));
     assert!(told[4].starts_with("advance: refused 1: ") && told[4].ends_with("(it is answered)"), "{}", told[4]);
     let objects = session(script, true);
-    let leaf = r#""root":4,"before":1,"state":0,"label":0,"links":0,"passed":0}"#;
+    let leaf = r#""root":4,"state":0,"before":1,"label":0,"links":0,"passed":0}"#;
     assert_eq!(objects[2], format!(r#"{{"call":"advance","part":1,"of":2,"finished":false,{}"#, leaf));
-    let inner = r#""root":6,"before":1,"state":0,"left":1,"label":1,"right":0,"links":1,"passed":1,"from":4,"to":5}"#;
+    let inner = r#""root":6,"state":0,"before":1,"left":1,"label":1,"right":0,"links":1,"passed":1,"from":4,"to":5}"#;
     assert_eq!(objects[3], format!(r#"{{"call":"advance","part":2,"of":2,"finished":true,{}"#, inner));
 }
 

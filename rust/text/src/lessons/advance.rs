@@ -168,8 +168,8 @@ impl Advance {
 
     /// Its fields.
     pub fn object(&self, names: &Names) -> Object {
-        let object = Object::new().number("root", self.part.root).state("before", self.before, names);
-        let object = object.state("state", self.part.state, names);
+        let object = Object::new().number("root", self.part.root).state("state", self.part.state, names);
+        let object = object.state("before", self.before, names);
         let object = match self.rule {
             Rule::Leaf { label } => object.label("label", label, names),
             Rule::Inner { left, label, right } => {
