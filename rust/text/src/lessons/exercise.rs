@@ -7,19 +7,25 @@
 //! ```
 //!
 //! Random plans are tried one after the other until the library says that one has the property. The claims on the sheet
-//! are its answers: `allowed` for single changes, `count` for choices, and a fresh run for each change that is told.
+//! are its answers: `allowed` for single changes, `count` for choices, a fresh run for the plan as it is and for each
+//! change that is listed.
 
 use super::html::{self, escaped, paragraph};
 use super::sheet::{plan_as_it_is, rules, solution, STYLE, WRITE};
 use crate::generator::Random;
 use crate::input::Input;
 use crate::loaded::Loaded;
+use crate::nearest::nearest;
 use crate::outcome::Failure;
 use crate::questions::Change;
 use crate::sentences::{changes, count, verdict};
 use crate::DRAWN_WHOLE;
 
 const TRIES: usize = 3_000;
+
+/// Those of `random` except the questions', and two of its own.
+pub(crate) const OPTIONS: [&str; 8] =
+    ["--nodes", "--shape", "--states", "--labels", "--rules", "--seed", "--open", "--as"];
 
 /// What is asked for.
 #[derive(Clone, Copy, Debug, PartialEq, Eq)]
@@ -63,7 +69,7 @@ fn wanted<'a, 'b>(words: &'a [&'b str]) -> Result<(Wanted, &'a [&'b str]), Failu
     }
 }
 
-/// Those of `random` but for the questions, and two of its own.
+/// What they are set to.
 struct Options<'a> {
     words: Vec<&'a str>,
     seed: usize,
@@ -90,10 +96,14 @@ impl<'a> Options<'a> {
                 ["--seed", value] => options.seed = number("--seed", value)?,
                 ["--open", value] => options.open = number("--open", value)?,
                 ["--as", how] => options.text = crate::args::one_of(how, &[("sheet", false), ("text", true)])?,
-                ["--questions" | "--changes", _] => {
-                    return Err(Failure::Usage(format!("'{}' is no option of 'exercise'", pair[0])))
+                [option, _] if OPTIONS.contains(option) => options.words.extend(pair),
+                [option, ..] => {
+                    let near =
+                        nearest(option, OPTIONS).map_or(String::new(), |near| format!("; did you mean '{}'?", near));
+                    let what = format!("'{}' is no option of 'exercise'{}", option, near);
+                    return Err(Failure::Usage(what + " (whatif-text help exercise)"));
                 }
-                other => options.words.extend(other),
+                [] => (),
             }
         }
         for (option, value) in USUAL {
@@ -125,7 +135,7 @@ fn search(wanted: Wanted, options: &Options) -> Result<Found, Failure> {
             Wanted::Share(a, b) => share(&loaded, (a, b), options.open, seed)?,
         };
         if let Some((task, claims, solutions)) = found {
-            held(&loaded, &solutions)?;
+            confirmed(&loaded, &solutions)?;
             return Ok(Found { text, loaded, task, claims, solutions });
         }
     }
@@ -144,9 +154,10 @@ fn mending(loaded: &Loaded) -> Result<Option<Vec<Change>>, Failure> {
     Ok(Some((0..).zip(allowed).flat_map(|(v, labels)| labels.iter().map(move |label| (v, label))).collect()))
 }
 
-fn as_it_is(loaded: &Loaded) -> String {
-    let root = loaded.before(loaded.nodes() - 1);
-    format!("As it is, the plan is {}, state {}.", verdict(loaded.is_cleared()), loaded.names.state(root))
+/// By a fresh run.
+fn as_it_is(loaded: &Loaded) -> Result<String, Failure> {
+    let fresh = loaded.panel.fresh_run(&[]).map_err(Failure::refused)?;
+    Ok(format!("As it is, the plan is {}, state {}.", verdict(fresh.yes), loaded.names.state(fresh.state)))
 }
 
 fn fault(loaded: &Loaded) -> Result<Option<Posed>, Failure> {
@@ -163,7 +174,7 @@ fn fault(loaded: &Loaded) -> Result<Option<Posed>, Failure> {
         "The plan is not cleared. One node alone can mend it: with another label there, and all else as it is, the \
                 plan is cleared. Which node is it, and which labels may it take?";
     let told = format!("Node {} alone can mend it; {} will do.", node, count(mending.len(), "label"));
-    Ok(Some((task.to_string(), vec![as_it_is(loaded), told], mending)))
+    Ok(Some((task.to_string(), vec![as_it_is(loaded)?, told], mending)))
 }
 
 fn mend(loaded: &Loaded, ways: usize) -> Result<Option<Posed>, Failure> {
@@ -176,7 +187,7 @@ fn mend(loaded: &Loaded, ways: usize) -> Result<Option<Posed>, Failure> {
     let task = format!("The plan is not cleared. There {}{} to mend it by one change. Find all of them.", are, number);
     let tried = loaded.nodes() * (loaded.rules().labels() - 1);
     let told = format!("{} of {} single changes clear it.", ways, tried);
-    Ok(Some((task, vec![as_it_is(loaded), told], mending)))
+    Ok(Some((task, vec![as_it_is(loaded)?, told], mending)))
 }
 
 fn share(loaded: &Loaded, (a, b): (u64, u64), open: usize, seed: usize) -> Result<Option<Posed>, Failure> {
@@ -194,7 +205,7 @@ fn share(loaded: &Loaded, (a, b): (u64, u64), open: usize, seed: usize) -> Resul
         let (name, clears) = (loaded.names.state(state as u8), verdict(loaded.rules().accepts(state as u8)));
         format!("State {}, {}: {} of the choices.", name, clears, number)
     });
-    Ok(Some((task, [as_it_is(loaded), told].into_iter().chain(by_state).collect(), vec![])))
+    Ok(Some((task, [as_it_is(loaded)?, told].into_iter().chain(by_state).collect(), vec![])))
 }
 
 /// Different nodes, rising.
@@ -207,11 +218,11 @@ fn open_nodes(all: usize, open: usize, seed: usize) -> Vec<u16> {
     nodes.into_iter().collect()
 }
 
-/// A fresh run of the plan with each change that is told clears it.
-fn held(loaded: &Loaded, solutions: &[Change]) -> Result<(), Failure> {
+/// A fresh run of the plan with each change that is listed clears it.
+fn confirmed(loaded: &Loaded, solutions: &[Change]) -> Result<(), Failure> {
     for &change in solutions {
         if !loaded.panel.fresh_run(&[change]).map_or(false, |fresh| fresh.yes) {
-            return Err(super::advance::fault("a change that is told does not clear the plan by a fresh run"));
+            return Err(super::advance::fault("a change that is listed does not clear the plan by a fresh run"));
         }
     }
     Ok(())
