@@ -99,7 +99,7 @@ fn written(args: &Args) -> Result<Made, Failure> {
         (name @ ("dot" | "svg"), [question]) => {
             draw(&input()?, a_question(question)?, true, args.page, one_of(name, &DRAWN)?)
         }
-        ("page", [question]) => text::lessons::page::of_question(&input()?, a_question(question)?),
+        ("page", [question]) => text::lessons::page::of_question(&input()?, a_question(question)?, args.allowed),
         ("screens-page", [script]) => {
             text::lessons::screens_page::of_script(&files.read(words)?, &files::text(script)?)
         }

@@ -90,7 +90,9 @@ pub const ALL: &[Verb] = &[
         .options(&["--page", "--allowed"])
         .example("whatif-text svg 4 < examples/sample.txt > plan.svg"),
     verb("page", "QUESTION", 1, 1, "a lesson: the question call by call, as a page for a browser")
-        .more("One file, which opens without network. Above 100 nodes it has the outline's nodes, and unfolds.")
+        .more("One file, which opens without network. Above 100 nodes it has the outline's nodes, and unfolds.
+--allowed: once it is answered, marked are the nodes that can take one label alone, and those that can take none.")
+        .options(&["--allowed"])
         .example("whatif-text page 4 < examples/sample.txt > lesson.html"),
     verb("sheet", "QUESTION", 1, 1, "the question to work out by hand: a page to print, the solution on the next one")
         .example("whatif-text sheet 4 < examples/sample.txt > sheet.html"),

@@ -63,7 +63,20 @@
     lines.push(takes.has(v) ? `label ${label} → ${data.labelNames[takes.get(v)]}` : `label ${label}`);
     lines.push(stateOf(v, here));
     if (v === rootOfPlan) lines.push('the root: ' + here.root);
+    const mark = markOf(v, here);
+    if (mark && mark.class) lines.push(mark.words);
     return lines;
+  }
+
+  // With --allowed: the labels that a node may take. There is no place for them before the question is answered: it
+  // would show which nodes are marked later.
+  let marked = false;
+  const markOf = (v, here) => (marked && here.state === 'answered' ? data.sets[data.allowed[v]] : null);
+
+  // For screen readers: the lines, and several labels that clear the plan.
+  function labelOf(v, here) {
+    const mark = markOf(v, here), lines = linesOf(v, here).join(', ');
+    return mark && !mark.class ? `${lines}; ${mark.words}` : lines;
   }
 
   function classesOf(v, here) {
@@ -74,6 +87,8 @@
     if (done && data.before[v] !== data.after[i]) classes.push('other');
     if (here.done > 0 && i === here.done - 1) classes.push('now');
     if ((end && end.part < here.done) || (passedBy.has(v) && passedBy.get(v) < here.done)) classes.push('pass');
+    const mark = markOf(v, here);
+    if (mark && mark.class) classes.push(mark.class);
     if (v === rootOfPlan && here.verdictClass !== 'open') classes.push(here.verdictClass);
     if (opens(v)) classes.push('opens');
     return classes.join(' ');
@@ -89,12 +104,15 @@
     for (const [key, value] of Object.entries(attributes)) element.setAttribute(key, value);
     return element;
   };
+  const last = data.runs[0][data.runs[0].length - 1];
   const widthOf = v => {
-    const last = data.runs[0].length - 1;
-    const all = [data.runs[0][0], data.runs[0][1], data.runs[0][last]].flatMap(here => linesOf(v, here));
-    return Math.max(90, ...all.map((line, i) => 7.3 * (line.length + (i % 3 ? 0 : 2)) + 18)) + (part.has(v) ? 12 : 0);
+    // the first line is bold, and has a mark in front at times
+    const wide = (line, i) => (i === 0 ? 8.2 * line.length + 36 : 7.3 * line.length + 18);
+    const all = [data.runs[0][0], data.runs[0][1], last].flatMap(here => linesOf(v, here).map(wide));
+    return Math.ceil(Math.max(90, ...all)) + (part.has(v) ? 12 : 0);
   };
-  const heightOf = v => (v === rootOfPlan ? 4 : 3) * LINE + 12;
+  const linesAt = v => linesOf(v, marked ? last : data.runs[0][0]).length;
+  const heightOf = v => linesAt(v) * LINE + 12;
   const wordsOf = (v, above) => {
     const between = depth[v] - depth[above] - 1;
     const climb = data.climbs[part.get(above)];
@@ -129,10 +147,10 @@
         next += wide.get(child) + BETWEEN;
       }
     }
-    const step = 3 * LINE + 12 + DOWN + LINE;
+    const step = 3 * LINE + 12 + DOWN + LINE + (marked ? LINE : 0);
     const x = v => from.get(v) + wide.get(v) / 2, y = v => 14 + row.get(v) * step;
     const width = Math.ceil(wide.get(rootOfPlan) + 32);
-    const height = Math.ceil(14 + Math.max(...order.map(v => row.get(v))) * step + 4 * LINE + 30);
+    const height = Math.ceil(14 + Math.max(...order.map(v => row.get(v))) * step + (marked ? 5 : 4) * LINE + 30);
     const svg = made('svg', { viewBox: `0 0 ${width} ${height}`, width, height, role: 'group' });
     svg.setAttribute('aria-label', 'the plan as a tree');
     for (const v of order) if (above.has(v)) drawEdge(svg, v, above.get(v), x, y);
@@ -150,9 +168,9 @@
     if (!words) return;
     const group = made('g', { class: 'words', id: 'e' + v, tabindex: 0, role: 'button' });
     group.setAttribute('aria-label', `${words} node ${v} and node ${above}: unfold`);
-    const text = made('text', { x: x(v), y: y(v) - 12 });
+    const text = made('text', { x: x(v), y: y(v) - 12 }), wide = 7 * words.length;
     text.textContent = words;
-    group.append(text);
+    group.append(made('rect', { x: x(v) - wide / 2, y: y(v) - 24, width: wide, height: 17 }), text);
     pressed(group, () => {
       for (let up = parent[v], i = 0; up !== above && i < 3; up = parent[up], i++) shown.add(up);
     }, 'e' + v);
@@ -164,7 +182,7 @@
     const inner = width - (part.has(v) ? 12 : 0);
     group.append(made('rect', { class: 'second', x: -inner / 2 - 4, y: -4, width: inner + 8, height: height + 8 }));
     group.append(made('rect', { class: 'first', x: -inner / 2, y: 0, width: inner, height }));
-    for (let i = 0; i < (v === rootOfPlan ? 4 : 3); i++) {
+    for (let i = 0; i < linesAt(v); i++) {
       group.append(made('text', { y: LINE * (i + 1) + 1, class: i ? 'line' : 'head' }));
     }
     if (opens(v)) {
@@ -201,13 +219,17 @@
   }
 
   function show() {
-    const here = place();
+    const here = place(), marks = here.state === 'answered' && 'allowed' in data;
+    if (marks !== marked) {
+      marked = marks;
+      drawTree();
+    }
     for (const v of shown) {
       const group = byId('n' + v), lines = linesOf(v, here);
       group.setAttribute('class', classesOf(v, here));
       group.querySelectorAll('.head, .line').forEach((text, i) => { text.textContent = lines[i]; });
       group.setAttribute('role', opens(v) ? 'button' : 'img');
-      group.setAttribute('aria-label', lines.join(', '));
+      group.setAttribute('aria-label', labelOf(v, here));
       if (!opens(v)) continue;
       group.querySelector('.sign').textContent = folded(v) ? '+' : '';
       group.setAttribute('aria-expanded', String(!folded(v)));
@@ -227,7 +249,7 @@
     byId('back').setAttribute('aria-disabled', String(before.length === 0));
     document.querySelectorAll('#parts li').forEach((item, i) => { item.hidden = i >= here.done; });
     byId('walk').hidden = here.done === 0;
-    if (here.done > 0) bringIntoView(byId('n' + data.roots[here.done - 1]));
+    bringIntoView(byId('n' + (here.done > 0 ? data.roots[here.done - 1] : rootOfPlan)));
   }
 
   // Inside the tree's frame alone: the words above it stay where they are.

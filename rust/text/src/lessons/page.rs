@@ -6,25 +6,30 @@ use super::advance::Advance;
 use super::html::{self, escaped, paragraph};
 use super::walk::{Place, Walk};
 use crate::count::grouped;
+use crate::drawing::{NO_LABEL_CLEARS, ONE_LABEL_CLEARS, OTHER_STATE_WHERE_MARKED};
 use crate::input::Input;
 use crate::json::{string, Object};
 use crate::outcome::Failure;
 use crate::sentences::{self, count, verdict};
 use crate::DRAWN_WHOLE;
-use whatif::Kind;
+use std::collections::{BTreeMap, BTreeSet};
+use whatif::{Kind, LabelSet};
 
 pub(super) const STYLE: &str = include_str!("page.css");
 const SCRIPT: &str = include_str!("page.js");
 
-/// Of one of the questions, counted from 1.
-pub fn of_question(input: &Input, number: usize) -> Result<String, Failure> {
+/// Of one of the questions, counted from 1. With `allowed` the nodes are marked that may take one label alone, or none,
+/// with the changes made.
+pub fn of_question(input: &Input, number: usize, allowed: bool) -> Result<String, Failure> {
     let walk = Walk::of(input, number)?;
+    let marks = if allowed { Some(Marks::of(&walk)?) } else { None };
     let title = format!("What if {}?", sentences::changes(walk.changes));
     let body = format!("<h1>{}</h1>\n", escaped(&title))
         + &about(&walk)
         + CONTROLS
+        + &legend(allowed)
         + &parts(&walk)
-        + &html::scripted(&data(&walk), SCRIPT);
+        + &html::scripted(&data(&walk, marks), SCRIPT);
     Ok(html::page(&title, STYLE, &body))
 }
 
@@ -43,6 +48,51 @@ fn about(walk: &Walk) -> String {
 }
 
 const CONTROLS: &str = include_str!("page.html");
+
+/// The looks, each in words; with those of the marks where they are shown.
+fn legend(allowed: bool) -> String {
+    let other = if allowed { OTHER_STATE_WHERE_MARKED } else { "thicker border: another state than before" };
+    let marks = [("one", ONE_LABEL_CLEARS), ("none", NO_LABEL_CLEARS)];
+    let looks = [
+        ("changed", "square corners: a listed node, with the label that it takes"),
+        ("root", "two borders: the root of a part, with its number"),
+        ("now", "▶, thick border: the part handled last"),
+        ("done", "violet, 'as before': a part that is handled, with the same state"),
+        ("other", other),
+        ("pass", "dashed: passed over by a climb, not worked out"),
+    ];
+    let item = |boxes: &str, words: &str| format!("<li>{}{}</li>\n", boxes, escaped(words));
+    let a_box = |class: &str| format!("<span class=\"box {}\"></span>", class);
+    let verdicts = item(&(a_box("yes") + &a_box("no")), "the plan's root: cleared or not, in words");
+    let looks = looks.iter().chain(marks.iter().filter(|_| allowed));
+    let items: String = looks.map(|(class, words)| item(&a_box(class), words)).collect();
+    format!("<ul class=\"legend\">\n{}{}</ul>\n", items, verdicts)
+}
+
+/// The labels that each node may take, with the changes made: by `whatif_allowed`.
+struct Marks {
+    /// Of each node the place of its set below.
+    of: Vec<usize>,
+    /// Each set once: its class and its words.
+    sets: Vec<String>,
+}
+
+impl Marks {
+    fn of(walk: &Walk) -> Result<Marks, Failure> {
+        let allowed = walk.loaded.changed(walk.changes)?.allowed()?;
+        let different: BTreeSet<u64> = allowed.iter().map(|set| set.bits()).collect();
+        let places: BTreeMap<u64, usize> = different.iter().copied().zip(0..).collect();
+        let set = |&bits: &u64| {
+            let set = LabelSet::from_bits(bits);
+            let class = ["none", "one"].get(set.len()).unwrap_or(&"");
+            Object::new().text("class", class).text("words", &sentences::clears(set, &walk.loaded)).inner()
+        };
+        Ok(Marks {
+            of: allowed.iter().map(|set| places[&set.bits()]).collect(),
+            sets: different.iter().map(set).collect(),
+        })
+    }
+}
 
 /// Every part in words, shown as far as it is handled; without a script all of them.
 fn parts(walk: &Walk) -> String {
@@ -71,11 +121,11 @@ fn nodes(number: usize) -> String {
 }
 
 /// What the script reads.
-fn data(walk: &Walk) -> String {
+fn data(walk: &Walk, marks: Option<Marks>) -> String {
     let (loaded, [n, s, k]) = (&walk.loaded, counts(walk));
     let kinds: String = loaded.panel.plan().kinds().map(|kind| if kind == Kind::Leaf { 'l' } else { 'i' }).collect();
     let takes = |v: usize| walk.takes(v).map(|label| format!("[{},{}]", v, label));
-    let listed: std::collections::BTreeSet<u16> = walk.changes.iter().map(|change| change.0).collect();
+    let listed: BTreeSet<u16> = walk.changes.iter().map(|change| change.0).collect();
     let climb = |advance: &Advance| match advance.climb {
         None => "null".to_string(),
         Some(climb) => Object::new()
@@ -91,6 +141,9 @@ fn data(walk: &Walk) -> String {
             places.iter().enumerate().map(|(i, place)| place_of(walk, i, place)).collect::<Vec<_>>().join(",")
         )
     });
+    let marks = marks.iter().fold(Object::new(), |object, marks| {
+        object.list("allowed", marks.of.iter().map(usize::to_string)).list("sets", marks.sets.iter().cloned())
+    });
     Object::new()
         .count("nodes", n)
         .count("whole", DRAWN_WHOLE)
@@ -104,6 +157,7 @@ fn data(walk: &Walk) -> String {
         .list("after", walk.advances.iter().map(|advance| advance.part.state.to_string()))
         .list("climbs", walk.advances.iter().map(climb))
         .list("runs", runs)
+        .and(marks)
         .line()
 }
 
