@@ -232,7 +232,7 @@ fn completions() {
             assert_eq!(offered("random --sh", 2), "--shape");
             assert_eq!(offered("screens-p", 1), "screens-page");
             assert_eq!(offered("page 4 --al", 3), "--allowed");
-            assert_eq!(offered("exercise s", 2), "share");
+            assert_eq!(offered("exercise sha", 2), "share");
             assert_eq!(offered("exercise mend 3 --o", 4), "--open");
             assert_eq!(offered("exercise fault --q", 3), "");
             assert_eq!(offered("help out", 2), "outline");

@@ -2,7 +2,7 @@
 
 use std::collections::BTreeSet;
 use text::input::Input;
-use text::lessons::{exercise, sheet};
+use text::lessons::{exercise, page, sheet};
 use text::loaded::Loaded;
 
 const SAMPLE: &str = include_str!("../../../examples/sample.txt");
@@ -37,6 +37,26 @@ fn another_question() {
     let refused = |i: usize, state: &str| told[i].starts_with("advance: refused 1: ") && told[i].ends_with(state);
     assert!(refused(0, "(it is empty)") && refused(2, "(it is loaded)") && refused(5, "(it is loaded)"), "{:?}", told);
     assert_eq!(told[7], "advance: part 1 of 2, more; node 3: state 0 to 1; a leaf with label 1 has state 1; no climb");
+}
+
+/// With --allowed a page has the legend's words of the other pictures; without it neither they nor the marks.
+#[test]
+fn a_legend_of_marks() {
+    let input = Input::of_text(SAMPLE).unwrap();
+    let (marked, plain) = (page::of_question(&input, 4, true).unwrap(), page::of_question(&input, 4, false).unwrap());
+    let svg = text::draw_allowed(&input, 4, true, 1, text::picture::Drawn::Svg).unwrap();
+    for legend in [
+        "blue, 'only label ..': with the changes made, no other label of the node clears the plan",
+        "filled grey, 'no label': with the changes made, no label of the node clears the plan",
+        "thick border, orange unless it is blue or grey: another state than before",
+    ] {
+        assert!(
+            words(&marked).contains(legend) && svg.contains(legend) && !words(&plain).contains(legend),
+            "{}",
+            legend
+        );
+    }
+    assert!(marked.contains("\"sets\":") && !plain.contains("\"sets\":") && !plain.contains("label clears"));
 }
 
 /// The words of a page, tags left out.

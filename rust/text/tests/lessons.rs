@@ -7,7 +7,7 @@ mod browser;
 use beside::Beside;
 use std::collections::BTreeSet;
 use text::input::Input;
-use text::lessons::page;
+use text::lessons::{page, screens_page, sheet};
 
 const SAMPLE: &str = include_str!("../../../examples/sample.txt");
 const DRIVER: &str = include_str!("browser/page.js");
@@ -23,7 +23,12 @@ fn walks(text: &str, question: usize, allowed: bool) {
     }
     let input = Input::of_text(text).unwrap();
     let page = page::of_question(&input, question, allowed).unwrap();
-    let mut beside = Beside::new(&input, question, allowed);
+    assert_eq!(difference(&input, question, allowed, &page), None);
+}
+
+/// The first line in which the page is not what the library's answers are; `[page, library]`.
+fn difference(input: &Input, question: usize, allowed: bool, page: &str) -> Option<[String; 2]> {
+    let mut beside = Beside::new(input, question, allowed);
     let parts = beside.roots.len();
     let mut pressed: Vec<&str> = PRESSED.to_vec();
     pressed.extend(vec!["ArrowRight"; parts]);
@@ -36,11 +41,10 @@ fn walks(text: &str, question: usize, allowed: bool) {
         beside.press(what);
         expected.extend(beside.lines(&shown));
     }
-    let told = browser::told(&page, &format!("{}\nwalk({:?});", DRIVER, pressed));
-    for (i, line) in expected.iter().enumerate() {
-        assert_eq!(told.get(i), Some(line), "line {} of the page", i);
-    }
-    assert_eq!(told.len(), expected.len());
+    let told = browser::told(page, &format!("{}\nwalk({:?});", DRIVER, pressed));
+    let line = |lines: &[String], i: usize| lines.get(i).map_or("(no line)".to_string(), String::clone);
+    let pairs = (0..expected.len().max(told.len())).map(|i| [line(&told, i), line(&expected, i)]);
+    pairs.into_iter().find(|[told, expected]| told != expected)
 }
 
 /// Above 100 nodes: three nodes of a climb at a time, the children of a node, and folded again.
@@ -133,6 +137,65 @@ fn loads_within_two_seconds() {
         tried.push(took);
     }
     panic!("in milliseconds: {:?}", tried);
+}
+
+/// Wrong pages, each an edit of the script. The comparison must notice every one.
+const WRONG: [(&str, &str); 15] = [
+    // a part's state is shown before it is handled
+    ("if (i !== undefined && i < here.done) {", "if (i !== undefined && i <= here.done) {"),
+    ("if (done && data.before[v] !== data.after[i])", "if (done)"),
+    ("if (here.done > 0 && i === here.done - 1) classes", "if (here.done > 0 && i === here.done) classes"),
+    ("if (takes.has(v)) classes", "if (part.has(v)) classes"),
+    (", carried up`", "`"),
+    ("return 'passed over';", "return `state ${data.stateNames[was]}`;"),
+    ("here.verdictClass !== 'open'", "here.verdictClass === 'yes'"),
+    ("byId('verdict').className = here.verdictClass", "byId('verdict').className = data.runs[0][0].verdictClass"),
+    // an answer that is kept is forgotten
+    ("place().state === 'answered' ? 1 : run", "run"),
+    // an old refusal stays
+    ("byId('refused').textContent = '';", ""),
+    ("[run, at, note] = before.pop();", "[run, at] = before.pop();"),
+    ("item.hidden = i >= here.done", "item.hidden = i > here.done"),
+    ("lines.push(mark.words)", "lines.push('')"),
+    ("classes.push(mark.class)", "classes.push('one')"),
+    ("'aria-label', labelOf(v, here)", "'aria-label', 'node ' + v"),
+];
+
+#[test]
+fn wrong_pages_are_noticed() {
+    if browser::skipped() {
+        return;
+    }
+    // the sample's rules; a climb, a part with the same state, nodes with one label that clears and with none
+    let left = "leaf 1\nleaf 1\ninner 1\nleaf 1\ninner 1\nleaf 1\ninner 1\n";
+    let plan = format!("plan\n{}leaf 1\nleaf 1\ninner 1\ninner 1\n", left);
+    let rules = "rules\nstates 2\nlabels 2\nleaf 0 -> 0\nleaf 1 -> 1\ninner * * * -> 0\ninner * 0 1 -> 1\n\
+                 inner 1 0 * -> 1\ninner 1 1 1 -> 1\naccept 1\n";
+    let input = Input::of_text(&format!("{}{}questions\n0->0 9->0\n", plan, rules)).unwrap();
+    let page = page::of_question(&input, 1, true).unwrap();
+    assert_eq!(difference(&input, 1, true, &page), None);
+    for (from, to) in WRONG {
+        assert_eq!(page.matches(from).count(), 1, "{}", from);
+        assert!(difference(&input, 1, true, &page.replace(from, to)).is_some(), "nobody noticed: {}", to);
+    }
+}
+
+/// Names that could be taken for markup are words on sheets and on the page of eight screens, too.
+#[test]
+fn names_are_words() {
+    if browser::skipped() {
+        return;
+    }
+    let names = "names\nlabel 0 </td><b>x\nlabel 1 <!--<script>\nstate 0 \"&amp;'\nstate 1 </script><b>y\n";
+    let input = Input::of_text(&format!("{}\n{}", SAMPLE, names)).unwrap();
+    let count = "tell(document.querySelectorAll('b').length); const words = document.body.textContent;";
+    let has = |word: &str| format!("tell(words.includes({:?}));", word).replace('<', "\\u003c");
+    let sheet = sheet::of_question(&input, 4).unwrap();
+    let words: String = ["</td><b>x", "<!--<script>", "\"&amp;'", "</script><b>y"].into_iter().map(has).collect();
+    assert_eq!(browser::told(&sheet, &(count.to_string() + &words)), ["0", "true", "true", "true", "true"]);
+    let screens = screens_page::of_script(&input, "load\nstart 0 none\ndeal\n").unwrap();
+    let driver = format!("document.getElementById('end').click(); {} {}", count, has("state 1 (</script><b>y)"));
+    assert_eq!(browser::told(&screens, &driver), ["0", "true"]);
 }
 
 /// What goes wrong in a page is seen: a script that fails, a file from elsewhere.

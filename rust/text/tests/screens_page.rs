@@ -154,15 +154,10 @@ fn screen(screens: &Screens, on: u32, changed: bool) -> [String; 2] {
     [format!("s{}\t{}\t{}\t{}\t{}", on, class, state, turn, asked), format!("s{}\tlast {}\t{}", on, verdict, last)]
 }
 
-#[test]
-fn call_by_call() {
-    if browser::skipped() {
-        return;
-    }
-    let input = Input::of_text(SAMPLE).unwrap();
-    let page = text::lessons::screens_page::of_script(&input, SCRIPT).unwrap();
+/// The first line in which the page is not what the library's answers are; `[page, library]`.
+fn difference(input: &Input, page: &str) -> Option<[String; 2]> {
     let first = Call { said: "No call yet.".into(), refused: false, screens: Screens::new() };
-    let calls: Vec<Call> = std::iter::once(first).chain(calls(&input, SCRIPT)).collect();
+    let calls: Vec<Call> = std::iter::once(first).chain(calls(input, SCRIPT)).collect();
     let last = calls.len() - 1;
     let mut pressed = vec![("back", 0)];
     pressed.extend((1..=last).map(|at| (if at % 2 == 0 { "advance" } else { "ArrowRight" }, at)));
@@ -181,13 +176,48 @@ fn call_by_call() {
         expected.extend(lines(&calls, *at));
     }
     let pressed: Vec<&str> = pressed.iter().map(|(what, _)| *what).collect();
-    let told = browser::told(&page, &format!("{}\nwalk({:?});", DRIVER, pressed));
+    let told = browser::told(page, &format!("{}\nwalk({:?});", DRIVER, pressed));
     assert_eq!(told.len(), expected.len());
-    for (i, (told, expected)) in told.iter().zip(&expected).enumerate() {
-        // behind a refusal's sentence stands what it is about
-        let same = told == expected
-            || (expected.starts_with("say\trefused\t") && told.starts_with(&format!("{} (", expected)));
-        assert!(same, "line {}: {} {}", i, told, expected);
-    }
     assert!(calls.iter().any(|call| call.refused) && calls.len() > 20);
+    // after a refusal's sentence comes what it is about
+    let same = |told: &str, expected: &str| {
+        told == expected || (expected.starts_with("say\trefused\t") && told.starts_with(&format!("{} (", expected)))
+    };
+    told.into_iter()
+        .zip(expected)
+        .find(|(told, expected)| !same(told, expected))
+        .map(|(told, expected)| [told, expected])
+}
+
+#[test]
+fn call_by_call() {
+    if browser::skipped() {
+        return;
+    }
+    let input = Input::of_text(SAMPLE).unwrap();
+    let page = text::lessons::screens_page::of_script(&input, SCRIPT).unwrap();
+    assert_eq!(difference(&input, &page), None);
+}
+
+/// Wrong pages, each an edit of the script. The comparison must notice every one.
+const WRONG: [(&str, &str); 6] = [
+    ("'is next': ' next'", "'is next': ' waits'"),
+    ("(screen.changed ? ' changed' : '')", "''"),
+    ("const step = steps[at];", "const step = steps[Math.max(0, at - 1)];"),
+    ("screen.question && 'What if '", "'What if '"),
+    ("'last ' + screen.class", "'last yes'"),
+    ("step.refused ? 'refused' : ''", "''"),
+];
+
+#[test]
+fn wrong_pages_are_noticed() {
+    if browser::skipped() {
+        return;
+    }
+    let input = Input::of_text(SAMPLE).unwrap();
+    let page = text::lessons::screens_page::of_script(&input, SCRIPT).unwrap();
+    for (from, to) in WRONG {
+        assert_eq!(page.matches(from).count(), 1, "{}", from);
+        assert!(difference(&input, &page.replace(from, to)).is_some(), "nobody noticed: {}", to);
+    }
 }
