@@ -117,7 +117,7 @@ impl Run<'_> {
         let (done, parts) = (advance.part.number, advance.part.of);
         let words = format!("part {} of {}, {}", done, parts, if finished { "finished" } else { "more" });
         let object = Object::new().number("part", done).number("of", parts).truth("finished", finished);
-        Ok((format!("{}; {}", words, advance.told(names)), object.and(advance.object(names))))
+        Ok((format!("{}; {}", words, advance.clause(names)), object.and(advance.object(names))))
     }
 
     /// An earlier question's answer stays.

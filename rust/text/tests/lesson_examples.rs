@@ -32,5 +32,5 @@ fn are_what_the_program_writes() {
         assert!(fs::read_to_string(&file).unwrap_or_default() == page, "docs/lessons/{} is another page", name);
     }
     let stored = fs::read_dir(root.join("docs/lessons")).unwrap().count();
-    assert_eq!(stored, PAGES.len(), "no other file stands there");
+    assert_eq!(stored, PAGES.len(), "no other file is there");
 }

@@ -20,7 +20,7 @@ fn sample() -> Input {
     Input::of_text(include_str!("../../../examples/sample.txt")).unwrap()
 }
 
-/// It stands in docs/pictures, and docs/TEACHING.md shows it.
+/// It is in docs/pictures, and docs/TEACHING.md shows it.
 fn is_stored(name: &str, svg: &str) {
     let teaching = fs::read_to_string(root().join("docs/TEACHING.md")).unwrap();
     assert!(teaching.contains(&format!("(pictures/{}.svg)", name)), "docs/TEACHING.md does not show {}", name);
@@ -57,9 +57,12 @@ fn style(page: &str) -> String {
 
 /// What the page shows after these presses.
 fn pressed(page: &str, presses: &[&str], shown: &str) -> String {
-    let told =
-        browser::told(page, &format!("{}\nfor (const what of {:?}) press(what);\ntell({});", DRIVER, presses, shown));
-    let svg = told.concat().replace("><g", ">\n<g").replace("><line", ">\n<line").replace("><section", ">\n<section");
+    let written = browser::written(
+        page,
+        &format!("{}\nfor (const what of {:?}) press(what);\nnote({});", DRIVER, presses, shown),
+    );
+    let svg =
+        written.concat().replace("><g", ">\n<g").replace("><line", ">\n<line").replace("><section", ">\n<section");
     let (head, rest) = svg.split_once('>').unwrap();
     format!("{}>\n<style>\n{}</style>{}\n", head, style(page), rest)
 }

@@ -1,4 +1,4 @@
-//! What `session` says of an advance, what stands on sheets and in exercises.
+//! What `session` says of an advance, what sheets and exercises say.
 
 use std::collections::BTreeSet;
 use text::input::Input;
@@ -14,15 +14,15 @@ fn session(script: &str, json: bool) -> Vec<String> {
 
 /// Plan A with 4->0: a leaf, then a climb to the root's right child.
 #[test]
-fn an_advance_is_told_with_its_climb() {
+fn an_advance_has_its_climb() {
     let script = "load\nstart 4->0\nadvance all\nadvance\n";
-    let told = session(script, false);
+    let listed = session(script, false);
     let leaf = "node 4: state 1 to 0; a leaf with label 0 has state 0; no climb";
     let rule = "node 6: state 1 to 0; left state 1, label 1 and right state 0 give 0";
-    assert_eq!(told[2], format!("advance: part 1 of 2, more; {}", leaf));
+    assert_eq!(listed[2], format!("advance: part 1 of 2, more; {}", leaf));
     let climb = "climb from node 4 to node 5: 1 link, 1 node passed over";
-    assert_eq!(told[3], format!("advance: part 2 of 2, finished; {}; {}", rule, climb));
-    assert!(told[4].starts_with("advance: refused 1: ") && told[4].ends_with("(it is answered)"), "{}", told[4]);
+    assert_eq!(listed[3], format!("advance: part 2 of 2, finished; {}; {}", rule, climb));
+    assert!(listed[4].starts_with("advance: refused 1: ") && listed[4].ends_with("(it is answered)"), "{}", listed[4]);
     let objects = session(script, true);
     let leaf = r#""root":4,"state":0,"before":1,"label":0,"links":0,"passed":0}"#;
     assert_eq!(objects[2], format!(r#"{{"call":"advance","part":1,"of":2,"finished":false,{}"#, leaf));
@@ -30,13 +30,20 @@ fn an_advance_is_told_with_its_climb() {
     assert_eq!(objects[3], format!(r#"{{"call":"advance","part":2,"of":2,"finished":true,{}"#, inner));
 }
 
-/// A cancelled question's advance is refused, and the next question is told by its own changes.
+/// A cancelled question's advance is refused, and the next question goes by its own changes.
 #[test]
 fn another_question() {
-    let told = session("advance\nload\nadvance\nstart 4->0\ncancel\nadvance\nstart 3->1\nadvance\n", false);
-    let refused = |i: usize, state: &str| told[i].starts_with("advance: refused 1: ") && told[i].ends_with(state);
-    assert!(refused(0, "(it is empty)") && refused(2, "(it is loaded)") && refused(5, "(it is loaded)"), "{:?}", told);
-    assert_eq!(told[7], "advance: part 1 of 2, more; node 3: state 0 to 1; a leaf with label 1 has state 1; no climb");
+    let listed = session("advance\nload\nadvance\nstart 4->0\ncancel\nadvance\nstart 3->1\nadvance\n", false);
+    let refused = |i: usize, state: &str| listed[i].starts_with("advance: refused 1: ") && listed[i].ends_with(state);
+    assert!(
+        refused(0, "(it is empty)") && refused(2, "(it is loaded)") && refused(5, "(it is loaded)"),
+        "{:?}",
+        listed
+    );
+    assert_eq!(
+        listed[7],
+        "advance: part 1 of 2, more; node 3: state 0 to 1; a leaf with label 1 has state 1; no climb"
+    );
 }
 
 /// With --allowed a page has the legend's words of the other pictures; without it neither they nor the marks.
@@ -73,7 +80,7 @@ fn pages(html: &str) -> [String; 2] {
     [words(task), words(&format!("</style>{}", solution))]
 }
 
-/// No state and no part stands on the first page; every one of the library's on the second.
+/// No state and no part is on the first page; every one of the library's on the second.
 #[test]
 fn a_sheet_of_the_sample() {
     let [task, solution] = pages(&sheet::of_question(&Input::of_text(SAMPLE).unwrap(), 5).unwrap());
@@ -115,15 +122,15 @@ fn a_sheet_of_a_large_plan() {
     }
 }
 
-/// The plan of an exercise, and the changes that it tells.
+/// The plan of an exercise, and the changes that it lists.
 fn exercise(words: &[&str]) -> (Loaded, BTreeSet<(u16, u8)>, String) {
     let made = exercise::made(&[words, &["--as", "text"]].concat()).unwrap();
     let input = Input::of_text(&made).unwrap();
-    let told = input.questions.iter().map(|question| (question.len(), question[0])).map(|(one, change)| {
+    let listed = input.questions.iter().map(|question| (question.len(), question[0])).map(|(one, change)| {
         assert_eq!(one, 1);
         change
     });
-    (Loaded::of(&input).unwrap(), told.collect(), pages(&exercise::made(words).unwrap()).join(" Solution "))
+    (Loaded::of(&input).unwrap(), listed.collect(), pages(&exercise::made(words).unwrap()).join(" Solution "))
 }
 
 /// Every single change that clears the plan, each by a fresh run.
@@ -136,19 +143,19 @@ fn mending(loaded: &Loaded) -> BTreeSet<(u16, u8)> {
 #[test]
 fn exercises_of_single_changes() {
     for seed in ["1", "200", "3000"] {
-        let (loaded, told, said) = exercise(&["fault", "--seed", seed]);
+        let (loaded, listed, said) = exercise(&["fault", "--seed", seed]);
         assert!(!loaded.is_cleared());
-        assert_eq!(told, mending(&loaded));
-        let nodes: BTreeSet<u16> = told.iter().map(|change| change.0).collect();
+        assert_eq!(listed, mending(&loaded));
+        let nodes: BTreeSet<u16> = listed.iter().map(|change| change.0).collect();
         let node = *nodes.iter().next().unwrap();
         assert!(nodes.len() == 1 && usize::from(node) + 1 < loaded.nodes());
         assert!(said.contains(&format!("Node {} alone can mend it", node)), "{}", said);
         for ways in [1, 2, 5] {
-            let (loaded, told, said) = exercise(&["mend", &ways.to_string(), "--seed", seed, "--nodes", "9"]);
+            let (loaded, listed, said) = exercise(&["mend", &ways.to_string(), "--seed", seed, "--nodes", "9"]);
             assert!(!loaded.is_cleared() && loaded.nodes() == 9);
-            assert_eq!((&told, told.len()), (&mending(&loaded), ways));
+            assert_eq!((&listed, listed.len()), (&mending(&loaded), ways));
             assert!(said.contains(&format!("{} of 18 single changes clear it.", ways)), "{}", said);
-            for (node, label) in told {
+            for (node, label) in listed {
                 let from = loaded.labels()[usize::from(node)];
                 assert!(said.contains(&format!("node {} from label {} to {}", node, from, label)), "{}", said);
             }
@@ -172,8 +179,8 @@ fn exercises_of_shares() {
         let clearing = verdicts.iter().filter(|&&yes| yes).count();
         let (a, b) = share.split_once('/').unwrap();
         assert_eq!(clearing * b.parse::<usize>().unwrap(), verdicts.len() * a.parse::<usize>().unwrap());
-        let told = format!("{} of {} choices clear the plan: {} of them.", clearing, verdicts.len(), share);
-        assert!(said.contains(&told), "{}: {}", told, said);
+        let listed = format!("{} of {} choices clear the plan: {} of them.", clearing, verdicts.len(), share);
+        assert!(said.contains(&listed), "{}: {}", listed, said);
     }
 }
 

@@ -41,10 +41,10 @@ fn difference(input: &Input, question: usize, allowed: bool, page: &str) -> Opti
         beside.press(what);
         expected.extend(beside.lines(&shown));
     }
-    let told = browser::told(page, &format!("{}\nwalk({:?});", DRIVER, pressed));
+    let written = browser::written(page, &format!("{}\nwalk({:?});", DRIVER, pressed));
     let line = |lines: &[String], i: usize| lines.get(i).map_or("(no line)".to_string(), String::clone);
-    let pairs = (0..expected.len().max(told.len())).map(|i| [line(&told, i), line(&expected, i)]);
-    pairs.into_iter().find(|[told, expected]| told != expected)
+    let pairs = (0..expected.len().max(written.len())).map(|i| [line(&written, i), line(&expected, i)]);
+    pairs.into_iter().find(|[written, expected]| written != expected)
 }
 
 /// Above 100 nodes: three nodes of a climb at a time, the children of a node, and folded again.
@@ -77,7 +77,7 @@ fn large_trees_unfold() {
     expected.push(format!("pressed\t{}", node));
     expected.extend(beside.lines(&shown));
     let pressed = ["end", &edge, &node, &node];
-    assert_eq!(browser::told(&page, &format!("{}\nwalk({:?});", DRIVER, pressed)), expected);
+    assert_eq!(browser::written(&page, &format!("{}\nwalk({:?});", DRIVER, pressed)), expected);
 }
 
 fn random(words: &str) -> String {
@@ -126,11 +126,11 @@ fn loads_within_two_seconds() {
     let input = Input::of_text(&random("--nodes 61471 --shape arch --seed 6")).unwrap();
     let page = page::of_question(&input, 1, true).unwrap();
     let driver = "const drawn = document.querySelector('#n61470').getBoundingClientRect().width > 0; \
-                  tell(drawn, performance.now());";
+                  note(drawn, performance.now());";
     let mut tried = Vec::new();
     for _ in 0..20 {
-        let told = browser::told(&page, driver);
-        let took: f64 = told[0].strip_prefix("true\t").expect("the root is drawn").parse().unwrap();
+        let written = browser::written(&page, driver);
+        let took: f64 = written[0].strip_prefix("true\t").expect("the root is drawn").parse().unwrap();
         if took < 2_000.0 {
             return;
         }
@@ -188,14 +188,14 @@ fn names_are_words() {
     }
     let names = "names\nlabel 0 </td><b>x\nlabel 1 <!--<script>\nstate 0 \"&amp;'\nstate 1 </script><b>y\n";
     let input = Input::of_text(&format!("{}\n{}", SAMPLE, names)).unwrap();
-    let count = "tell(document.querySelectorAll('b').length); const words = document.body.textContent;";
-    let has = |word: &str| format!("tell(words.includes({:?}));", word).replace('<', "\\u003c");
+    let count = "note(document.querySelectorAll('b').length); const words = document.body.textContent;";
+    let has = |word: &str| format!("note(words.includes({:?}));", word).replace('<', "\\u003c");
     let sheet = sheet::of_question(&input, 4).unwrap();
     let words: String = ["</td><b>x", "<!--<script>", "\"&amp;'", "</script><b>y"].into_iter().map(has).collect();
-    assert_eq!(browser::told(&sheet, &(count.to_string() + &words)), ["0", "true", "true", "true", "true"]);
+    assert_eq!(browser::written(&sheet, &(count.to_string() + &words)), ["0", "true", "true", "true", "true"]);
     let screens = screens_page::of_script(&input, "load\nstart 0 none\ndeal\n").unwrap();
     let driver = format!("document.getElementById('end').click(); {} {}", count, has("state 1 (</script><b>y)"));
-    assert_eq!(browser::told(&screens, &driver), ["0", "true"]);
+    assert_eq!(browser::written(&screens, &driver), ["0", "true"]);
 }
 
 /// What goes wrong in a page is seen: a script that fails, a file from elsewhere.
@@ -214,6 +214,6 @@ fn faults_are_seen() {
     assert!(faults.iter().any(|fault| fault.contains("example.invalid")), "{:?}", faults);
     let (_, faults) = browser::opened(&page, "console.error('this is written');");
     assert!(faults.iter().any(|fault| fault.contains("this is written")), "{:?}", faults);
-    let (lines, faults) = browser::opened(&page, "tell(byId('say').textContent);");
+    let (lines, faults) = browser::opened(&page, "note(byId('say').textContent);");
     assert!(lines.is_empty() && faults.iter().any(|fault| fault.contains("byId is not defined")), "{:?}", faults);
 }

@@ -146,9 +146,9 @@ fn screen(screens: &Screens, on: u32, changed: bool) -> [String; 2] {
     let class = format!("screen {}{}{}", state, class, if changed { " changed" } else { "" });
     let (verdict, last) = match session.read() {
         Err(_) => ("", "no answer".to_string()),
-        Ok(told) => {
+        Ok(written) => {
             let (earlier, class) = if state == "answered" { ("", ["no", "yes"]) } else { ("earlier: ", ["", ""]) };
-            (class[usize::from(told.yes)], format!("{}{}", earlier, answer(told)))
+            (class[usize::from(written.yes)], format!("{}{}", earlier, answer(written)))
         }
     };
     [format!("s{}\t{}\t{}\t{}\t{}", on, class, state, turn, asked), format!("s{}\tlast {}\t{}", on, verdict, last)]
@@ -176,17 +176,19 @@ fn difference(input: &Input, page: &str) -> Option<[String; 2]> {
         expected.extend(lines(&calls, *at));
     }
     let pressed: Vec<&str> = pressed.iter().map(|(what, _)| *what).collect();
-    let told = browser::told(page, &format!("{}\nwalk({:?});", DRIVER, pressed));
-    assert_eq!(told.len(), expected.len());
+    let written = browser::written(page, &format!("{}\nwalk({:?});", DRIVER, pressed));
+    assert_eq!(written.len(), expected.len());
     assert!(calls.iter().any(|call| call.refused) && calls.len() > 20);
     // after a refusal's sentence comes what it is about
-    let same = |told: &str, expected: &str| {
-        told == expected || (expected.starts_with("say\trefused\t") && told.starts_with(&format!("{} (", expected)))
+    let same = |written: &str, expected: &str| {
+        written == expected
+            || (expected.starts_with("say\trefused\t") && written.starts_with(&format!("{} (", expected)))
     };
-    told.into_iter()
+    written
+        .into_iter()
         .zip(expected)
-        .find(|(told, expected)| !same(told, expected))
-        .map(|(told, expected)| [told, expected])
+        .find(|(written, expected)| !same(written, expected))
+        .map(|(written, expected)| [written, expected])
 }
 
 #[test]

@@ -156,8 +156,8 @@ impl Advance {
         format!("Part {} of {}: at node {} state {} {}, {}. {}", number, of, root, was, becomes, because, climb)
     }
 
-    /// The same after the words that `session` says of an advance.
-    pub fn told(&self, names: &Names) -> String {
+    /// The same, after what `session` says of an advance.
+    pub fn clause(&self, names: &Names) -> String {
         let states = state(self.before, self.part.state, names);
         let climb = self.climb.map_or("no climb".to_string(), |climb| {
             format!("climb from node {} to node {}: {}", climb.from, climb.to, climbed(climb.links, climb.passed))
@@ -185,7 +185,7 @@ impl Advance {
 impl Climb {
     pub fn sentence(&self, names: &Names) -> String {
         let carried = format!("Its climb carried state {} up", names.state(self.state));
-        let told = climbed(self.links, self.passed);
-        format!("{} from node {} to node {}: {}.", carried, self.from, self.to, told)
+        let said = climbed(self.links, self.passed);
+        format!("{} from node {} to node {}: {}.", carried, self.from, self.to, said)
     }
 }

@@ -173,8 +173,8 @@ fn fault(loaded: &Loaded) -> Result<Option<Posed>, Failure> {
     let task =
         "The plan is not cleared. One node alone can mend it: with another label there, and all else as it is, the \
                 plan is cleared. Which node is it, and which labels may it take?";
-    let told = format!("Node {} alone can mend it; {} will do.", node, count(mending.len(), "label"));
-    Ok(Some((task.to_string(), vec![as_it_is(loaded)?, told], mending)))
+    let said = format!("Node {} alone can mend it; {} will do.", node, count(mending.len(), "label"));
+    Ok(Some((task.to_string(), vec![as_it_is(loaded)?, said], mending)))
 }
 
 fn mend(loaded: &Loaded, ways: usize) -> Result<Option<Posed>, Failure> {
@@ -186,8 +186,8 @@ fn mend(loaded: &Loaded, ways: usize) -> Result<Option<Posed>, Failure> {
     let number = if ways == 1 { String::new() } else { format!(" {} ways", ways) };
     let task = format!("The plan is not cleared. There {}{} to mend it by one change. Find all of them.", are, number);
     let tried = loaded.nodes() * (loaded.rules().labels() - 1);
-    let told = format!("{} of {} single changes clear it.", ways, tried);
-    Ok(Some((task, vec![as_it_is(loaded)?, told], mending)))
+    let said = format!("{} of {} single changes clear it.", ways, tried);
+    Ok(Some((task, vec![as_it_is(loaded)?, said], mending)))
 }
 
 fn share(loaded: &Loaded, (a, b): (u64, u64), open: usize, seed: usize) -> Result<Option<Posed>, Failure> {
@@ -196,16 +196,16 @@ fn share(loaded: &Loaded, (a, b): (u64, u64), open: usize, seed: usize) -> Resul
     if u128::from(counts.clearing()) * u128::from(b) != u128::from(counts.all()) * u128::from(a) {
         return Ok(None);
     }
-    let said: Vec<String> = nodes.iter().map(u16::to_string).collect();
+    let numbers: Vec<String> = nodes.iter().map(u16::to_string).collect();
     let labels = count(loaded.rules().labels(), "label");
-    let open = format!("These nodes are open, each for all {}: {}.", labels, said.join(", "));
+    let open = format!("These nodes are open, each for all {}: {}.", labels, numbers.join(", "));
     let task = format!("{} Which share of the choices clears the plan?", open);
-    let told = format!("{} of {} choices clear the plan: {}/{} of them.", counts.clearing(), counts.all(), a, b);
+    let said = format!("{} of {} choices clear the plan: {}/{} of them.", counts.clearing(), counts.all(), a, b);
     let by_state = counts.by_state().iter().enumerate().map(|(state, number)| {
         let (name, clears) = (loaded.names.state(state as u8), verdict(loaded.rules().accepts(state as u8)));
         format!("State {}, {}: {} of the choices.", name, clears, number)
     });
-    Ok(Some((task, [as_it_is(loaded)?, told].into_iter().chain(by_state).collect(), vec![])))
+    Ok(Some((task, [as_it_is(loaded)?, said].into_iter().chain(by_state).collect(), vec![])))
 }
 
 /// Different nodes, rising.

@@ -1,6 +1,6 @@
 //! `whatif-text page`: a question as a page to step through, in one file.
 //!
-//! What the page says of a place stands in the page: page.js shows it and works out nothing but where nodes are drawn.
+//! What the page says of a place is in the page: page.js shows it and works out nothing but where nodes are drawn.
 
 use super::advance::Advance;
 use super::html::{self, escaped, paragraph};
@@ -98,12 +98,12 @@ impl Marks {
 fn parts(walk: &Walk) -> String {
     let item = |advance: &Advance| format!("<li>{}</li>\n", escaped(&advance.sentence(&walk.loaded.names)));
     let items: String = walk.advances.iter().map(item).collect();
-    let told = escaped(&finished(walk));
+    let said = escaped(&finished(walk));
     format!(
         "<section id=\"walk\">\n<h2>The walk in words</h2>\n<ol id=\"parts\">\n{}</ol>\n</section>\n\
          <noscript>{}</noscript>\n",
         items,
-        format_args!("<p>{}</p>", told)
+        format_args!("<p>{}</p>", said)
     )
 }
 
@@ -194,11 +194,11 @@ pub fn say(walk: &Walk, at: usize, place: &Place) -> String {
             format!("Started: {}. {} Nothing is worked out again yet.", parts, roots)
         }
         _ => {
-            let told = walk.advances[at - 2].sentence(&walk.loaded.names);
+            let said = walk.advances[at - 2].sentence(&walk.loaded.names);
             if place.state == "answered" {
-                format!("{} {}", told, finished(walk))
+                format!("{} {}", said, finished(walk))
             } else {
-                told
+                said
             }
         }
     }
@@ -235,7 +235,7 @@ pub fn verdict_of(walk: &Walk, state: &str) -> String {
     }
 }
 
-/// What stands at the plan's root, and the class of the verdict.
+/// What the plan's root says, and the class of the verdict.
 pub fn verdict_at_root(walk: &Walk, state: &str) -> (String, &'static str) {
     let class = |yes: bool| if yes { "yes" } else { "no" };
     match state {

@@ -17,7 +17,7 @@
     head.textContent = 'Screen ' + i;
     const bar = element('progress', 'bar');
     bar.setAttribute('aria-label', 'parts handled');
-    frame.append(head, element('p', 'state'), element('p', 'turn'), element('p', 'question'), bar, element('p', 'told'),
+    frame.append(head, element('p', 'state'), element('p', 'turn'), element('p', 'question'), bar, element('p', 'handled'),
       element('p', 'last'));
     return frame;
   });
@@ -39,7 +39,7 @@
       part('state').textContent = screen.state;
       part('turn').textContent = screen.turn;
       part('question').textContent = screen.question && 'What if ' + screen.question + '?';
-      part('told').textContent = screen.told;
+      part('handled').textContent = screen.handled;
       part('bar').hidden = screen.parts === 0;
       part('bar').max = screen.parts || 1;
       part('bar').value = screen.done;

@@ -66,7 +66,7 @@ fn screen(screens: &Screens, on: u32, changed: bool, names: &Names) -> String {
     let object = Object::new().text("state", state).text("turn", turn).truth("changed", changed);
     let object = object.number("done", session.parts_done()).number("parts", session.parts());
     let object =
-        object.text("question", if asked { &question } else { "" }).text("told", if asked { &parts } else { "" });
+        object.text("question", if asked { &question } else { "" }).text("handled", if asked { &parts } else { "" });
     // an earlier question's answer has no colour: it is not this one's
     let (kept, class) = match last {
         Ok(answer) if state == "answered" => ("", if answer.yes { "yes" } else { "no" }),

@@ -1,4 +1,4 @@
-//! `whatif-text sheet`: a question to work out by hand, as a page to print; the solution stands on the next page.
+//! `whatif-text sheet`: a question to work out by hand, as a page to print; the solution is on the next page.
 //!
 //! What the solution says is what the page of the question says: the record after each call, and the library's runs.
 
@@ -30,13 +30,13 @@ pub fn of_question(input: &Input, number: usize) -> Result<String, Failure> {
     let head = format!("<h1>{}</h1>\n", escaped(&title));
     let (plan, rules) = (plan(&walk, false), rules(loaded, &labels(&walk)));
     let task = paragraph(TASK) + &plan + &rules + &parts(&walk, false) + &asked(&walk);
-    let solved = self::plan(&walk, true) + &parts(&walk, true) + &told(&walk);
+    let solved = self::plan(&walk, true) + &parts(&walk, true) + &answered(&walk);
     let body = head + &task + &solution(&format!("Solution: {}", title), &solved);
     Ok(html::page(&title, STYLE, &body))
 }
 
 const TASK: &str =
-    "Some nodes take another label: the new one stands behind the old one. Write the state of each node, first as \
+    "Some nodes take another label: the new one is behind the old one. Write the state of each node, first as \
     the plan is, then with the changes. Fill in a row for each part, in rising order of their root nodes.";
 
 /// On the next page.
@@ -51,7 +51,7 @@ fn asked(walk: &Walk) -> String {
     parts + &worked + &format!("<p>The plan is cleared: {} yes {} no</p>\n", BOX, BOX)
 }
 
-fn told(walk: &Walk) -> String {
+fn answered(walk: &Walk) -> String {
     let (answer, names) = (&walk.answer, &walk.loaded.names);
     let parts = count(answer.parts as usize, "part");
     let worked = format!("{} of {} worked out again.", answer.parts, count(walk.loaded.nodes(), "node"));
@@ -123,7 +123,7 @@ fn node(walk: &Walk, v: usize, solved: bool) -> Node {
 }
 
 /// A row for each part, empty or filled in. The empty rows are two more than needed, so that their number
-/// tells nothing.
+/// gives nothing away.
 fn parts(walk: &Walk, solved: bool) -> String {
     let heads = ["Part", "Node", "State before", "Left state", "Label", "Right state", "State after", "Climb"];
     let cells: String = heads.iter().map(|head| format!("<th scope=\"col\">{}</th>", head)).collect();

@@ -74,14 +74,14 @@ fn run(loaded: &mut Loaded, changes: &[Change], advances: &Advances) -> Result<(
     let mut places = vec![place(loaded, changes)];
     let parts = loaded.panel.start(changes).map_err(Failure::refused)?;
     places.push(place(loaded, changes));
-    let mut told = Vec::new();
+    let mut advanced = Vec::new();
     for _ in 0..parts {
         let before = loaded.panel.session().clone();
         loaded.panel.advance().map_err(Failure::refused)?;
-        told.push(advances.last(&loaded.panel, &before)?);
+        advanced.push(advances.last(&loaded.panel, &before)?);
         places.push(place(loaded, changes));
     }
-    Ok((places, told))
+    Ok((places, advanced))
 }
 
 fn place(loaded: &Loaded, changes: &[Change]) -> Place {

@@ -96,9 +96,9 @@ impl Beside {
         let (links, passed) = so_far(session);
         let named = |state: u8| self.names.state(state);
         let last = self.panel.last().map(|answer| {
-            let told =
+            let phrase =
                 [count(answer.parts, "part"), count(answer.links, "link"), count(answer.passed, "node")].join(", ");
-            format!("{}, state {}, {} passed over", cleared(answer.yes), named(answer.state), told)
+            format!("{}, state {}, {} passed over", cleared(answer.yes), named(answer.state), phrase)
         });
         let last = last.unwrap_or_else(|refusal| refused(refusal, "no question is finished since load"));
         let (verdict, class) = self.verdict();
@@ -127,7 +127,7 @@ impl Beside {
         lines
     }
 
-    /// What stands between a node and the next one above it that is drawn.
+    /// What is written between a node and the next one above it that is drawn.
     fn edge(&self, v: u16, shown: &BTreeSet<u16>) -> Option<String> {
         let (mut at, mut between) = (self.panel.node(v)?.parent, 0);
         while !shown.contains(&at) {
@@ -136,11 +136,11 @@ impl Beside {
         }
         let climb = self.climbs.get(&at).filter(|climb| climb.0 == v);
         let part = self.roots.iter().position(|&root| root == at);
-        let told = match (climb, part) {
+        let phrase = match (climb, part) {
             (Some(_), Some(i)) => format!("in {}", count(self.climbed(i).0, "link")),
             _ => "between".to_string(),
         };
-        (between > 0).then(|| format!("e{}\t{} {}", v, nodes(between), told))
+        (between > 0).then(|| format!("e{}\t{} {}", v, nodes(between), phrase))
     }
 
     pub fn nodes(&self) -> usize {
@@ -154,13 +154,13 @@ impl Beside {
             Some(State::Running) => ("Not answered yet.".into(), "open"),
             Some(State::Answered) => {
                 let answer = self.panel.current().unwrap();
-                let told = format!("The plan is {}, state {}.", cleared(answer.yes), self.names.state(answer.state));
-                (told, class(answer.yes))
+                let phrase = format!("The plan is {}, state {}.", cleared(answer.yes), self.names.state(answer.state));
+                (phrase, class(answer.yes))
             }
             _ => {
                 let yes = self.panel.rules().accepts(root.state);
-                let told = format!("As it is, the plan is {}, state {}.", cleared(yes), self.names.state(root.state));
-                (told, class(yes))
+                let phrase = format!("As it is, the plan is {}, state {}.", cleared(yes), self.names.state(root.state));
+                (phrase, class(yes))
             }
         }
     }
@@ -181,8 +181,8 @@ impl Beside {
                 format!("Started: {}. {} Nothing is worked out again yet.", count(parts as u32, "part"), roots)
             }
             (_, done) if done == parts => {
-                let told = self.verdict().0.replace("The plan", "Finished: the plan");
-                format!("{} {}", self.sentence(done - 1), told)
+                let phrase = self.verdict().0.replace("The plan", "Finished: the plan");
+                format!("{} {}", self.sentence(done - 1), phrase)
             }
             (_, done) => self.sentence(done - 1),
         }
@@ -209,12 +209,12 @@ impl Beside {
             Some(&(from, to)) => {
                 let (links, passed) = self.climbed(i);
                 let ends = format!("from node {} to node {}", from, to);
-                let told = format!("{}, {} passed over", count(links, "link"), count(passed, "node"));
+                let phrase = format!("{}, {} passed over", count(links, "link"), count(passed, "node"));
                 format!(
                     "Its climb carried state {} up {}: {}.",
                     named(self.changed.node(to).unwrap().state),
                     ends,
-                    told
+                    phrase
                 )
             }
         };
@@ -301,12 +301,12 @@ impl Beside {
             state,
         ];
         lines.extend(is_root.then(|| {
-            let told = match self.panel.session().state() {
+            let phrase = match self.panel.session().state() {
                 Some(State::Running) => "not answered yet",
                 Some(State::Answered) => cleared(self.panel.current().unwrap().yes),
                 _ => cleared(self.panel.rules().accepts(old.state)),
             };
-            format!("the root: {}", told)
+            format!("the root: {}", phrase)
         }));
         lines.extend(self.allowed(v).filter(|set| set.len() < 2).map(|set| self.clears(set)));
         let several = self.allowed(v).filter(|set| set.len() > 1).map(|set| self.clears(set));
@@ -369,10 +369,10 @@ fn count(number: u32, what: &str) -> String {
     format!("{} {}{}", number, what, if number == 1 { "" } else { "s" })
 }
 
-/// With the thousands apart.
+/// With commas between the thousands.
 fn nodes(number: usize) -> String {
-    let told = if number < 1_000 { number.to_string() } else { format!("{},{:03}", number / 1_000, number % 1_000) };
-    format!("{} node{}", told, if number == 1 { "" } else { "s" })
+    let phrase = if number < 1_000 { number.to_string() } else { format!("{},{:03}", number / 1_000, number % 1_000) };
+    format!("{} node{}", phrase, if number == 1 { "" } else { "s" })
 }
 
 /// Of a small plan: the labels with which a fresh run clears it, node by node.

@@ -51,8 +51,8 @@ pub fn skipped() -> bool {
     skipped
 }
 
-/// The lines that a driver wrote by `tell`.
-pub fn told(page: &str, driver: &str) -> Vec<String> {
+/// The lines that a driver wrote by `note`.
+pub fn written(page: &str, driver: &str) -> Vec<String> {
     let (lines, faults) = opened(page, driver);
     assert!(faults.is_empty(), "{:?}", faults);
     lines
@@ -61,14 +61,14 @@ pub fn told(page: &str, driver: &str) -> Vec<String> {
 /// The lines, and what went wrong in the page. The driver runs when everything is loaded.
 pub fn opened(page: &str, driver: &str) -> (Vec<String>, Vec<String>) {
     assert_eq!((page.matches("<head>").count(), page.matches("</body>").count()), (1, 1));
-    let tell = "const seen = []; const tell = (...words) => seen.push(words.join('\\t').replace(/\\n/g, ' '));";
+    let note = "const seen = []; const note = (...words) => seen.push(words.join('\\t').replace(/\\n/g, ' '));";
     let written = "document.body.innerHTML = ''; const all = document.createElement('pre'); all.id = 'seen';
         const lines = [...seen, ...faults.map(fault => 'fault ' + fault.replace(/\\n/g, ' ')), 'end'];
         all.textContent = lines.join('\\n'); document.body.append(all);";
     let end = format!(
         "<script>addEventListener('load', () => {{ {}\n try {{ {} }} catch (error) {{ faults.push(error.stack) }}\n {} \
          }});</script></body>",
-        tell, driver, written
+        note, driver, written
     );
     let page = page.replace("<head>", &format!("<head>{}", FIRST)).replace("</body>", &end);
     let [dom, log] = run(&page);
