@@ -116,7 +116,8 @@ fn counts(walk: &Walk) -> [usize; 3] {
     [walk.loaded.nodes(), walk.loaded.rules().states(), walk.loaded.rules().labels()]
 }
 
-fn nodes(number: usize) -> String {
+/// With commas between the thousands.
+pub(super) fn nodes(number: usize) -> String {
     format!("{} node{}", grouped(number as u64), if number == 1 { "" } else { "s" })
 }
 

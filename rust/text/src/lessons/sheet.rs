@@ -4,6 +4,7 @@
 
 use super::advance::{Advance, Rule};
 use super::html::{self, escaped, paragraph};
+use super::page::nodes as nodes_of;
 use super::walk::Walk;
 use crate::dot::from_the_top;
 use crate::input::Input;
@@ -29,7 +30,8 @@ pub fn of_question(input: &Input, number: usize) -> Result<String, Failure> {
     let title = format!("What if {}?", changes(walk.changes));
     let head = format!("<h1>{}</h1>\n", escaped(&title));
     let (plan, rules) = (plan(&walk, false), rules(loaded, &labels(&walk)));
-    let task = paragraph(TASK) + &plan + &rules + &parts(&walk, false) + &asked(&walk);
+    let task = if loaded.nodes() <= DRAWN_WHOLE { TASK } else { TASK_LARGE };
+    let task = paragraph(task) + &plan + &rules + &parts(&walk, false) + &asked(&walk);
     let solved = self::plan(&walk, true) + &parts(&walk, true) + &answered(&walk);
     let body = head + &task + &solution(&format!("Solution: {}", title), &solved);
     Ok(html::page(&title, STYLE, &body))
@@ -39,6 +41,22 @@ const TASK: &str =
     "Some nodes take another label: the new one is behind the old one. Write the state of each node, first as \
     the plan is, then with the changes. Fill in a row for each part, in rising order of their root nodes.";
 
+const TASK_LARGE: &str =
+    "Some nodes take another label: the new one is behind the old one. Of this large plan the roots of the parts are \
+    drawn, with their states as the plan is. Step through the page of the question, which shows what each climb carries \
+    up. Write each state with the changes. Fill in a row for each part, in rising order of their root nodes.";
+
+/// A picture; one that is taller than half a page may fill a page in print.
+fn figure(picture: &Picture) -> String {
+    let svg = crate::svg::of(picture);
+    let height = svg.split("height=\"").nth(1).and_then(|rest| rest.split('"').next()?.parse().ok()).unwrap_or(0);
+    let class = if height > TALL { " class=\"tall\"" } else { "" };
+    format!("<figure{}>\n{}</figure>\n", class, svg)
+}
+
+/// In pixels, 96 of them an inch.
+const TALL: usize = 600;
+
 /// On the next page.
 pub(super) fn solution(title: &str, solved: &str) -> String {
     format!("<section class=\"solution\">\n<h1>{}</h1>\n{}</section>\n", escaped(title), solved)
@@ -46,7 +64,7 @@ pub(super) fn solution(title: &str, solved: &str) -> String {
 
 fn asked(walk: &Walk) -> String {
     let parts = format!("<p>Parts: {}, links: {}, nodes passed over: {}.</p>\n", WRITE, WRITE, WRITE);
-    let nodes = count(walk.loaded.nodes(), "node");
+    let nodes = nodes_of(walk.loaded.nodes());
     let worked = format!("<p>Worked out again: {} of {}.</p>\n", WRITE, nodes);
     parts + &worked + &format!("<p>The plan is cleared: {} yes {} no</p>\n", BOX, BOX)
 }
@@ -54,7 +72,7 @@ fn asked(walk: &Walk) -> String {
 fn answered(walk: &Walk) -> String {
     let (answer, names) = (&walk.answer, &walk.loaded.names);
     let parts = count(answer.parts as usize, "part");
-    let worked = format!("{} of {} worked out again.", answer.parts, count(walk.loaded.nodes(), "node"));
+    let worked = format!("{} of {} worked out again.", answer.parts, nodes_of(walk.loaded.nodes()));
     let says = format!("The plan is {}, state {}.", verdict(answer.yes), names.state(answer.state));
     let climbs = format!("{}, {}.", parts, climbed(answer.links, answer.passed));
     [climbs, worked, says].iter().map(|words| paragraph(words)).collect()
@@ -100,8 +118,8 @@ fn plan(walk: &Walk, solved: bool) -> String {
         }
     }
     edges.sort_by_key(|edge| (edge.from, edge.to));
-    let nodes_of = format!("The plan, {}", count(walk.loaded.nodes(), "node"));
-    crate::svg::of(&Picture { name: "sheet", title: vec![nodes_of], nodes, edges, legend: vec![] })
+    let title = vec![format!("The plan, {}", nodes_of(walk.loaded.nodes()))];
+    figure(&Picture { name: "sheet", title, nodes, edges, legend: vec![] })
 }
 
 fn node(walk: &Walk, v: usize, solved: bool) -> Node {
@@ -127,14 +145,15 @@ fn node(walk: &Walk, v: usize, solved: bool) -> Node {
 fn parts(walk: &Walk, solved: bool) -> String {
     let heads = ["Part", "Node", "State before", "Left state", "Label", "Right state", "State after", "Climb"];
     let cells: String = heads.iter().map(|head| format!("<th scope=\"col\">{}</th>", head)).collect();
-    let mut rows = format!("<tr>{}</tr>\n", cells);
+    let head = format!("<thead><tr>{}</tr></thead>\n", cells);
+    let mut rows = String::new();
     if solved {
         rows.extend(walk.advances.iter().map(|advance| row(&cells_of(advance, &walk.loaded.names))));
     } else {
         let empty = |i: usize| row(&[&[i.to_string()][..], &vec![String::new(); heads.len() - 1]].concat());
         rows.extend((1..=walk.advances.len() + 2).map(empty));
     }
-    format!("<h2>The parts</h2>\n<table>\n{}</table>\n", rows)
+    format!("<h2>The parts</h2>\n<table>\n{}<tbody>\n{}</tbody></table>\n", head, rows)
 }
 
 fn row(cells: &[String]) -> String {
@@ -207,7 +226,6 @@ pub(super) fn plan_as_it_is(loaded: &Loaded, solved: bool) -> String {
         .map(|(v, w)| edge(place(v), place(w)))
         .collect();
     edges.sort_by_key(|edge| (edge.from, edge.to));
-    let (nodes, title) =
-        (order.iter().map(node).collect(), vec![format!("The plan, {}", count(loaded.nodes(), "node"))]);
-    crate::svg::of(&Picture { name: "sheet", title, nodes, edges, legend: vec![] })
+    let (nodes, title) = (order.iter().map(node).collect(), vec![format!("The plan, {}", nodes_of(loaded.nodes()))]);
+    figure(&Picture { name: "sheet", title, nodes, edges, legend: vec![] })
 }
