@@ -92,6 +92,17 @@ fn at_7_nodes() {
     }
 }
 
+/// One node; the largest plan that is drawn whole, and the smallest that is not.
+#[test]
+fn at_1_99_and_101_nodes() {
+    let rules = "rules\nstates 1\nlabels 1\nleaf 0 -> 0\ninner * * * -> 0\n";
+    walks(&format!("plan\nleaf 0\n{}accept 0\nquestions\nnone\n", rules), 1, true);
+    walks(&format!("plan\nleaf 0\n{}questions\n0->0\n", rules), 1, true);
+    let options = "--states 5 --labels 9 --changes 12 --rules random";
+    walks(&random(&format!("--nodes 99 --shape comb --seed 5 {}", options)), 1, true);
+    walks(&random(&format!("--nodes 101 --shape random --seed 8 {}", options)), 1, true);
+}
+
 /// Names that could be taken for markup, or for the end of the script, are words.
 #[test]
 fn at_31_nodes_with_names() {
