@@ -36,8 +36,9 @@
     TRY(24, COLOUR_ASK, colour_ask, "colour-ask", 1u | FROM(12, 14) | FROM(17, 18) | FROM(27, 27)) \
     TRY(29, ASK, ask, "ask", 1u | FROM(12, 14) | FROM(17, 18)) \
     TRY(30, ALLOWED, allowed, "allowed", 1u | FROM(2, 11)) \
-    TRY(31, CLEARING, clearing, "clearing", 1u | FROM(2, 11))
-#define TRIES 32
+    TRY(31, CLEARING, clearing, "clearing", 1u | FROM(2, 11)) \
+    TRY(32, FEWEST, fewest, "fewest", 1u | FROM(2, 11) | FROM(17, 17))
+#define TRIES 33
 #define MOST_REFUSAL 27
 /* end of tries */
 

@@ -8,12 +8,12 @@
 --     plan-of-planner, planner-of-plan            whatif_plan_of_planner, whatif_planner_of_plan
 --     lay-over, count                             whatif_lay_over, whatif_count
 --     ask                                         whatif_ask
---     allowed, clearing                           whatif_allowed, whatif_clearing
+--     allowed, clearing, fewest                   whatif_allowed, whatif_clearing, whatif_fewest
 --     colour-branch-build, colour-branch, colour-branch-with-upper, colour-build, colour-ask   those by colours
 --     ..-order                                    the fixed order: the numbers of each call's checks
 -- That each promise is the function's own contract: Contracts, and whatif_version there, which refuses nothing. The
 -- session's calls: Main. What an accepted call answers: Tables, Branches, Planner, Products, Choices, Ask, Allowed,
--- Lists, Colours, ColourSets. That every call ends is part of each function's proof.
+-- Fewest, Lists, Colours, ColourSets. That every call ends is part of each function's proof.
 use Prim.Native.Nat.{ℕ}
 use mathlib.Core.Path.{_≡_, refl, _∙_}
 use mathlib.Core.List.{List, [], _∷_}
@@ -32,6 +32,7 @@ use Rattle.planner.specs.out.Out.{OutDone}
 use Rattle.planner.specs.home.Home.{HomeDone}
 use Rattle.choices.specs.question_counts.CountOn.{listedChecks, countChecks}
 use Rattle.allowed.specs.Answers.{nodeRoomChecks, AllowedDone, ClearingDone}
+use Rattle.fewest.specs.Answers.{fewestChecks, FewestTold}
 use Rattle.colour_tables.specs.branch.Build.{branchColourChecks}
 use Rattle.colour_tables.specs.rule.Build.{ruleColourChecks}
 use Rattle.colour_questions.specs.branch.Question.{colourChecks}
@@ -57,6 +58,7 @@ use Rattle.capi_branch_upper.proofs.Ties.{branch-upper-number, branch-upper-kep
 use Rattle.whole_questions.specs.Question as whole
 use Rattle.capi_ask.specs.WholeExported.{WholeExported}
 use Rattle.capi_ask.proofs.Ties as ask-ties
+use Rattle.capi_fewest.proofs.Ties.{fewest-number, fewest-kept}
 use Rattle.capi_colours.specs.branch_calls.DescentExported.{DescentExported}
 use Rattle.capi_colours.specs.rule_calls.RuleExported.{RuleExported}
 use Rattle.capi_colours.proofs.branch_calls.Ties.{colour-branch-build-number, colour-branch-build-kept}
@@ -268,6 +270,23 @@ node-room-order : (p r : List ℕ) (room : ℕ)
     → numbersOf (nodeRoomChecks p r room) ≡ 2 ∷ 3 ∷ 4 ∷ 5 ∷ 6 ∷ 7 ∷ 8 ∷ 9 ∷ 10 ∷ 11 ∷ []
 unfolding nodeRoomChecks ruleTableChecks planChecks ruleChecks
 node-room-order p r room = refl
+
+-- ---- the fewest changes
+
+fewest : (p r may : List ℕ) (want : ℕ) (work nodes labels : List ℕ) (least count n : ℕ)
+    (work′ nodes′ labels′ : List ℕ) (least′ count′ : ℕ)
+    → FewestTold p r may want work nodes labels least count n work′ nodes′ labels′ least′ count′
+    → Answers n (fewestChecks p r (length may) (length work) (length nodes) (length labels))
+    ((work′ ≡ work) × (nodes′ ≡ nodes) × (labels′ ≡ labels) × (least′ ≡ least) × (count′ ≡ count))
+fewest p r may want w ns ls m c n w′ ns′ ls′ m′ c′ T =
+    answers _ _ _ (fewest-number p r may want w ns ls m c n w′ ns′ ls′ m′ c′ T)
+    (fewest-kept p r may want w ns ls m c n w′ ns′ ls′ m′ c′ T)
+
+-- "Refused with the first of 2 to 10, 17 (may_len neither 0 nor N), 11 (work, nodes or labels too short)"
+fewest-order : (p r : List ℕ) (may work nodes labels : ℕ)
+    → numbersOf (fewestChecks p r may work nodes labels) ≡ 2 ∷ 3 ∷ 4 ∷ 5 ∷ 6 ∷ 7 ∷ 8 ∷ 9 ∷ 10 ∷ 17 ∷ 11 ∷ []
+unfolding fewestChecks ruleTableChecks planChecks ruleChecks
+fewest-order p r may work nodes labels = refl
 
 -- ---- questions by colours
 

@@ -15,6 +15,7 @@ use Rattle.branches.specs.declared.answers.Reading.the-variants.{WithUpper, Bel
 use Rattle.planner.specs.out.Out.{OutDone}
 use Rattle.planner.specs.home.Home.{HomeDone}
 use Rattle.allowed.specs.Answers.{AllowedDone, ClearingDone}
+use Rattle.fewest.specs.Answers.{FewestTold}
 use Rattle.capi.specs.table_calls.RunExported.{RunExported}
 use Rattle.capi.specs.branch_calls.BranchExported.{AskExported}
 use Rattle.capi.specs.product_calls.Exported.{MergeExported, AgreeExported}
@@ -28,6 +29,7 @@ use Rattle.capi.proofs.planner_calls.Ties.{out-tied, home-tied}
 use Rattle.capi.proofs.list_calls.Ties.{lay-tied}
 use Rattle.capi.proofs.choice_calls.Ties.{count-tied}
 use Rattle.capi.proofs.allowed_calls.Ties.{allowed-tied, clearing-tied}
+use Rattle.capi_fewest.proofs.Ties.{fewest-tied}
 use Rattle.capi_branch_upper.proofs.Ties.{branch-upper-tied}
 use Rattle.capi_ask.specs.WholeExported.{WholeExported}
 use Rattle.capi_ask.proofs.Ties.{ask-tied}
@@ -84,6 +86,9 @@ use Rattle.capi.proofs.allowed_calls.whatif_allowed.Reads as allowed-reads
 use Rattle.capi.proofs.allowed_calls.whatif_clearing as clearing-fn
 use Rattle.capi.proofs.allowed_calls.whatif_clearing.Kinds as clearing-kinds
 use Rattle.capi.proofs.allowed_calls.whatif_clearing.Reads as clearing-reads
+use Rattle.capi_fewest.proofs.whatif_fewest as fewest-fn
+use Rattle.capi_fewest.proofs.whatif_fewest.Kinds as fewest-kinds
+use Rattle.capi_fewest.proofs.whatif_fewest.Reads as fewest-reads
 use Rattle.capi_colours.proofs.branch_calls.whatif_colour_branch_build as words-build-fn
 use Rattle.capi_colours.proofs.branch_calls.whatif_colour_branch_build.Kinds as words-build-kinds
 use Rattle.capi_colours.proofs.branch_calls.whatif_colour_branch_build.Reads as words-build-reads
@@ -215,6 +220,16 @@ clearing : (κs : Lfts 3) (a : ArgsD clearing-fn.signature κs) (r : ResD cleari
     (s : AtExit (endedOf 3 clearing-kinds.ps clearing-kinds.r) κs) → clearing-reads.Post κs a r s
     → ClearingDone (now (a .0)) (now (a .1 .0)) (now (a .1 .1 .0)) r (now (s .1 .1 .0))
 clearing = clearing-tied
+
+-- ---- the fewest changes
+
+fewest : (κs : Lfts 8) (a : ArgsD fewest-fn.signature κs) (r : ResD fewest-fn.signature κs)
+    (s : AtExit (endedOf 8 fewest-kinds.ps fewest-kinds.r) κs) → fewest-reads.Post κs a r s
+    → FewestTold (now (a .0)) (now (a .1 .0)) (now (a .1 .1 .0)) (a .1 .1 .1 .0) (now (a .1 .1 .1 .1 .0))
+    (now (a .1 .1 .1 .1 .1 .0)) (now (a .1 .1 .1 .1 .1 .1 .0)) (now (a .1 .1 .1 .1 .1 .1 .1 .0))
+    (now (a .1 .1 .1 .1 .1 .1 .1 .1 .0)) r (now (s .1 .1 .1 .1 .0)) (now (s .1 .1 .1 .1 .1 .0))
+    (now (s .1 .1 .1 .1 .1 .1 .0)) (now (s .1 .1 .1 .1 .1 .1 .1 .0)) (now (s .1 .1 .1 .1 .1 .1 .1 .1 .0))
+fewest = fewest-tied
 
 -- ---- questions by colours
 

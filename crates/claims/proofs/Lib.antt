@@ -24,4 +24,5 @@ pub mod Products
 pub mod Choices
 pub mod Ask
 pub mod Allowed
+pub mod Fewest
 pub mod ColourLaws

@@ -4,11 +4,11 @@
 --     by-value, in-place, on-record-bytes, start-is-settled, tables-after-load-on-bytes   demand 3
 --     sample                                                       the sample clearance
 -- Forms: demands 1 and 2 of the calls by value and in place. Session: further statements about the session. Ask: whole
--- questions outside the session. Allowed: labels and states that clear the plan, at each node. Requests: LastAnswer
--- (S-1), Planner (S-2), Jumps (S-3), Lists (S-4, S-5, S-12), Products (S-6, S-13), PassedOver (S-7), EightScreens (S-8),
--- Branches (S-9), Choices (S-10), here (S-11), Colours, ColourSets (S-14). Contracts: each promise is its function's own
--- contract. What 01 wants proved besides: FurtherStatements. What a word of a statement means: tools/believe,
--- docs/PROVED.md.
+-- questions outside the session. Allowed: labels and states that clear the plan, at each node. Fewest: the least number
+-- of changes that clear it. Requests: LastAnswer (S-1), Planner (S-2), Jumps (S-3), Lists (S-4, S-5, S-12), Products
+-- (S-6, S-13), PassedOver (S-7), EightScreens (S-8), Branches (S-9), Choices (S-10), here (S-11), Colours, ColourSets
+-- (S-14). Contracts: each promise is its function's own contract. What 01 wants proved besides: FurtherStatements. What
+-- a word of a statement means: tools/believe, docs/PROVED.md.
 use Prim.Native.Nat.{ℕ, _<_}
 use mathlib.Core.Path.{_≡_}
 use mathlib.Core.Bool.{true, false}

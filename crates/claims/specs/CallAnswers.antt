@@ -10,8 +10,8 @@
 --   whatif_colour_branch_build and whatif_colour_build
 --
 -- The other calls' promises are MergeExported, AgreeExported, CountExported, LayExported, RunExported, AskExported
--- (crate capi), OutDone, HomeDone (crate planner), AllowedDone, ClearingDone (crate allowed), WholeExported (crate
--- capi_ask), DescentExported and RuleExported (crate capi_colours).
+-- (crate capi), OutDone, HomeDone (crate planner), AllowedDone, ClearingDone (crate allowed), FewestTold (crate fewest),
+-- WholeExported (crate capi_ask), DescentExported and RuleExported (crate capi_colours).
 use Prim.Native.Nat.{ℕ}
 use mathlib.Core.Path.{_≡_}
 use mathlib.Core.Bool.{true}

@@ -33,16 +33,18 @@
 //! `nearest`, `verbs`, `args`, `help`, `completions` (the command line), `outcome` (what a verb writes, its status), `sentences`,
 //! `json`, `terminal` (colours), `loaded` (the library's session on an input), `progress`, `generator` (random trees and
 //! tables), `picture` and `svg` (any picture), `drawing` (what pictures of a question share); then a file a verb:
-//! `answer`, `outline`, `why` (with `repairs`), `suggest` (and `robust`), `count`, `script` (session), `screens`, `over`, `branch` (by a
-//! `branch_table`), `colours` (the same by colours), `stored` (build and check), `random`, `dot` (a small plan whole),
-//! `grids` (tables drawn), `agree` (a separating plan), `lessons` (pages and sheets). Writing, showing, merging and choosing a picture are in this
-//! file.
+//! `answer`, `outline`, `why` (with `repairs`), `suggest` (and `robust`, its option), `mend` (with `changeable`, what may
+//! change, and `ways`, the search), `radius` (the verb `robust`), `count`, `script` (session), `screens`, `over`, `branch`
+//! (by a `branch_table`), `colours` (the same by colours), `stored` (build and check), `random`, `dot` (a small plan whole),
+//! `grids` (tables drawn), `agree` (a separating plan), `lessons` (pages and sheets). Writing, showing, merging and choosing
+//! a picture are in this file.
 
 pub mod agree;
 pub mod answer;
 pub mod args;
 pub mod branch;
 pub mod branch_table;
+pub mod changeable;
 pub mod colours;
 pub mod completions;
 pub mod count;
@@ -58,6 +60,7 @@ pub mod json;
 pub mod lessons;
 pub mod lines;
 pub mod loaded;
+pub mod mend;
 pub mod names;
 pub mod nearest;
 pub mod outcome;
@@ -68,6 +71,7 @@ pub mod plan;
 pub mod planner;
 pub mod progress;
 pub mod questions;
+pub mod radius;
 pub mod random;
 pub mod repairs;
 pub mod robust;
@@ -80,6 +84,7 @@ pub mod suggest;
 pub mod svg;
 pub mod terminal;
 pub mod verbs;
+pub mod ways;
 pub mod why;
 
 use drawing::Question;

@@ -294,6 +294,26 @@ extern "C" {
         sets_len: usize,
     ) -> u32;
 
+    /// Fewest changes: how many nodes must be relabelled at least so that the plan is cleared, or no longer is?
+    /// Answers 0, or the first of 2, 3, 4, 5, 6, 7, 8, 9, 10, 17, 11.
+    pub fn whatif_fewest(
+        plan: *const u8,
+        plan_len: usize,
+        rules: *const u8,
+        rules_len: usize,
+        may: *const u64,
+        may_len: usize,
+        want: u32,
+        work: *mut u32,
+        work_len: usize,
+        nodes: *mut u16,
+        nodes_len: usize,
+        labels: *mut u8,
+        labels_len: usize,
+        least: *mut u32,
+        count: *mut u32,
+    ) -> u32;
+
     /// Build of branch tables: writes the tables of a plan and a branch table.
     /// Answers 0, or the first of 2, 3, 4, 5, 6, 7, 8, 9, 10, 11.
     pub fn whatif_branch_build(

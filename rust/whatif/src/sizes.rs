@@ -18,6 +18,8 @@ pub const MAX_ASSIGNMENTS: usize = 1_000_000_000_000_000_000;
 pub const MAX_DEPTH: usize = 32_767;
 /// The most states of a rule table by colours.
 pub const MAX_COLOUR_STATES: usize = 4;
+/// The number of changes that the fewest changes have where no relabelling does it: more than any plan has nodes.
+pub const NO_WAY: usize = 65_536;
 /// The most nodes of a planner's file: its plan has twice as many and one.
 pub const MAX_PLANNER_NODES: usize = 32_767;
 
@@ -58,6 +60,12 @@ pub const fn node_table_len(n: usize) -> usize {
 /// Bytes of the state table for `n` nodes and `s` states.
 #[must_use]
 pub const fn state_table_len(n: usize, s: usize) -> usize {
+    (s + 1) * n
+}
+
+/// 32-bit numbers of the work space of the fewest changes, for `n` nodes and `s` states.
+#[must_use]
+pub const fn fewest_work(n: usize, s: usize) -> usize {
     (s + 1) * n
 }
 

@@ -1,0 +1,5 @@
+pub mod Relabelling
+pub mod Least
+pub mod Fewest
+pub mod inner
+pub mod Answers
