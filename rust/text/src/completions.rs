@@ -27,9 +27,10 @@ fn choices(verb: &Verb) -> Vec<&'static str> {
 }
 
 fn all_options(verb: &Verb) -> Vec<&'static str> {
-    match verb.own_options {
-        true => crate::random::OPTIONS.to_vec(),
-        false => options(verb),
+    match verb.name {
+        "random" => crate::random::OPTIONS.to_vec(),
+        "exercise" => crate::lessons::exercise::OPTIONS.to_vec(),
+        _ => options(verb),
     }
 }
 

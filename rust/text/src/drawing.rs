@@ -4,8 +4,15 @@
 use crate::loaded::{Asked, Loaded};
 use crate::picture::{Look, Node, CHANGED, CLEARED, NOT_CLEARED, NO_LABEL, ONE_LABEL, PLAIN, PLAIN_LOOK};
 use crate::questions::Change;
-use crate::sentences::{self, count};
+use crate::sentences::{self, clears, count};
 use whatif::LabelSet;
+
+/// Where the labels that nodes may take are marked: the legend, in pictures and on pages.
+pub const OTHER_STATE_WHERE_MARKED: &str = "thick border, orange unless it is blue or grey: another state than before";
+pub const ONE_LABEL_CLEARS: &str =
+    "blue, 'only label ..': with the changes made, no other label of the node clears the plan";
+pub const NO_LABEL_CLEARS: &str =
+    "filled grey, 'no label': with the changes made, no label of the node clears the plan";
 
 /// A question with its answer, on a loaded plan.
 pub struct Question<'a> {
@@ -43,7 +50,7 @@ impl Question<'_> {
         let mut lines = vec![format!("node {}{}", v, part), label, sentences::state(before, after, names)];
         lines.extend(is_root.then(|| format!("the root: {}", sentences::verdict(self.asked.answer.yes))));
         let allowed = self.allowed(v);
-        lines.extend(allowed.filter(|labels| labels.len() <= 1).map(|labels| self.clears(labels)));
+        lines.extend(allowed.filter(|labels| labels.len() <= 1).map(|labels| clears(labels, loaded)));
         let fill = match (is_root, self.asked.answer.yes, allowed.map(LabelSet::len)) {
             (true, true, _) => CLEARED,
             (true, false, _) => NOT_CLEARED,
@@ -57,7 +64,7 @@ impl Question<'_> {
         let place = format!("depth {}, {} at and below it", loaded.node(v).depth, count(loaded.size(v), "node"));
         let passed = if light { ", passed over" } else { "" };
         let several = allowed.filter(|labels| labels.len() > 1);
-        let several = several.map_or(String::new(), |labels| format!("; {}", self.clears(labels)));
+        let several = several.map_or(String::new(), |labels| format!("; {}", clears(labels, loaded)));
         let tip = format!("{}; {}{}{}", lines.join(", "), place, passed, several);
         Node { lines, look, tip }
     }
@@ -67,23 +74,13 @@ impl Question<'_> {
         self.asked.allowed.as_ref().map(|allowed| allowed[v])
     }
 
-    fn clears(&self, labels: LabelSet) -> String {
-        let only = if labels.len() == 1 { "only " } else { "" };
-        let (labels, s) = sentences::labels(labels, self.loaded);
-        format!("{}{} clear{}", only, labels, s)
-    }
-
     /// The looks, with those of the labels that nodes may take where they are shown.
     pub fn legend(&self) -> Vec<(Look, &'static str)> {
         let mut legend = legend();
         if self.asked.allowed.is_some() {
-            legend[1].1 = "thick border, orange unless it is blue or grey: another state than before";
+            legend[1].1 = OTHER_STATE_WHERE_MARKED;
             let [one, none] = [ONE_LABEL, NO_LABEL].map(|fill| Look { fill, ..PLAIN_LOOK });
-            legend.push((
-                one,
-                "blue, 'only label ..': with the changes made, no other label of the node clears the plan",
-            ));
-            legend.push((none, "filled grey, 'no label': with the changes made, no label of the node clears the plan"));
+            legend.extend([(one, ONE_LABEL_CLEARS), (none, NO_LABEL_CLEARS)]);
         }
         legend
     }

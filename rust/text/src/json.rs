@@ -41,6 +41,10 @@ impl Object {
         self.field(name, format!("[{}]", values.into_iter().collect::<Vec<_>>().join(",")))
     }
 
+    pub fn object(self, name: &str, value: Object) -> Object {
+        self.field(name, value.inner())
+    }
+
     /// A state, and its name where it has one.
     pub fn state(self, name: &str, state: u8, names: &Names) -> Object {
         self.number(name, state).named(name, names.state_name(state))
@@ -96,7 +100,7 @@ impl Object {
     }
 }
 
-fn string(text: &str) -> String {
+pub(crate) fn string(text: &str) -> String {
     let letter = |c: char| match c {
         '"' => "\\\"".to_string(),
         '\\' => "\\\\".to_string(),

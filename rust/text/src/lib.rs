@@ -36,8 +36,8 @@
 //! `answer`, `outline`, `why` (with `repairs`), `suggest` (and `robust`, its option), `mend` (with `changeable`, what may
 //! change, and `ways`, the search), `radius` (the verb `robust`), `count`, `script` (session), `screens`, `over`, `branch`
 //! (by a `branch_table`), `colours` (the same by colours), `stored` (build and check), `random`, `dot` (a small plan whole),
-//! `grids` (tables drawn), `agree` (a separating plan). Writing, showing, merging and choosing a picture are in this
-//! file.
+//! `grids` (tables drawn), `agree` (a separating plan), `lessons` (pages and sheets). Writing, showing, merging and choosing
+//! a picture are in this file.
 
 pub mod agree;
 pub mod answer;
@@ -57,6 +57,7 @@ pub mod grids;
 pub mod help;
 pub mod input;
 pub mod json;
+pub mod lessons;
 pub mod lines;
 pub mod loaded;
 pub mod mend;

@@ -111,6 +111,12 @@ fn written(args: &Args) -> Result<Made, Failure> {
         (name @ ("dot" | "svg"), [question]) => {
             draw(&input()?, a_question(question)?, true, args.page, one_of(name, &DRAWN)?)
         }
+        ("page", [question]) => text::lessons::page::of_question(&input()?, a_question(question)?, args.allowed),
+        ("screens-page", [script]) => {
+            text::lessons::screens_page::of_script(&files.read(words)?, &files::text(script)?)
+        }
+        ("sheet", [question]) => text::lessons::sheet::of_question(&input()?, a_question(question)?),
+        ("exercise", words) => text::lessons::exercise::made(words),
         ("rules", [word]) => {
             let (how, input) = (one_of(word, &DRAWN)?, input()?);
             text::grids::rules(&input.rules, &input.names, how)

@@ -21,11 +21,24 @@ use whatif::{Deal, Lent, Mill, Plan, Progress, Refusal, Rules, Screens, State};
 
 /// A refused call is reported in its place, and the script goes on.
 pub fn run(input: &Input, script: &str, json: bool) -> Result<Made, Failure> {
-    let mut script_run = Run { input, mill: None, json, text: String::new(), refused: false };
-    for line in lines::of(script) {
-        script_run.take(&line).map_err(|wrong| Failure::Wrong(format!("in the script, {}", wrong)))?;
-    }
+    let mut script_run = Run { input, mill: None, json, text: String::new(), refused: false, seen: None };
+    script_run.take_all(script)?;
     Ok(Made::with_refusals(script_run.text, script_run.refused))
+}
+
+/// A call with what it said, and the screens after it.
+pub struct Seen {
+    pub said: String,
+    pub refused: bool,
+    pub screens: Screens,
+}
+
+/// The same script, call by call.
+pub fn watched(input: &Input, script: &str) -> Result<Vec<Seen>, Failure> {
+    let seen = Some(Vec::new());
+    let mut script_run = Run { input, mill: None, json: false, text: String::new(), refused: false, seen };
+    script_run.take_all(script)?;
+    Ok(script_run.seen.unwrap_or_default())
 }
 
 const NOTHING: Lent<'static> = Lent { plan: &[], rules: &[], node_table: &[], state_table: &[] };
@@ -38,9 +51,18 @@ struct Run<'a> {
     json: bool,
     text: String,
     refused: bool,
+    /// Where the calls are watched.
+    seen: Option<Vec<Seen>>,
 }
 
 impl Run<'_> {
+    fn take_all(&mut self, script: &str) -> Result<(), Failure> {
+        for line in lines::of(script) {
+            self.take(&line).map_err(|wrong| Failure::Wrong(format!("in the script, {}", wrong)))?;
+        }
+        Ok(())
+    }
+
     fn take(&mut self, line: &Line) -> Result<(), Wrong> {
         let (times, words) = match &line.words[..] {
             ["deal", "all"] => (usize::MAX, "deal".to_string()),
@@ -50,8 +72,14 @@ impl Run<'_> {
         for _ in 0..times {
             let said = self.call(line)?;
             let goes_on = said.is_ok() && self.screens().is_running();
-            self.refused |= said.is_err();
-            self.text += &sentences::call(&words, said, self.json);
+            let refused = said.is_err();
+            self.refused |= refused;
+            let said = sentences::call(&words, said, self.json);
+            self.text += &said;
+            let screens = self.seen.is_some().then(|| self.screens());
+            if let (Some(seen), Some(screens)) = (&mut self.seen, screens) {
+                seen.push(Seen { said: said.trim_end().to_string(), refused, screens });
+            }
             if !goes_on {
                 break;
             }

@@ -10,6 +10,7 @@
 
 use crate::input::Input;
 use crate::json::Object;
+use crate::lessons::advance::Advances;
 use crate::lines::{self, Line, Wrong};
 use crate::outcome::{Failure, Made};
 use crate::questions;
@@ -18,7 +19,7 @@ use whatif::{Panel, Plan, Progress, Refusal, Rules, Session, State};
 
 /// A refused call is reported in its place, and the script goes on.
 pub fn run(input: &Input, script: &str, json: bool) -> Result<Made, Failure> {
-    let mut script_run = Run { input, panel: None, json, text: String::new(), refused: false };
+    let mut script_run = Run { input, panel: None, asked: None, json, text: String::new(), refused: false };
     for line in lines::of(script) {
         script_run.take(&line).map_err(|wrong| Failure::Wrong(format!("in the script, {}", wrong)))?;
     }
@@ -30,6 +31,8 @@ pub fn run(input: &Input, script: &str, json: bool) -> Result<Made, Failure> {
 struct Run<'a> {
     input: &'a Input,
     panel: Option<Panel>,
+    /// Of the question that was started last.
+    asked: Option<Advances>,
     json: bool,
     text: String,
     refused: bool,
@@ -68,7 +71,7 @@ impl Run<'_> {
                 let changes = questions::changes(&Line { number: line.number, words: changes.to_vec() })?;
                 self.start(&changes)
             }
-            ["advance"] | ["advance", _] => self.advance().map_err(plain),
+            ["advance"] | ["advance", _] => self.advance(state),
             ["cancel"] => self.cancel().map_err(plain),
             ["read"] => self.read(state),
             _ => {
@@ -97,21 +100,24 @@ impl Run<'_> {
             }
             other => in_state(refusal, other),
         })?;
+        let panel = self.panel.as_ref().ok_or(Refusal::SessionState);
+        self.asked = Some(panel.and_then(|panel| Advances::of(panel, changes)).map_err(Failure::refused)?);
         Ok((count(parts as usize, "part"), Object::new().number("parts", parts)))
     }
 
-    /// The part's root and its state are those of the record.
-    fn advance(&mut self) -> Result<Said, Refusal> {
-        let panel = self.panel.as_mut().ok_or(Refusal::SessionState)?;
-        let finished = panel.advance()? == Progress::Finished;
-        let (done, parts) = (panel.session().parts_done(), panel.session().parts());
+    /// What it did: lessons/advance.rs looks it up in the record.
+    fn advance(&mut self, state: Option<State>) -> Result<Said, Failure> {
+        let (panel, asked) = match (&mut self.panel, &self.asked) {
+            (Some(panel), Some(asked)) => (panel, asked),
+            _ => return Err(in_state(Refusal::SessionState, state)),
+        };
+        let before = panel.session().clone();
+        let finished = panel.advance().map_err(|refusal| in_state(refusal, state))? == Progress::Finished;
+        let (advance, names) = (asked.last(panel, &before)?, &self.input.names);
+        let (done, parts) = (advance.part.number, advance.part.of);
         let words = format!("part {} of {}, {}", done, parts, if finished { "finished" } else { "more" });
         let object = Object::new().number("part", done).number("of", parts).truth("finished", finished);
-        let newest = panel.session().handled().last();
-        let told = newest
-            .into_iter()
-            .fold(object, |o, part| o.number("root", part.root).state("state", part.state, &self.input.names));
-        Ok((words, told))
+        Ok((format!("{}; {}", words, advance.clause(names)), object.and(advance.object(names))))
     }
 
     /// An earlier question's answer stays.

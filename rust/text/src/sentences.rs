@@ -81,6 +81,12 @@ pub fn labels(labels: LabelSet, loaded: &Loaded) -> (String, &'static str) {
     members("label", names, loaded.rules().labels())
 }
 
+/// `only label 3 clears`, `no label clears`, `labels 0, 3 clear`.
+pub fn clears(set: LabelSet, loaded: &Loaded) -> String {
+    let (said, s) = labels(set, loaded);
+    format!("{}{} clear{}", if set.len() == 1 { "only " } else { "" }, said, s)
+}
+
 /// The same of states.
 pub fn states(states: StateSet, loaded: &Loaded) -> (String, &'static str) {
     let names = states.iter().map(|state| loaded.names.state(state)).collect();

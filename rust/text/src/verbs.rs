@@ -104,6 +104,13 @@ pub const ALL: &[Verb] = &[
         .more(PAGES)
         .options(&["--page", "--allowed"])
         .example("whatif-text svg 4 < examples/sample.txt > plan.svg"),
+    verb("page", "QUESTION", 1, 1, "a lesson: the question call by call, as a page for a browser")
+        .more("One file, which opens without network. Above 100 nodes it has the outline's nodes, and unfolds.
+--allowed: once it is answered, marked are the nodes that can take one label alone, and those that can take none.")
+        .options(&["--allowed"])
+        .example("whatif-text page 4 < examples/sample.txt > lesson.html"),
+    verb("sheet", "QUESTION", 1, 1, "the question to work out by hand: a page to print, the solution on the next one")
+        .example("whatif-text sheet 4 < examples/sample.txt > sheet.html"),
     verb("rules", "dot|svg", 1, 1, "the rule table as a picture: a grid for each label")
         .example("whatif-text rules svg < examples/sample.txt > rules.svg"),
     verb("branch-table", "dot|svg", 1, 1, "the branch table of --branch FILE as a picture")
@@ -128,6 +135,8 @@ pub const ALL: &[Verb] = &[
     verb("screens", "SCRIPT", 1, 1, "the same for eight screens on one mill: load, start, deal, cancel, read")
         .more("A line is load, start SCREEN NODE->LABEL .., start SCREEN none, deal [TIMES|all], cancel SCREEN or read SCREEN.")
         .answers().example("whatif-text screens examples/screens.txt < examples/sample.txt"),
+    verb("screens-page", "SCRIPT", 1, 1, "the same as a page for a browser: who is served, who is next, who waits")
+        .example("whatif-text screens-page examples/screens.txt < examples/sample.txt > screens.html"),
     verb("build", "NODES STATES", 2, 2, "writes node table and state table into two files")
         .answers().example("whatif-text build nodes.tab states.tab < examples/sample.txt"),
     verb("check", "NODES STATES", 2, 2, "are these the tables that build writes? else the first wrong node")
@@ -149,6 +158,11 @@ pub const ALL: &[Verb] = &[
     verb("completions", "bash|zsh|fish", 1, 1, "what a shell is to offer for whatif-text, as its script")
         .without_input()
         .example("whatif-text completions bash > whatif-text.bash"),
+    verb("exercise", "fault|mend K|share A/B ..", 0, ANY, "a plan with that property, as a sheet with its solution")
+        .more("fault: not cleared, and one node alone can mend it. mend K: by exactly K single changes. share A/B: exactly that\nshare of the choices for the open nodes clears it. [--open M] [--as sheet|text] and the options of random.")
+        .without_input()
+        .own_options()
+        .example("whatif-text exercise mend 3 --nodes 11 > exercise.html"),
     verb("random", "--nodes N --shape arch|comb|balanced|random ..", 0, ANY, "a plan to try, with rules and questions, as text")
         .more("[--states S] [--labels K] [--questions Q] [--changes M] [--rules lasting|random] [--seed X]")
         .without_input()

@@ -241,6 +241,11 @@ fn completions() {
             assert_eq!(offered("answer --colour a", 3), "auto always");
             assert_eq!(offered("branch t 6 4 sv", 5), "svg");
             assert_eq!(offered("random --sh", 2), "--shape");
+            assert_eq!(offered("screens-p", 1), "screens-page");
+            assert_eq!(offered("page 4 --al", 3), "--allowed");
+            assert_eq!(offered("exercise sha", 2), "share");
+            assert_eq!(offered("exercise mend 3 --o", 4), "--open");
+            assert_eq!(offered("exercise fault --q", 3), "");
             assert_eq!(offered("help out", 2), "outline");
         }
         std::fs::remove_file(&path).unwrap();
