@@ -89,8 +89,10 @@ mul-s c =
 returns-4 : tie.Need-returns-4
 returns-4 c =
     let C = counted (c .before) in
-    refused-done _ _ _ 24 (λ z. omega arith)
-    (states-no _ _ _ (C .one) (C .two) (C .same) _ _ _ (C .of-one) (C .of-two) (C .labels) (c .if4 .taken))
+    let g = c .before .before .before .before .before .before .before .before .before .before .before .before .before .args in
+    refused-done (g .first .now) (g .second .now) (g .out .now) 24 (λ z. omega arith)
+    (states-no (g .first .now) (g .second .now) (g .out .now) (C .one) (C .two) (C .same) _ _ _ (C .of-one)
+    (C .of-two) (C .labels) (c .if4 .taken))
 
 add-if5 : tie.Need-add-if5
 add-if5 c = omega (arith, few-labels (counted (c .before)) [])
@@ -108,9 +110,10 @@ returns-5 : tie.Need-returns-5
 returns-5 c =
     let n = c .before in
     let C = counted (n .before .before) in
-    refused-done _ _ _ 11 (λ z. omega arith)
-    (room-no _ _ _ (C .one) (C .two) (C .same) _ _ _ (C .of-one) (C .of-two) (C .labels) (omega (arith, n .before .if4 .left))
-    (n .inner-count .result) (n .inner-count .ensures .value) (c .if5 .taken))
+    let g = n .before .before .before .before .before .before .before .before .before .before .before .before .before .before .args in
+    refused-done (g .first .now) (g .second .now) (g .out .now) 11 (λ z. omega arith)
+    (room-no (g .first .now) (g .second .now) (g .out .now) (C .one) (C .two) (C .same) _ _ _ (C .of-one)
+    (C .of-two) (C .labels) (omega (arith, n .before .if4 .left)) (n .inner-count .result) (n .inner-count .ensures .value) (c .if5 .taken))
 
 put-table-requires : tie.Need-put-table-requires
 put-table-requires c κs =

@@ -44,29 +44,16 @@ add-out c = omega (arith, c .before .before .before .loop .inv .0 .small (c .bef
 cast-out : tie.Need-cast-out Inv-loop μ-loop
 cast-out c = omega (arith, c .before .before .before .loop .inv .0 .small (c .before .before .before .loop .i))
 
-add-out-2 : tie.Need-add-out-2 Inv-loop μ-loop
-add-out-2 c = omega (arith, fill-place (c .before .before .before .loop .inv .1) (c .before .before .loop-test .taken) .1)
-
-slice-write-out : tie.Need-slice-write-out Inv-loop μ-loop
-slice-write-out c = fill-place (c .before .before .before .loop .inv .1) (c .before .before .loop-test .taken) .0
-
-add-i : tie.Need-add-i Inv-loop μ-loop
-add-i c = omega (arith, fill-place (c .before .before .before .loop .inv .1) (c .before .before .loop-test .taken) .1)
-
-loop-less : tie.Need-loop-less Inv-loop μ-loop
-loop-less c = omega (arith, c .before .before .loop-test .taken)
-
 loop-again : tie.Need-loop-again Inv-loop μ-loop
 loop-again c = let l = c .before .before .before .loop in (l .inv .0, fill-next (l .inv .1) (c .before .before .loop-test .taken) _ refl)
-
-same-length : tie.Need-same-length Inv-loop μ-loop
-same-length c = c .before .loop .inv .1 .long
-
-returns : tie.Need-returns Inv-loop μ-loop
-returns c = fill-done (c .before .loop .inv .1) (c .loop-test .left)
 
 pub put-leaves-spec : {M : Type 1} → statement M
 put-leaves-spec =
     tie.close
     (tie.spec Inv-loop μ-loop loop-holds (λ c. search needs) cast-x shared-slice-read-y cast-y mul-out add-out
-    cast-out add-out-2 slice-write-out add-i loop-less loop-again same-length returns)
+    cast-out
+    (λ c. omega (arith, fill-place (c .before .before .before .loop .inv .1) (c .before .before .loop-test .taken) .1))
+    (λ c. fill-place (c .before .before .before .loop .inv .1) (c .before .before .loop-test .taken) .0)
+    (λ c. omega (arith, fill-place (c .before .before .before .loop .inv .1) (c .before .before .loop-test .taken) .1))
+    (λ c. omega (arith, c .before .before .loop-test .taken)) loop-again (λ c. c .before .loop .inv .1 .long)
+    (λ c. fill-done (c .before .loop .inv .1) (c .loop-test .left)))

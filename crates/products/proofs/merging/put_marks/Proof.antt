@@ -56,29 +56,15 @@ mul-out c =
           (l .inv .0 .first-bit (l .c / g .s2)) (l .inv .0 .second-bit (l .c % g .s2)),
     )
 
-add-out : tie.Need-add-out Inv-loop μ-loop
-add-out c = omega (arith, fill-place (c .before .before .before .loop .inv .1) (c .before .before .loop-test .taken) .1)
-
-slice-write-out : tie.Need-slice-write-out Inv-loop μ-loop
-slice-write-out c = fill-place (c .before .before .before .loop .inv .1) (c .before .before .loop-test .taken) .0
-
-add-c : tie.Need-add-c Inv-loop μ-loop
-add-c c = omega (arith, fill-place (c .before .before .before .loop .inv .1) (c .before .before .loop-test .taken) .1)
-
-loop-less : tie.Need-loop-less Inv-loop μ-loop
-loop-less c = omega (arith, c .before .before .loop-test .taken)
-
 loop-again : tie.Need-loop-again Inv-loop μ-loop
 loop-again c = let l = c .before .before .before .loop in (l .inv .0, fill-next (l .inv .1) (c .before .before .loop-test .taken) _ refl)
-
-same-length : tie.Need-same-length Inv-loop μ-loop
-same-length c = c .before .loop .inv .1 .long
-
-returns : tie.Need-returns Inv-loop μ-loop
-returns c = fill-done (c .before .loop .inv .1) (c .loop-test .left)
 
 pub put-marks-spec : {M : Type 1} → statement M
 put-marks-spec =
     tie.close
-    (tie.spec Inv-loop μ-loop loop-holds div-x shared-slice-read-x rem-y shared-slice-read-y mul-out add-out
-    slice-write-out add-c loop-less loop-again same-length returns)
+    (tie.spec Inv-loop μ-loop loop-holds div-x shared-slice-read-x rem-y shared-slice-read-y mul-out
+    (λ c. omega (arith, fill-place (c .before .before .before .loop .inv .1) (c .before .before .loop-test .taken) .1))
+    (λ c. fill-place (c .before .before .before .loop .inv .1) (c .before .before .loop-test .taken) .0)
+    (λ c. omega (arith, fill-place (c .before .before .before .loop .inv .1) (c .before .before .loop-test .taken) .1))
+    (λ c. omega (arith, c .before .before .loop-test .taken)) loop-again (λ c. c .before .loop .inv .1 .long)
+    (λ c. fill-done (c .before .loop .inv .1) (c .loop-test .left)))

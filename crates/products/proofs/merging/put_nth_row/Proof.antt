@@ -27,36 +27,6 @@ module _ (s : tie.Start) where
   two-end : let g = s .args in secondRow (g .s2) (g .k) (g .r) + g .s2 ≤ length (g .second .now)
   two-end = let g = s .args in second-end (g .first .now) (g .second .now) (g .s1) (g .s2) (g .k) (g .r) (s .pre .inner) (s .pre .inside)
 
-mul-i : tie.Need-mul-i
-mul-i c = let s = c .before .before .before in omega (arith, small s .0)
-
-add-i : tie.Need-add-i
-add-i c = let s = c .before .before .before in omega (arith, small s .0)
-
-mul-i-2 : tie.Need-mul-i-2
-mul-i-2 c = let s = c .before .before .before in omega (arith, one-end s, runs s .0)
-
-mul-j : tie.Need-mul-j
-mul-j c = let s = c .before .before .before in omega (arith, small s .1)
-
-add-j : tie.Need-add-j
-add-j c = let s = c .before .before .before in omega (arith, small s .1)
-
-mul-j-2 : tie.Need-mul-j-2
-mul-j-2 c = let s = c .before .before .before in omega (arith, two-end s, runs s .1)
-
-add-put-row : tie.Need-add-put-row
-add-put-row c = let s = c .before .before .before in omega (arith, one-end s, runs s .0)
-
-part-put-row-end : tie.Need-part-put-row-end
-part-put-row-end c = one-end (c .before .before .before)
-
-add-put-row-2 : tie.Need-add-put-row-2
-add-put-row-2 c = let s = c .before .before .before .before in omega (arith, two-end s, runs s .1)
-
-part-put-row-end-2 : tie.Need-part-put-row-end-2
-part-put-row-end-2 c = two-end (c .before .before .before .before)
-
 put-row-requires : tie.Need-put-row-requires
 put-row-requires c κs =
     let s = c .before .before .before .before .before .before in
@@ -74,6 +44,15 @@ returns c =
 pub put-nth-row-spec : {M : Type 1} → statement M
 put-nth-row-spec =
     tie.close
-    (tie.spec (λ c. search needs) (λ c. search needs) (λ c. search needs) mul-i add-i mul-i-2 (λ c. search needs)
-    mul-j add-j mul-j-2 add-put-row (λ c. search needs) (λ c. search needs) part-put-row-end add-put-row-2
-    (λ c. search needs) (λ c. search needs) part-put-row-end-2 put-row-requires (λ c. search needs) returns)
+    (tie.spec (λ c. search needs) (λ c. search needs) (λ c. search needs)
+    (λ c. let s = c .before .before .before in omega (arith, small s .0))
+    (λ c. let s = c .before .before .before in omega (arith, small s .0))
+    (λ c. let s = c .before .before .before in omega (arith, one-end s, runs s .0)) (λ c. search needs)
+    (λ c. let s = c .before .before .before in omega (arith, small s .1))
+    (λ c. let s = c .before .before .before in omega (arith, small s .1))
+    (λ c. let s = c .before .before .before in omega (arith, two-end s, runs s .1))
+    (λ c. let s = c .before .before .before in omega (arith, one-end s, runs s .0)) (λ c. search needs)
+    (λ c. search needs) (λ c. one-end (c .before .before .before))
+    (λ c. let s = c .before .before .before .before in omega (arith, two-end s, runs s .1)) (λ c. search needs)
+    (λ c. search needs) (λ c. two-end (c .before .before .before .before)) put-row-requires (λ c. search needs)
+    returns)
