@@ -34,6 +34,11 @@ static int without_a_session() {
         return 15;
     if (whatif_count(NULL, 0, NULL, 0, NULL, 0, NULL, 0, NULL, 0, NULL, 0, &state, &links) != WHATIF_REFUSED_LENT_LENGTH)
         return 12;
+    if (whatif_allowed(NULL, 0, NULL, 0, NULL, 0) != WHATIF_REFUSED_PLAN_SHORT ||
+        whatif_clearing(NULL, 0, NULL, 0, NULL, 0) != WHATIF_REFUSED_PLAN_SHORT ||
+        whatif_fewest(NULL, 0, NULL, 0, NULL, 0, 1, NULL, 0, NULL, 0, NULL, 0, &state, &links) !=
+            WHATIF_REFUSED_PLAN_SHORT)
+        return 16;
     if (whatif_merge(NULL, 0, NULL, 0, NULL, 0) != WHATIF_REFUSED_TABLE_SHORT)
         return 8;
     if (whatif_agree(NULL, 0, NULL, 0, NULL, 0, &yes, &links) != WHATIF_REFUSED_TABLE_SHORT)
@@ -170,6 +175,15 @@ static bool tells() {
         return false;
     if (whatif_agree_told(rules, sizeof rules, rules, sizeof rules, lines, 4, &told) != WHATIF_ACCEPTED ||
         told.yes != 1 || told.lines != 0)
+        return false;
+    static uint32_t work[WHATIF_FEWEST_WORK(7, 2)];
+    whatif_least least = {};
+    least.count = 9;
+    if (whatif_fewest_told(NULL, 0, NULL, 0, NULL, 0, 1, NULL, 0, &least) != WHATIF_REFUSED_PLAN_SHORT ||
+        least.count != 9 ||
+        whatif_fewest_told(plan, sizeof plan, rules, sizeof rules, NULL, 0, 0, work, WHATIF_FEWEST_WORK(7, 2), &least) !=
+            WHATIF_ACCEPTED ||
+        least.least != 1 || least.count != 1)
         return false;
     if (whatif_branch_build(plan, sizeof plan, branch, sizeof branch, node_table, WHATIF_NODE_TABLE_LEN(7), state_table,
                             sizeof state_table) != WHATIF_ACCEPTED)

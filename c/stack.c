@@ -32,6 +32,7 @@ static uint8_t over_labels[WHATIF_MAX_CHANGES];
 static uint64_t counts[WHATIF_MAX_STATES], masks[N];
 static uint16_t sets[N];
 static uint32_t work[WHATIF_FEWEST_WORK(N, STATES)];
+static uint8_t marked[WHATIF_RULES_BYTES(STATES, LABELS)]; /* a state that the plan as it is does not end in */
 static uint16_t colour_numbers[WHATIF_COLOUR_BRANCH_NUMBERS(N, STATES)];
 static uint8_t colour_bytes[WHATIF_COLOUR_BYTES(N, WHATIF_MAX_COLOUR_STATES)];
 static uint32_t answer, out[5];
@@ -103,9 +104,11 @@ static void make_ask(void) {
 }
 static void make_allowed(void) { answer = whatif_allowed(RULES, masks, N); }
 static void make_clearing(void) { answer = whatif_clearing(RULES, sets, N); }
+/* Some changes clear the plan, and are listed. */
 static void make_fewest(void) {
-    answer = whatif_fewest(RULES, NULL, 0, 1, work, WHATIF_FEWEST_WORK(N, STATES), over_nodes, WHATIF_MAX_CHANGES,
-                           over_labels, WHATIF_MAX_CHANGES, out, out + 1);
+    answer = whatif_fewest(plan, sizeof plan, marked, sizeof marked, NULL, 0, 1, work, WHATIF_FEWEST_WORK(N, STATES),
+                           over_nodes, WHATIF_MAX_CHANGES, over_labels, WHATIF_MAX_CHANGES, out, out + 1);
+    answer = answer == WHATIF_ACCEPTED && (out[1] == 0 || out[0] != out[1]) ? 1000u : answer;
 }
 static void make_branch_build(void) { answer = whatif_branch_build(BRANCH, TABLES); }
 static void make_branch_check(void) { answer = whatif_branch_check(BRANCH, TABLES, out); }
@@ -278,6 +281,9 @@ static void make_inputs(int left) {
     }
     memset(record, 0, sizeof record);
     memset(screens, 0, sizeof screens);
+    memcpy(marked, rules, sizeof rules);
+    if (whatif_fresh_run(RULES, NULL, 0, NULL, 0, out, out + 1) == WHATIF_ACCEPTED)
+        marked[marks + (out[0] + 5) % STATES] = 1;
 }
 
 /* Those that may need so many bytes on the stack of main, the others as always; whether all are accepted. */

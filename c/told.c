@@ -196,6 +196,31 @@ static void agreements(void) {
     told("whatif_agree_told", "");
 }
 
+/* Sets of labels by a number, from none to all: the struct has the plain call's numbers and lists. */
+static void fewest(void) {
+    static uint32_t work[WHATIF_FEWEST_WORK(N, S)];
+    size_t differ = 0, listed = 0;
+    for (uint32_t code = 0; code < 3u << K; code++) {
+        uint64_t may[N];
+        uint32_t want = code & 1, answer;
+        struct whatif_least plain, one;
+        for (size_t v = 0; v < N; v++)
+            may[v] = v % 3 == 0 ? code >> 1 : 0;
+        memset(&plain, UNSET, sizeof plain), memset(&one, UNSET, sizeof one);
+        size_t sets = code % 5 == 0 ? 0 : N, room = sizeof work / sizeof *work - code % 7 / 6;
+        answer = whatif_fewest(PLAN, RULES, may, sets, want, work, room, plain.nodes, WHATIF_MAX_CHANGES, plain.labels,
+                               WHATIF_MAX_CHANGES, &plain.least, &plain.count);
+        sure_case = code;
+        sure(whatif_fewest_told(PLAN, RULES, may, sets, want, work, room, &one) == answer, "whatif_fewest_told");
+        sure(memcmp(&plain, &one, sizeof one) == 0, "whatif_fewest_told writes what whatif_fewest writes");
+        accepted += answer == WHATIF_ACCEPTED;
+        if (answer == WHATIF_ACCEPTED)
+            differ += one.least != one.count, listed += one.count > 0;
+    }
+    sure(differ > 0 && listed > 0, "there is a list, and there is no way");
+    told("whatif_fewest_told", "");
+}
+
 /* A record says what it was given, in every state. */
 static void says(uint32_t state, const struct list *q, uint32_t parts, uint32_t done) {
     size_t len = sizeof record;
@@ -352,7 +377,7 @@ int main(void) {
     if (!make_inputs())
         return 1;
     loads();
-    fresh_runs(), branches(), colour_branches(), asks(), colour_asks(), counts(), agreements();
+    fresh_runs(), branches(), colour_branches(), asks(), colour_asks(), counts(), agreements(), fewest();
     sessions(), says_nothing(), deals();
     return sure_failed != 0;
 }

@@ -46,6 +46,18 @@ static void tables_of_rules(uint16_t *nodes, uint8_t *states, uint32_t *out) {
     accepted(whatif_count(RULES, nodes, numbers, states, bytes, open, 2, counts, SAMPLE_STATES, out, out + 1), out, 2);
     used(counts, SAMPLE_STATES * sizeof *counts);
     free(counts);
+    uint64_t *masks = unset(N * sizeof *masks);
+    uint16_t *sets = unset(N * sizeof *sets);
+    accepted(whatif_allowed(RULES, masks, N), out, 0), used(masks, N * sizeof *masks);
+    accepted(whatif_clearing(RULES, sets, N), out, 0), used(sets, N * sizeof *sets);
+    struct whatif_least *fewest = unset(sizeof *fewest);
+    size_t room = WHATIF_FEWEST_WORK(N, SAMPLE_STATES);
+    uint32_t *work = unset(room * sizeof *work);
+    accepted(whatif_fewest_told(RULES, masks, N, 0, work, room, fewest), &fewest->least, 2);
+    used(fewest->nodes, fewest->count * sizeof *fewest->nodes), used(fewest->labels, fewest->count);
+    accepted(whatif_fewest_told(RULES, NULL, 0, 0, work, room, fewest), &fewest->least, 2);
+    used(fewest->nodes, fewest->count * sizeof *fewest->nodes), used(fewest->labels, fewest->count);
+    free(masks), free(sets), free(fewest), free(work);
 }
 
 static void tables_of_branches(uint16_t *nodes, uint8_t *states, uint32_t *out) {

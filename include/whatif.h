@@ -44,8 +44,8 @@
  * - A slice is a pointer, then its count of elements (not bytes).
  * - What is `const` is only read. What is not is written as its comment says, and nowhere else.
  * - No two buffers of one call overlap, unless both are only read. Out values overlap nothing.
- * - 16-bit buffers are aligned to 2, 64-bit ones to 8, out values to 4. No pointer is NULL, save that an empty slice
- *   (count 0) may have any pointer, NULL too: nothing is read or written through it.
+ * - 16-bit buffers are aligned to 2, 32-bit ones and out values to 4, 64-bit ones to 8. No pointer is NULL, save that
+ *   an empty slice (count 0) may have any pointer, NULL too: nothing is read or written through it.
  * - The answer is WHATIF_ACCEPTED or the number of the first check that says no.
  * - A refused call has changed nothing: every buffer and every out value holds what it held. This is proved.
  * - Whatever bytes are lent, a call ends and stays inside the lent buffers. This is proved too.
@@ -99,7 +99,7 @@ extern "C" {
 #define WHATIF_MAX_COLOUR_STATES 4u
 /* The greatest depth of a node, root 0. It follows from the limit on nodes and is no check of its own. */
 #define WHATIF_MAX_DEPTH 32767u
-/* What whatif_fewest tells where no relabelling does it: more than any plan has nodes. */
+/* The number that whatif_fewest writes where no relabelling does it: more than any plan has nodes. */
 #define WHATIF_NO_WAY 65536u
 /* The most nodes of a planner's file: its plan has twice as many and one. */
 #define WHATIF_MAX_PLANNER_NODES 32767u
@@ -285,17 +285,19 @@ uint32_t whatif_clearing(const uint8_t *plan, size_t plan_len, const uint8_t *ru
 
 /*
  * Fewest changes: how many nodes must be relabelled at least so that the plan is cleared, or no longer is?
- * Lent:    the plan and the rule table, read. may, read: node v may be relabelled to a where bit a of may[v] is 1, and may
- *          always keep its label; may_len is N, or 0, which says every node and every label. want: 1 asks for a plan that
- *          is cleared, 0 for one that is not; any other number is read as 1. work, WHATIF_FEWEST_WORK(N, S) numbers of
- *          work space; nodes and labels, room for 64 each, written.
- * Written: *least, the least number over all relabellings that may permits, however many nodes they change, or
- *          WHATIF_NO_WAY where none does it. It is 0 where the plan is as wanted already. *count: *least where that is
- *          at most 64, else 0; so many entries of nodes, rising, each once, and of labels: changes that do it. Of several
- *          least lists any may be written. What is left in the work space is the library's own. Past these entries and
- *          past the work space nothing is touched.
+ * Lent:    the plan and the rule table, read. may, read: node v may take label a where bit a of may[v] is 1, and may
+ *          always keep its own; bits from K on say nothing. may_len is N, or 0: then every node may take every label.
+ *          want: 1 asks for a plan that is cleared, 0 for one that is not; any other number is read as 1. work,
+ *          WHATIF_FEWEST_WORK(N, S) numbers of work space; nodes and labels, room for WHATIF_MAX_CHANGES each, written.
+ * Written: *least, the least number over all relabellings that may permits, however many nodes they change. It is 0
+ *          where the plan is as wanted already, and WHATIF_NO_WAY where no permitted relabelling does it. *count is
+ *          *least where that is at most 64, else 0; the first *count entries of nodes, rising, each once, and of labels
+ *          are changes that do it. Of several least lists any may be written. Numbers left in the work space mean
+ *          nothing. Past these entries and past the work space nothing is touched.
  * Answers: WHATIF_ACCEPTED, or the first of 2, 3, 4, 5, 6, 7, 8, 9, 10, 17, 11: 17 where may_len is neither 0 nor N, 11
  *          where work, nodes or labels is too short. Refused, everything is as it was.
+ * Its time is at most in proportion to N x S x S x K. Where a single change may be enough, whatif_allowed answers
+ * sooner. With want 0 and a plan that is cleared, *least wrong labels lose the clearance, and no fewer do.
  */
 WHATIF_NODISCARD
 uint32_t whatif_fewest(const uint8_t *plan, size_t plan_len, const uint8_t *rules, size_t rules_len,
@@ -1307,6 +1309,23 @@ whatif_colour_ask_told(const uint8_t *plan, size_t plan_len, const uint8_t *rule
     if (answer == WHATIF_ACCEPTED)
         *told = now;
     return answer;
+}
+
+/* The fewest changes, with names. Begin with a struct that is all zero. */
+struct whatif_least {
+    uint32_t least;                     /* the least number of changes, or WHATIF_NO_WAY */
+    uint32_t count;                     /* the changes below: least of them where that is at most 64, else 0 */
+    uint16_t nodes[WHATIF_MAX_CHANGES]; /* their nodes, rising */
+    uint8_t labels[WHATIF_MAX_CHANGES]; /* the labels that these take */
+};
+
+/* whatif_fewest with its outputs as one struct, which has room for every list. Refused, *told is unchanged. */
+WHATIF_NODISCARD static inline uint32_t whatif_fewest_told(const uint8_t *plan, size_t plan_len, const uint8_t *rules,
+                                                           size_t rules_len, const uint64_t *may, size_t may_len,
+                                                           uint32_t want, uint32_t *work, size_t work_len,
+                                                           struct whatif_least *told) {
+    return whatif_fewest(plan, plan_len, rules, rules_len, may, may_len, want, work, work_len, told->nodes,
+                         WHATIF_MAX_CHANGES, told->labels, WHATIF_MAX_CHANGES, &told->least, &told->count);
 }
 
 /* What a deal answers, with names. */

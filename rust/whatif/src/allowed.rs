@@ -56,6 +56,14 @@ macro_rules! bit_set {
             }
         }
 
+        /// Numbers that the set can't have are left out.
+        impl FromIterator<u8> for $name {
+            fn from_iter<I: IntoIterator<Item = u8>>(numbers: I) -> $name {
+                let bit = |number: u8| <$bits>::from(1u8).checked_shl(number.into()).unwrap_or(0);
+                $name(numbers.into_iter().fold(0, |bits, number| bits | bit(number)))
+            }
+        }
+
         impl fmt::Debug for $name {
             fn fmt(&self, f: &mut fmt::Formatter<'_>) -> fmt::Result {
                 f.debug_set().entries(*self).finish()
@@ -140,5 +148,7 @@ mod tests {
         assert!(none.is_empty() && none.iter().next().is_none() && !none.contains(16));
         assert_eq!(format!("{:?}", StateSet::from_bits(0b1010)), "{1, 3}");
         assert_eq!(StateSet::from_bits(u16::MAX).iter().len(), 16);
+        assert_eq!(Vec::from([63, 0, 0, 64, 255]).into_iter().collect::<LabelSet>(), ends);
+        assert_eq!(Vec::from([15, 16]).into_iter().collect::<StateSet>(), StateSet::from_bits(1 << 15));
     }
 }

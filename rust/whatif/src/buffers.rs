@@ -1,9 +1,10 @@
 //! A plan and rules with the tables that a Load wrote for them: what a panel and a mill own besides their sessions.
 
 use crate::lists::Split;
-use crate::sizes::{node_table_len, state_table_len};
-use crate::{allowed, ask, clearing, count, fresh_run};
-use crate::{Answer, Change, Counts, Kind, LabelSet, Lent, Plan, Refusal, Rules, StateSet, Verdict};
+use crate::sizes::{fewest_work, node_table_len, state_table_len};
+use crate::{allowed, ask, clearing, count, fewest, fresh_run};
+use crate::{Answer, Change, Counts, Fewest, Kind, LabelSet, Lent, MayChange, Plan, Refusal, Rules, StateSet};
+use crate::{Verdict, Want};
 use alloc::vec;
 use alloc::vec::Vec;
 
@@ -85,6 +86,15 @@ impl Buffers {
         let mut sets = vec![0; self.plan.nodes()];
         clearing(self.plan.as_bytes(), self.rules.as_bytes(), &mut sets)?;
         Ok(sets.into_iter().map(StateSet::from_bits).collect())
+    }
+
+    /// 17 is the library's where sets are given, and given here where every label is permitted.
+    pub(crate) fn fewest(&self, want: Want, may: &MayChange) -> Result<Fewest, Refusal> {
+        if may.nodes() != self.plan.nodes() {
+            return Err(Refusal::LentLength);
+        }
+        let mut work = vec![0; fewest_work(self.plan.nodes(), self.rules.states())];
+        fewest(self.plan.as_bytes(), self.rules.as_bytes(), may.as_bits(), want, &mut work)
     }
 
     pub(crate) fn count(&self, nodes: &[u16]) -> Result<Counts, Refusal> {

@@ -29,6 +29,7 @@
 //! | a go-ahead before a blank is cut | [`Panel::confirm`] |
 //! | many whole questions on tables of one's own, any number of states | [`Panel::what_if`], [`ask()`] |
 //! | which labels would do, for every node at once | [`Panel::allowed`], [`Panel::clearing`] |
+//! | the least that must change, or how far a plan is from losing its clearance | [`Panel::fewest`] |
 //! | many whole questions, fast, with at most four states | [`RuleColours`] |
 //! | what the labels on the way down to a node come to | [`Branches`], or [`BranchColours`] on deep plans |
 //! | how many choices of labels clear the plan | [`Panel::count`] |
@@ -64,6 +65,7 @@ mod branch;
 mod colours;
 mod confirm;
 mod count;
+mod fewest;
 mod lists;
 mod merge;
 mod planner;
@@ -85,6 +87,7 @@ pub use colours::{colour_ask, colour_build, ColourAnswer};
 pub use colours::{colour_branch, colour_branch_build, colour_branch_with_upper, ColourVerdict};
 pub use confirm::Unconfirmed;
 pub use count::{count, Counts};
+pub use fewest::{fewest, Changes, Fewest, Want};
 pub use lists::{lay_over, Change};
 pub use merge::merge;
 pub use planner::{plan_of_planner, planner_of_plan};
@@ -105,6 +108,8 @@ mod colour_tables;
 #[cfg(feature = "alloc")]
 pub mod layout;
 #[cfg(feature = "alloc")]
+mod may_change;
+#[cfg(feature = "alloc")]
 mod mill;
 #[cfg(feature = "alloc")]
 mod panel;
@@ -123,6 +128,8 @@ pub use branches::Branches;
 pub use buffers::Node;
 #[cfg(feature = "alloc")]
 pub use colour_tables::{BranchColours, RuleColours};
+#[cfg(feature = "alloc")]
+pub use may_change::MayChange;
 #[cfg(feature = "alloc")]
 pub use mill::{Deals, Mill};
 #[cfg(feature = "alloc")]

@@ -2,8 +2,8 @@
 
 use crate::buffers::{Buffers, Node};
 use crate::lists::Split;
-use crate::{Advances, Answer, Change, Counts, LabelSet, Lent, Plan, Progress, Refusal, Rules, Session, StateSet};
-use crate::{Unconfirmed, Verdict};
+use crate::{Advances, Answer, Change, Counts, Fewest, LabelSet, Lent, MayChange, Plan, Progress, Refusal, Rules};
+use crate::{Session, StateSet, Unconfirmed, Verdict, Want};
 use alloc::vec::Vec;
 use core::fmt;
 
@@ -227,6 +227,39 @@ impl Panel {
     /// None comes unless the memory itself is damaged.
     pub fn clearing(&self) -> Result<Vec<StateSet>, Refusal> {
         self.buffers.clearing()
+    }
+
+    /// What is the least that must change so that the plan is cleared, or no longer is? The number is the minimum over
+    /// all relabellings that `may` permits, however many nodes they change. It takes milliseconds to a second, by N, S
+    /// and K: [`allowed`](Panel::allowed) answers sooner where a single change is enough.
+    ///
+    /// # Errors
+    /// 17 where `may` was made for a plan with another number of nodes.
+    ///
+    /// ```
+    /// # use whatif::{Fewest, Kind::{Inner, Leaf}, Panel, Plan, Rules, Want};
+    /// let plan = Plan::new(&[0, 0, 0], &[Leaf, Leaf, Inner])?;
+    /// let panel = Panel::new(plan, Rules::from_fn(2, 2, |a| a, |p, _, q| p.min(q), |state| state == 1)?)?;
+    /// match panel.fewest(Want::Cleared, &panel.may_change())? {
+    ///     Fewest::AsItIs => println!("it is cleared already"),
+    ///     Fewest::Changes(list) => {
+    ///         println!("these changes clear it: {:?}", list); // [(0, 1), (1, 1)]
+    ///         assert!(panel.what_if(&list)?.yes);
+    ///     }
+    ///     Fewest::Number(least) => println!("{} changes clear it", least),
+    ///     Fewest::NoWay => println!("nothing clears it"),
+    /// }
+    /// let may = panel.may_change().keep(&[0])?; // node 0 keeps its bur
+    /// assert_eq!(panel.fewest(Want::Cleared, &may)?, Fewest::NoWay);
+    /// # Ok::<(), whatif::Refusal>(())
+    /// ```
+    pub fn fewest(&self, want: Want, may: &MayChange) -> Result<Fewest, Refusal> {
+        self.buffers.fewest(want, may)
+    }
+
+    /// What may change in this plan, to be restricted: every node may take every label.
+    pub fn may_change(&self) -> MayChange {
+        MayChange::new(self.plan().nodes())
     }
 
     /// How many choices of labels for these nodes, each listed once, end in each state?

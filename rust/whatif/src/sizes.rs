@@ -18,6 +18,8 @@ pub const MAX_ASSIGNMENTS: usize = 1_000_000_000_000_000_000;
 pub const MAX_DEPTH: usize = 32_767;
 /// The most states of a rule table by colours.
 pub const MAX_COLOUR_STATES: usize = 4;
+/// The number of changes that the fewest changes have where no relabelling does it: more than any plan has nodes.
+pub const NO_WAY: usize = 65_536;
 /// The most nodes of a planner's file: its plan has twice as many and one.
 pub const MAX_PLANNER_NODES: usize = 32_767;
 

@@ -3,7 +3,7 @@
 mod sample;
 
 use sample::{panel, plan_a, rows, table_a};
-use whatif::{Kind, Panel, Part, Plan, Progress, Refusal, Rules, State, Unconfirmed, Verdict};
+use whatif::{Fewest, Kind, LabelSet, Panel, Part, Plan, Progress, Refusal, Rules, State, Unconfirmed, Verdict, Want};
 
 #[test]
 fn the_sample_s_rows() {
@@ -194,4 +194,42 @@ fn shown_for_people() {
     );
     let lent = "Lent { plan: 26 bytes, rules: 32 bytes, node_table: 28 numbers, state_table: 21 bytes }";
     assert_eq!(format!("{:?}", panel.lent()), lent);
+}
+
+/// A comb of this many leaves with label 0, cleared where every leaf has another.
+fn comb(leaves: usize) -> Panel {
+    let kinds: Vec<Kind> =
+        (0..2 * leaves - 1).map(|v| if v > 0 && v % 2 == 0 { Kind::Inner } else { Kind::Leaf }).collect();
+    let rules = Rules::from_fn(2, 3, |a| a.min(1), |p, _, q| p.min(q), |state| state == 1).unwrap();
+    Panel::new(Plan::new(&vec![0; kinds.len()], &kinds).unwrap(), rules).unwrap()
+}
+
+#[test]
+fn the_fewest_changes() {
+    let panel = panel();
+    let every = panel.may_change();
+    assert_eq!(panel.fewest(Want::Cleared, &every), Ok(Fewest::AsItIs));
+    let lost = panel.fewest(Want::NotCleared, &every).unwrap();
+    assert_eq!(lost.least(), Some(1));
+    assert!(!panel.fresh_run(lost.changes().unwrap()).unwrap().yes);
+    assert_eq!(panel.fewest(Want::NotCleared, &every.clone().open(&[2, 3]).unwrap()), Ok(Fewest::NoWay));
+    assert_eq!(panel.fewest(Want::NotCleared, &every.labels(LabelSet::default())), Ok(Fewest::NoWay));
+
+    // 64 changes are listed, 65 are not
+    let (longest, longer) = (comb(64), comb(65));
+    let fewest = longest.fewest(Want::Cleared, &longest.may_change()).unwrap();
+    assert!((fewest.least(), longest.fresh_run(fewest.changes().unwrap()).unwrap().yes) == (Some(64), true));
+    assert_eq!(longer.fewest(Want::Cleared, &longer.may_change()), Ok(Fewest::Number(65)));
+
+    // label 2 alone is at hand; node 1 may take label 1 besides
+    let (three, two) = (comb(3), LabelSet::from_bits(0b100));
+    let may = three.may_change().labels(two).at(1, LabelSet::from_bits(0b10)).unwrap();
+    let fewest = three.fewest(Want::Cleared, &may).unwrap();
+    assert_eq!(fewest.changes(), Some(&[(0, 2), (1, 1), (3, 2)][..]));
+    assert_eq!(three.fewest(Want::Cleared, &may.keep(&[3]).unwrap()), Ok(Fewest::NoWay));
+
+    // what may change in another plan
+    assert_eq!(three.fewest(Want::Cleared, &panel.may_change()), Err(Refusal::LentLength));
+    let of_sample = panel.may_change().keep(&[0]).unwrap();
+    assert_eq!(three.fewest(Want::Cleared, &of_sample), Err(Refusal::LentLength));
 }

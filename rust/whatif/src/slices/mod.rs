@@ -6,6 +6,7 @@
 mod allowed;
 mod ask;
 mod colours;
+mod fewest;
 mod screens;
 mod session;
 mod tables;
@@ -13,6 +14,7 @@ mod tables;
 pub use allowed::*;
 pub use ask::*;
 pub use colours::*;
+pub use fewest::*;
 pub use screens::*;
 pub use session::*;
 pub use tables::*;
