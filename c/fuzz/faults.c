@@ -30,6 +30,9 @@ uint32_t __real_whatif_ask(PLAN_RULES, READ, LIST, uint32_t *state, uint32_t *ye
                            uint32_t *passed);
 uint32_t __real_whatif_allowed(PLAN_RULES, uint64_t *masks, size_t masks_len);
 uint32_t __real_whatif_clearing(PLAN_RULES, uint16_t *sets, size_t sets_len);
+uint32_t __real_whatif_fewest(PLAN_RULES, const uint64_t *may, size_t may_len, uint32_t want, uint32_t *work,
+                              size_t work_len, uint16_t *nodes, size_t nodes_len, uint8_t *labels, size_t labels_len,
+                              uint32_t *least, uint32_t *count);
 uint32_t __real_whatif_plan_of_planner(PLANNER_OUT);
 uint32_t __real_whatif_planner_of_plan(const uint8_t *plan, size_t plan_len, uint8_t *file, size_t file_len);
 uint32_t __real_whatif_start(uint8_t *record, size_t record_len, PLAN_RULES, READ, LIST, uint32_t *parts);
@@ -299,5 +302,76 @@ uint32_t __wrap_whatif_clearing(PLAN_RULES, uint16_t *sets, size_t sets_len) {
         sets[0] ^= (uint16_t)((2u << (rules[0] - 1)) - 1);
     if (laid(51) && answer == 0 && sets_len > plan[0]) /* the excess is written */
         sets[sets_len - 1] = 0;
+    return answer;
+}
+
+/* One more entry in the lists, in its place; 0 where the node is listed. */
+static int listed_too(uint16_t *nodes, uint8_t *labels, uint32_t count, uint16_t node, uint8_t label) {
+    uint32_t at = 0;
+    while (at < count && nodes[at] < node)
+        at++;
+    if (at < count && nodes[at] == node)
+        return 0;
+    memmove(nodes + at + 1, nodes + at, 2 * (count - at)), memmove(labels + at + 1, labels + at, count - at);
+    nodes[at] = node, labels[at] = label;
+    return 1;
+}
+
+/* As whoever changes one node after the other ends: a list that does it, with a change that is not needed. */
+static void one_too_many(PLAN_RULES, const uint64_t *may, size_t may_len, uint32_t want, uint16_t *nodes,
+                         uint8_t *labels, uint32_t *least, uint32_t *count) {
+    uint16_t longer[WHATIF_MAX_CHANGES + 1];
+    uint8_t with[WHATIF_MAX_CHANGES + 1];
+    uint32_t state, yes, all = plan[0] + 256u * plan[1];
+    for (uint32_t i = 0; *count < WHATIF_MAX_CHANGES && i < all * rules[4]; i++) {
+        uint32_t v = i / rules[4], a = i % rules[4];
+        memcpy(longer, nodes, 2 * *count), memcpy(with, labels, *count);
+        if (plan[12 + v] == a || (may_len && !(may[v] >> a & 1)) ||
+            !listed_too(longer, with, *count, (uint16_t)v, (uint8_t)a) ||
+            __real_whatif_fresh_run(plan, plan_len, rules, rules_len, longer, *count + 1, with, *count + 1, &state,
+                                    &yes) ||
+            yes != (want != 0))
+            continue;
+        ++*count, ++*least;
+        memcpy(nodes, longer, 2 * *count), memcpy(labels, with, *count);
+        return;
+    }
+}
+
+/* The rules with one accepting state alone, the first; the states that want 0 asks for are those without a mark. */
+static const uint8_t *first_state_alone(const uint8_t *rules, size_t rules_len, uint32_t want) {
+    static uint8_t other[65536];
+    size_t s = rules_len > 0 ? rules[0] : 0, first = s;
+    if (rules_len > sizeof other || s == 0 || rules_len < s)
+        return rules;
+    memcpy(other, rules, rules_len);
+    uint8_t *marks = other + rules_len - s;
+    for (size_t i = s; i-- > 0;)
+        first = marks[i] == (want != 0) ? i : first;
+    for (size_t i = 0; i < s && first < s; i++)
+        marks[i] = (i == first) == (want != 0);
+    return other;
+}
+
+uint32_t __wrap_whatif_fewest(PLAN_RULES, const uint64_t *may, size_t may_len, uint32_t want, uint32_t *work,
+                              size_t work_len, uint16_t *nodes, size_t nodes_len, uint8_t *labels, size_t labels_len,
+                              uint32_t *least, uint32_t *count) {
+    const uint8_t *table = laid(52) ? first_state_alone(rules, rules_len, want) : rules; /* the first accepting state */
+    uint32_t answer = __real_whatif_fewest(plan, plan_len, table, rules_len, may, may_len, want, work, work_len, nodes,
+                                           nodes_len, labels, labels_len, least, count);
+    if (laid(53) && answer == 0 && *least > 0 && *count > 0) /* greedy: more changes than are needed */
+        one_too_many(plan, plan_len, rules, rules_len, may, may_len, want, nodes, labels, least, count);
+    if (laid(54) && answer == 0 && *least == 0) /* a kept label is counted */
+        *least = *count = 1, nodes[0] = 0, labels[0] = plan[12];
+    if (laid(55) && answer == 0 && *count > 1) /* a node is listed twice */
+        nodes[1] = nodes[0];
+    if (laid(56) && answer == 0 && *least > WHATIF_MAX_CHANGES) /* no way where the list would be too long */
+        *least = WHATIF_NO_WAY;
+    if (laid(57) && answer == 0 && *count > 0 && may_len > 0) /* a node that may not be changed */
+        labels[0] = labels[0] == 0 ? 1 : 0;
+    if (laid(58) && answer != 0 && work_len > 0) /* a refused call writes */
+        work[0]++;
+    if (laid(59) && answer == 0 && nodes_len > *count) /* the excess is written */
+        nodes[*count]++;
     return answer;
 }

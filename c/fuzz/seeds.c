@@ -385,18 +385,33 @@ static void for_every_node(const struct plan *p) {
     }
 }
 
-static void fewest_of(const struct plan *p, const char *which, enum side side, uint32_t want, size_t sets, uint32_t room) {
+/* One set for all of the first `sets` nodes. */
+static void fewest_of(const struct plan *p, const char *which, enum side side, uint32_t want, size_t sets, uint32_t set,
+                      uint32_t room) {
     begin(FEWEST, p->name, which), put(side, 1), put(want, 1), plan_and_rules(p), put((uint32_t)sets, 2);
     for (size_t v = 0; v < sets; v++)
-        put(5, 4), put(0, 4);
+        put(set, 4), put(0, 4);
     put((uint32_t)WHATIF_FEWEST_WORK(p->n, p->s) + room, 2), put(64, 1), put(63 + room, 1), end();
 }
 
-/* Both wants, with a set for each node and without; sets for some nodes, and labels one too short. */
+/* Both wants, with a set for each node and without, or with nothing open; sets for some nodes, room one too short. */
 static void fewest(const struct plan *p) {
-    fewest_of(p, "", BEFORE, 1, 0, 2), fewest_of(p, "-lost", BEFORE, 0, 0, 1);
-    fewest_of(p, "-behind", BEHIND, 1, p->n, 1), fewest_of(p, "-17", BEFORE, 1, p->n - 1, 1);
-    fewest_of(p, "-11", BEFORE, 1, 0, 0);
+    fewest_of(p, "", BEFORE, 1, 0, 0, 2), fewest_of(p, "-lost", BEFORE, 0, 0, 0, 1);
+    fewest_of(p, "-behind", BEHIND, 1, p->n, 5, 1), fewest_of(p, "-set", BEHIND, 0, p->n, 2, 1);
+    fewest_of(p, "-closed", BEFORE, 0, p->n, 0, 1), fewest_of(p, "-17", BEFORE, 1, p->n - 1, 5, 1);
+    fewest_of(p, "-11", BEFORE, 1, 0, 0, 0);
+}
+
+/* A comb whose leaves must all have label 1, and `wrong` of them have 0: the fewest changes are that many. */
+static void many_changes(const char *name, size_t leaves, size_t wrong) {
+    static const uint8_t leaf[] = {0, 1}, marks[] = {0, 1}, inner[2][2][2] = {{{0, 0}, {0, 0}}, {{0, 1}, {0, 1}}};
+    uint8_t labels[199], kinds[199], plan_bytes[WHATIF_PLAN_BYTES(199)], rule_bytes[WHATIF_RULES_BYTES(2, 2)];
+    struct plan p = {name, 2 * leaves - 1, 2, 2, 2, plan_bytes, rule_bytes, branch, 0, 0};
+    for (size_t v = 0; v < p.n; v++)
+        kinds[v] = v > 0 && v % 2 == 0, labels[v] = kinds[v] || (v + 1) / 2 >= wrong;
+    must(whatif_write_plan(labels, p.n, kinds, p.n, plan_bytes, sizeof plan_bytes) == 0 &&
+         whatif_write_rules(leaf, 2, &inner[0][0][0], 8, marks, 2, rule_bytes, sizeof rule_bytes) == 0);
+    fewest_of(&p, "", BEFORE, 1, 0, 0, 1);
 }
 
 static void ask_of(const struct plan *p, const char *which, enum side side, const struct question *list) {
@@ -681,6 +696,7 @@ int main(int argc, char **argv) {
     counts(&sample), counts(&comb);
     for_every_node(&sample), for_every_node(&comb);
     fewest(&sample), fewest(&comb);
+    many_changes("two", 9, 2), many_changes("64", 70, 64), many_changes("65", 70, 65), many_changes("99", 100, 99);
     asks(&sample, &questions[1]), asks(&comb, &far);
     on_screens(&sample, &questions[1]), screens_list(&sample, &questions[3]);
     on_screens(&comb, &far), screens_list(&comb, &far);

@@ -169,6 +169,16 @@ pub enum Mistake {
     RunStatePutIn,
     /// Room for the masks is asked for before the labels of the plan.
     RoomBeforePlanLabels,
+    /// Every node of a relabelling is counted as changed, also one that keeps its label.
+    KeptLabelsCounted,
+    /// The first relabelling that does it is taken for the least.
+    FirstRelabellingTaken,
+    /// Every node may take every label, whatever sets are given.
+    SetsNotLookedAt,
+    /// A cleared plan is wanted, whatever is asked for.
+    ClearedForEveryWant,
+    /// 11 is put before 17 in the fewest changes.
+    RoomBeforeSets,
     /// A whole question counts the listed nodes as its parts.
     ListedToldAsParts,
     /// Its answer is that of the plan as it is.

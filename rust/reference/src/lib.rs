@@ -2,8 +2,8 @@
 //!
 //! Order: `write` (plans and tables made into bytes), `sample` (document 01's sample clearance);
 //! `formats` (bytes and checks 2 to 10), `tree` (parents, depths, sizes, jumps), `tables` (run, maps, both table
-//! buffers), `climb` (moves), `branch` (branch questions), `fresh` (fresh run), `merge` and `agree` (two rule
-//! tables), `planner` (the bridge planner's files); `ready` (the ready set), `parts` (the
+//! buffers), `climb` (moves), `branch` (branch questions), `fresh` (fresh run), `allowed` and `fewest` (what would clear a
+//! plan, by trying), `merge` and `agree` (two rule tables), `planner` (the bridge planner's files); `ready` (the ready set), `parts` (the
 //! rule for a part, on a tree), `count` (how many choices end in each state), `lent` (parts on lent tables, whatever they
 //! hold); `panel` (the session's calls and
 //! answers), `record` (its record as bytes), `session` (the five calls), `causes` (what 18 is given for), `model` (the
@@ -21,6 +21,7 @@ pub mod colour_branch;
 pub mod colour_rules;
 pub mod colours;
 pub mod count;
+pub mod fewest;
 pub mod formats;
 pub mod fresh;
 pub mod lent;

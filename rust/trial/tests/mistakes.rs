@@ -10,7 +10,7 @@ use trial::rounds::ROUNDS;
 const SEEDS: std::ops::Range<u64> = 1..201;
 
 /// A mistake, and the rounds that must notice it.
-const NOTICED: [(Mistake, &[&str]); 84] = [
+const NOTICED: [(Mistake, &[&str]); 89] = [
     (Mistake::ChildrenExchanged, &["builds", "fresh runs", "questions", "other bytes", "call lists", "panels"]),
     (Mistake::SiblingFromOldRun, &["questions", "other bytes", "damaged inputs", "call lists", "panels"]),
     (Mistake::ClimbToTheRoot, &["questions", "other bytes", "damaged inputs", "call lists"]),
@@ -96,6 +96,11 @@ const NOTICED: [(Mistake, &[&str]); 84] = [
     (Mistake::OldVerdictForEveryLabel, &["allowed labels"]),
     (Mistake::RunStatePutIn, &["allowed labels"]),
     (Mistake::RoomBeforePlanLabels, &["allowed labels"]),
+    (Mistake::KeptLabelsCounted, &["fewest changes"]),
+    (Mistake::FirstRelabellingTaken, &["fewest changes"]),
+    (Mistake::SetsNotLookedAt, &["fewest changes"]),
+    (Mistake::ClearedForEveryWant, &["fewest changes"]),
+    (Mistake::RoomBeforeSets, &["fewest changes"]),
     (Mistake::ListedToldAsParts, &["whole questions"]),
     (Mistake::WholeOfTheOldPlan, &["whole questions"]),
 ];

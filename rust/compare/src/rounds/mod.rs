@@ -13,6 +13,7 @@ pub mod colour_questions;
 pub mod damaged_inputs;
 pub mod damaged_records;
 pub mod damaged_tables;
+pub mod fewest;
 pub mod fresh_runs;
 pub mod full_checks;
 pub mod lay_overs;
@@ -40,7 +41,7 @@ pub struct Round {
     compare: fn(&mut Random, &mut Counts),
 }
 
-pub const ROUNDS: [Round; 26] = [
+pub const ROUNDS: [Round; 27] = [
     Round { name: "builds", compare: builds::round },
     Round { name: "full checks", compare: full_checks::round },
     Round { name: "fresh runs", compare: fresh_runs::round },
@@ -59,6 +60,7 @@ pub const ROUNDS: [Round; 26] = [
     Round { name: "laying over", compare: lay_overs::round },
     Round { name: "choices", compare: choices::round },
     Round { name: "allowed labels", compare: allowed::round },
+    Round { name: "fewest changes", compare: fewest::round },
     Round { name: "whole questions", compare: asks::round },
     Round { name: "screen lists", compare: screen_lists::round },
     Round { name: "screen refusals", compare: screen_refusals::round },
