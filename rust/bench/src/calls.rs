@@ -3,7 +3,7 @@
 use crate::cases::{list, List, SHAPES};
 use crate::sessions::One;
 use crate::tables::{pair, Mine, Other};
-use crate::{choices, colours, planner, rule_tables, whole};
+use crate::{choices, colours, fewest, planner, rule_tables, whole};
 use compare::inputs::Case;
 use compare::random::Random;
 use reference::tree::Tree;
@@ -25,6 +25,7 @@ pub fn make(shape: &str, [n, s, m]: [usize; 3]) {
         crate::places::once(&one, &list);
     }
     whole::calls(&one.case, m, random);
+    fewest::calls(&one.case, random);
     choices::calls(&choices::Built::new(one.case.clone()), m, random);
     branch_questions(one.case, random);
     rule_tables::calls(random);

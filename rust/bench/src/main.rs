@@ -10,6 +10,7 @@ mod calls;
 mod cases;
 mod choices;
 mod colours;
+mod fewest;
 #[cfg(feature = "probes")]
 mod in_place;
 mod measure;
@@ -103,11 +104,12 @@ fn rows(wanted: &str, mut measured: impl FnMut(&Row)) -> Vec<Row> {
     table::in_order(rows)
 }
 
-/// What is measured without a session: whole questions, allowed labels, counts of choices, on rule tables alone, on planner's files; eight screens beside
-/// single sessions; and by colours.
+/// What is measured without a session: whole questions, allowed labels, the fewest changes, counts of choices, on rule
+/// tables alone, on planner's files; eight screens beside single sessions; and by colours.
 fn singles(wanted: &str) -> Vec<Single> {
     let mut singles = Vec::new();
     whole::singles(wanted, &mut |single| singles.push(single));
+    fewest::singles(wanted, &mut |single| singles.push(single));
     choices::singles(wanted, &mut |single| singles.push(single));
     rule_tables::singles(wanted, &mut |single| singles.push(single));
     planner::singles(wanted, &mut |single| singles.push(single));

@@ -1,5 +1,6 @@
 //! The fewest changes: for each node and state the least number of changes, up; then the labels that attain the root's,
-//! down. A row of the work space has the size of a node's subtree, then its costs.
+//! down. A row of the work space has the size of a node's subtree, then its costs. Labels are tried one by one, or all
+//! at once: where every label is permitted, the states that some label leads to are the same at every node.
 
 use crate::checks::{self, Plan, Rules};
 
@@ -15,9 +16,8 @@ struct Problem<'a> {
     rules: Rules<'a>,
     may: &'a [u64],
     cleared: bool,
-    /// Where no sets are given, the states that some label leads to, from each pair of states; then from no states.
+    /// The states that some label leads to, from each pair of states; none where labels are tried one by one.
     images: Vec<u16>,
-    leaves: u16,
 }
 
 /// The numbers in a set, rising.
@@ -31,15 +31,14 @@ fn members(mut set: u64) -> impl Iterator<Item = usize> {
 }
 
 impl<'a> Problem<'a> {
-    fn new(plan: Plan<'a>, rules: Rules<'a>, may: &'a [u64], cleared: bool) -> Problem<'a> {
+    fn new(plan: Plan<'a>, rules: Rules<'a>, may: &'a [u64], cleared: bool, by_images: bool) -> Problem<'a> {
         let (s, k) = (rules.s, rules.k);
-        let mut images = vec![0; if may.is_empty() { s * s } else { 0 }];
+        let mut images = vec![0; if by_images && may.is_empty() { s * s } else { 0 }];
         for (pair, image) in images.iter_mut().enumerate() {
             let (p, q) = (pair / s, pair % s);
             *image = (0..k).fold(0, |all, b| all | 1 << rules.inner[(p * k + b) * s + q]);
         }
-        let leaves = rules.leaf.iter().fold(0, |all, &q| all | 1 << q);
-        Problem { plan, rules, may, cleared, images, leaves }
+        Problem { plan, rules, may, cleared, images }
     }
 
     #[inline]
@@ -47,7 +46,7 @@ impl<'a> Problem<'a> {
         self.rules.inner[(p * self.rules.k + b) * self.rules.s + q].into()
     }
 
-    /// The labels that a node may take where sets are given.
+    /// The labels that a node may take.
     #[inline]
     fn labels(&self, v: usize) -> u64 {
         let set = self.may.get(v).copied().unwrap_or(u64::MAX);
@@ -75,11 +74,7 @@ impl<'a> Problem<'a> {
 
     fn leaf_row(&self, v: usize) -> Row {
         let mut row = [FAR; 16];
-        if self.may.is_empty() {
-            members(self.leaves.into()).for_each(|q| row[q] = 1);
-        } else {
-            members(self.labels(v)).for_each(|b| row[usize::from(self.rules.leaf[b])] = 1);
-        }
+        members(self.labels(v)).for_each(|b| row[usize::from(self.rules.leaf[b])] = 1);
         row[usize::from(self.rules.leaf[usize::from(self.plan.labels[v])])] = 0;
         row
     }
@@ -91,10 +86,9 @@ impl<'a> Problem<'a> {
             for (q, &at_right) in right.iter().enumerate().filter(|(_, &cost)| cost < FAR) {
                 let below = at_left + at_right;
                 let mut lower = |to: usize, cost: u32| row[to & 15] = row[to & 15].min(cost);
-                if self.may.is_empty() {
-                    members(self.images[p * s + q].into()).for_each(|to| lower(to, below + 1));
-                } else {
-                    members(labels).for_each(|b| lower(self.inner(p, b, q), below + 1));
+                match self.images.get(p * s + q) {
+                    Some(&image) => members(image.into()).for_each(|to| lower(to, below + 1)),
+                    None => members(labels).for_each(|b| lower(self.inner(p, b, q), below + 1)),
                 }
                 lower(self.inner(p, own, q), below);
             }
@@ -175,15 +169,38 @@ impl<'a> Problem<'a> {
     }
 }
 
-/// The least number of changes and how many are listed; 2 to 10, 17 or 11.
+/// The least number of changes and how many are listed; 2 to 10, 17 or 11. Labels are tried one by one.
 pub fn fewest(
     plan: &[u8],
     rules: &[u8],
     may: &[u64],
     cleared: bool,
     work: &mut [u32],
-    nodes: &mut [u16],
-    labels: &mut [u8],
+    list: (&mut [u16], &mut [u8]),
+) -> Result<(u32, u32), u32> {
+    answer(plan, rules, may, (cleared, false), work, list)
+}
+
+/// The same; where no sets are given, all labels are tried at once.
+pub fn fewest_by_images(
+    plan: &[u8],
+    rules: &[u8],
+    may: &[u64],
+    cleared: bool,
+    work: &mut [u32],
+    list: (&mut [u16], &mut [u8]),
+) -> Result<(u32, u32), u32> {
+    answer(plan, rules, may, (cleared, true), work, list)
+}
+
+#[inline(always)]
+fn answer(
+    plan: &[u8],
+    rules: &[u8],
+    may: &[u64],
+    (cleared, by_images): (bool, bool),
+    work: &mut [u32],
+    (nodes, labels): (&mut [u16], &mut [u8]),
 ) -> Result<(u32, u32), u32> {
     let (plan, rules) = (checks::plan(plan)?, checks::rules(rules)?);
     checks::labels(&plan, rules.k)?;
@@ -193,7 +210,7 @@ pub fn fewest(
     if work.len() < plan.n * (rules.s + 1) || nodes.len() < LISTED || labels.len() < LISTED {
         return Err(11);
     }
-    let problem = Problem::new(plan, rules, may, cleared);
+    let problem = Problem::new(plan, rules, may, cleared, by_images);
     if problem.as_it_is() {
         return Ok((0, 0));
     }

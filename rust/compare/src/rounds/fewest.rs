@@ -173,14 +173,17 @@ pub fn right(case: &Case, random: &mut Random, counts: &mut Counts) {
     });
 }
 
+/// Both forms of plain Rust.
 fn by_yardstick(case: &Case, may: &[u64], cleared: bool, told: &Told) {
-    let (mut work, mut nodes, mut labels) = (vec![7; case.state_table_len()], [0; MOST_LISTED], [0; MOST_LISTED]);
-    let plain = yardstick::fewest(&case.plan, &case.rules, may, cleared, &mut work, &mut nodes, &mut labels);
-    let (number, count) = plain.expect("accepted by plain Rust");
-    assert_eq!((number, count as usize), (told.least, told.nodes.len()), "plain Rust's number");
     let (plan, rules) = (read_plan(&case.plan).unwrap(), read_rules(&case.rules).unwrap());
-    let (nodes, labels) = (nodes[..count as usize].to_vec(), labels[..count as usize].to_vec());
-    list_holds(&plan, &rules, may, cleared, &Told { least: number, nodes, labels });
+    for fewest in [yardstick::fewest, yardstick::fewest_by_images] {
+        let (mut work, mut nodes, mut labels) = (vec![7; case.state_table_len()], [0; MOST_LISTED], [0; MOST_LISTED]);
+        let plain = fewest(&case.plan, &case.rules, may, cleared, &mut work, (&mut nodes, &mut labels));
+        let (number, count) = plain.expect("accepted by plain Rust");
+        assert_eq!((number, count as usize), (told.least, told.nodes.len()), "plain Rust's number");
+        let (nodes, labels) = (nodes[..count as usize].to_vec(), labels[..count as usize].to_vec());
+        list_holds(&plan, &rules, may, cleared, &Told { least: number, nodes, labels });
+    }
 }
 
 /// The wrapper's answer, and what may change as its builder has it.
@@ -244,7 +247,7 @@ pub fn refused(mut case: Case, random: &mut Random, counts: &mut Counts) {
     let answer = fewest(&case.plan, &case.rules, &may, random.word() as u32 % 3, lens, random).err();
     let [work, nodes, labels] = lens;
     let (mut work, mut nodes, mut labels) = (vec![0; work], vec![0; nodes], vec![0; labels]);
-    let plain = yardstick::fewest(&case.plan, &case.rules, &may, true, &mut work, &mut nodes, &mut labels);
+    let plain = yardstick::fewest(&case.plan, &case.rules, &may, true, &mut work, (&mut nodes, &mut labels));
     assert_eq!(plain.err(), answer, "plain Rust refuses alike");
     counts.add(answer.map_or("accepted".to_string(), |number| format!("refused {}", number)));
 }
