@@ -1,5 +1,5 @@
-//! The fewest changes: on plans that are not as wanted, so that a list is made; every label permitted, or a set for each
-//! node.
+//! The fewest changes: on plans that are not as wanted, so that a list is made; every label permitted, or a set for
+//! each node.
 
 use crate::measure::{by_turns, Pair};
 use crate::table::Single;

@@ -31,6 +31,11 @@ pub struct Args<'a> {
     pub robust: bool,
     /// Nodes that may take one label alone, or none, are marked.
     pub allowed: bool,
+    /// Nodes that keep their labels, and labels at hand, as they were written.
+    pub keep: Vec<&'a str>,
+    pub burs: Vec<&'a str>,
+    /// Further ways.
+    pub next: usize,
 }
 
 /// All options of a verb.
@@ -47,7 +52,9 @@ impl<'a> Args<'a> {
         let verb = verb(name)?;
         let (words, files, colour) = (Vec::new(), Files::default(), Colour::Auto);
         let (bytes, json, robust, allowed) = (false, false, false, false);
-        let mut args = Args { verb, words, files, bytes, json, colour, first: None, page: 1, robust, allowed };
+        let (keep, burs, first) = (Vec::new(), Vec::new(), None);
+        let (page, next) = (1, 0);
+        let mut args = Args { verb, words, files, bytes, json, colour, first, page, robust, allowed, keep, burs, next };
         if verb.own_options {
             args.words = rest.to_vec();
             return Ok(args);
@@ -89,6 +96,9 @@ impl<'a> Args<'a> {
         match name {
             "--first" => self.first = Some(number()?),
             "--page" => self.page = number()?,
+            "--next" => self.next = number()?,
+            "--keep" => self.keep.push(value),
+            "--burs" => self.burs.push(value),
             "--colour" => self.colour = one_of(value, &COLOURS)?,
             file => return self.take_file(file, value),
         }

@@ -33,8 +33,9 @@
 //! `nearest`, `verbs`, `args`, `help`, `completions` (the command line), `outcome` (what a verb writes, its status), `sentences`,
 //! `json`, `terminal` (colours), `loaded` (the library's session on an input), `progress`, `generator` (random trees and
 //! tables), `picture` and `svg` (any picture), `drawing` (what pictures of a question share); then a file a verb:
-//! `answer`, `outline`, `why` (with `repairs`), `suggest` (and `robust`), `count`, `script` (session), `screens`, `over`, `branch` (by a
-//! `branch_table`), `colours` (the same by colours), `stored` (build and check), `random`, `dot` (a small plan whole),
+//! `answer`, `outline`, `why` (with `repairs`), `suggest` (and `robust`, its option), `mend` (with `changeable`, what may
+//! change, and `ways`, the search), `radius` (the verb `robust`), `count`, `script` (session), `screens`, `over`, `branch`
+//! (by a `branch_table`), `colours` (the same by colours), `stored` (build and check), `random`, `dot` (a small plan whole),
 //! `grids` (tables drawn), `agree` (a separating plan). Writing, showing, merging and choosing a picture are in this
 //! file.
 
@@ -43,6 +44,7 @@ pub mod answer;
 pub mod args;
 pub mod branch;
 pub mod branch_table;
+pub mod changeable;
 pub mod colours;
 pub mod completions;
 pub mod count;
@@ -57,6 +59,7 @@ pub mod input;
 pub mod json;
 pub mod lines;
 pub mod loaded;
+pub mod mend;
 pub mod names;
 pub mod nearest;
 pub mod outcome;
@@ -67,6 +70,7 @@ pub mod plan;
 pub mod planner;
 pub mod progress;
 pub mod questions;
+pub mod radius;
 pub mod random;
 pub mod repairs;
 pub mod robust;
@@ -79,6 +83,7 @@ pub mod suggest;
 pub mod svg;
 pub mod terminal;
 pub mod verbs;
+pub mod ways;
 pub mod why;
 
 use drawing::Question;

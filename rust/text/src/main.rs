@@ -5,6 +5,7 @@ use std::io::{self, Write};
 use std::process::exit;
 use text::args::{one_of, verb, Args};
 use text::branch::Reading;
+use text::changeable::Limits;
 use text::completions::Shell;
 use text::input::Input;
 use text::json::Object;
@@ -69,6 +70,7 @@ fn answered(args: &Args) -> Result<Made, Failure> {
             let of_nodes = if args.robust { text::robust::of_nodes } else { text::suggest::of_nodes };
             of_nodes(&input()?, &numbers(nodes)?, args.first, json).map(Made::answered)
         }
+        ("mend" | "robust", words) => mend(args, words.first(), &input()?).map(Made::answered),
         ("count", nodes) => text::count::of_nodes(&input()?, &numbers(nodes)?, json).map(Made::answered),
         ("over", [lower, upper]) => {
             text::over::of_questions(&input()?, a_question(lower)?, a_question(upper)?, json).map(Made::answered)
@@ -83,6 +85,16 @@ fn answered(args: &Args) -> Result<Made, Failure> {
             agree(first, second, drawn, json)
         }
         _ => written(args),
+    }
+}
+
+/// The least that must change, or the wrong labels that a cleared plan bears; of a question or of the plan as it is.
+fn mend(args: &Args, question: Option<&&str>, input: &Input) -> Result<String, Failure> {
+    let question = question.map(|word| a_question(word)).transpose()?;
+    let limits = Limits { keep: &args.keep, burs: &args.burs };
+    match args.verb.name {
+        "mend" => text::mend::of_plan(input, question, limits, args.next, args.json),
+        _ => text::radius::of_plan(input, question, limits, args.json),
     }
 }
 

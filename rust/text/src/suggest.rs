@@ -60,7 +60,8 @@ fn text(loaded: &Loaded, [nodes, tried, all]: [usize; 3], turns: &[Turn]) -> Str
     let head = format!("# as it is: {}, state {}\n", verdict(now), root);
     let (tried, nodes) = (count(tried, "change"), count(nodes, "node"));
     let told = match all {
-        0 => format!("# none of {} at {} turns that\n", tried, nodes),
+        0 if now => format!("# none of {} at {} turns that\n", tried, nodes),
+        0 => format!("# none of {} at {} turns that: whatif-text mend finds the least that does\n", tried, nodes),
         some => {
             let (turn, each) = if some == 1 { ("turns", "it") } else { ("turn", "each") };
             let then = format!("with {} alone the plan is {}", each, verdict(!now));

@@ -61,6 +61,13 @@ const BRANCH: &str = "[TABLE] UPPER LOWER [all|dot|svg]";
 const BRANCH_MORE: &str =
     "TABLE is a branch table's file, text or bytes; it may be given by --branch FILE too. Of a long
 path the first and last nodes are told; all: every one; dot, svg: the path as a picture.";
+const MEND: &str =
+    "Of the plan as it is, or with the changes of a question made: then its nodes keep what it gives them.
+--keep NODES: these nodes keep their labels. --burs LABELS: no node takes another label; names of labels will do.
+NODES and LABELS are numbers with commas between them, FIRST-LAST, or the option again.
+--next N: up to N further ways, fewest changes first; none contains another.";
+const ROBUST: &str = "Of the plan as it is, or with the changes of a question made.
+--keep NODES: these nodes have no wrong label. --burs LABELS: no other label is taken by mistake.";
 const PAGES: &str = "Above 25 parts or 12 rows an outline has pages; --page N is another one than the first.
 --allowed: marked are the nodes that can take one label alone, changes made, and those that can take none.";
 
@@ -75,6 +82,14 @@ pub const ALL: &[Verb] = &[
 --robust: the nodes of a cleared plan where every other label loses the clearance, nearest to the root first.")
         .options(&["--first", "--robust"])
         .answers().example("whatif-text suggest 2 5 < examples/sample.txt"),
+    verb("mend", "[QUESTION]", 0, 1, "the least that must change so that the plan is cleared, as a question to paste")
+        .more(MEND)
+        .options(&["--keep", "--burs", "--next"])
+        .answers().example("whatif-text mend 2 --keep 0,6 --next 3 < examples/sample.txt"),
+    verb("robust", "[QUESTION]", 0, 1, "how many wrong labels can lose the clearance, with an example")
+        .more(ROBUST)
+        .options(&["--keep", "--burs"])
+        .answers().example("whatif-text robust < examples/sample.txt"),
     verb("count", "[NODE ..]", 0, ANY, "how many choices of labels for these nodes end in each state, and one that clears")
         .answers().example("whatif-text count 0 2 < examples/sample.txt"),
     verb("outline", "QUESTION [dot|svg]", 1, 2, "the roots of the parts as a picture, with their states and climbs")

@@ -70,6 +70,9 @@ fn usage_errors() {
         (&["answer", "--json=yes"], "'--json' takes no value: 'yes'"),
         (&["answer", "--colour", "allways"], "'allways' is none of auto, always, never; did you mean 'always'?"),
         (&["suggest", "--first", "few"], "--first few: this is no number"),
+        (&["mend", "--next", "few"], "--next few: this is no number"),
+        (&["mend", "1", "2"], "'2' is one word too many: 'mend' takes the words [QUESTION]"),
+        (&["robust", "--next", "2"], "'--next' is no option of 'robust': whatif-text help robust"),
         (&["suggest", "--robust=yes"], "'--robust' takes no value: 'yes'"),
         (
             &["dot", "1", "--alowed"],
@@ -123,6 +126,13 @@ fn json() {
         (&["suggest", "--robust"], 0, "o[0] == {'was_cleared': True, 'was_state': 1, 'nodes': 7, 'fragile': 4, 'told': 4} \
           and [x['node'] for x in o[1:]] == [5, 0, 1, 4] and o[1] == {'node': 5, 'label': 0, 'depth': 1}"),
         (&["suggest"], 0, "o[0]['turn'] == 4 == len(o) - 1 and o[0]['tried'] == 7 and {'node': 5, 'label': 1, 'depth': 1} in o"),
+        (&["mend", "2", "--next", "9"], 0, "o[0] == {'question': 2, 'cleared': False, 'state': 0, 'kept': 1, 'no_way': False, \
+          'least': 1, 'ways': 2, 'all': True} and o[1] == {'way': 1, 'changes': [{'node': 2, 'label': 0}], \
+          'asked': [{'node': 0, 'label': 0}, {'node': 2, 'label': 0}]} and len(o) == 3"),
+        (&["mend", "2", "--keep", "0-6", "--burs", "0"], 0, "o == [{'question': 2, 'cleared': False, 'state': 0, 'kept': 7, \
+          'burs': [0], 'no_way': True, 'ways': 0, 'all': True}]"),
+        (&["robust", "--keep", "0-3,5-6"], 0, "o == [{'cleared': True, 'state': 1, 'kept': 6, 'never_lost': False, \
+          'radius': 1, 'changes': [{'node': 4, 'label': 0}]}]"),
         (&["count", "0", "2"], 0, "o[0]['choices'] == 4 and o[0]['clearing'] == 3 and o[0]['choice'] == \
           [{'node': 0, 'label': 1}, {'node': 2, 'label': 1}] and o[2] == {'state': 1, 'choices': 3, 'cleared': True}"),
         (&["over", "4", "9"], 0, "o == [{'lower': 4, 'upper': 9, 'changes': [{'node': 3, 'label': 1}, {'node': 0, 'label': 1}]}] \
@@ -227,6 +237,7 @@ fn completions() {
             assert_eq!(offered("suggest --fi", 2), "--first");
             assert_eq!(offered("suggest --ro", 2), "--robust");
             assert_eq!(offered("svg 4 --al", 3), "--allowed");
+            assert_eq!(offered("mend 2 --ke", 3), "--keep");
             assert_eq!(offered("answer --colour a", 3), "auto always");
             assert_eq!(offered("branch t 6 4 sv", 5), "svg");
             assert_eq!(offered("random --sh", 2), "--shape");

@@ -77,8 +77,9 @@ fn the_page() {
     assert_eq!(shown.len(), 4);
     assert!(shown.iter().all(|line| answers.contains(&format!("question {}\n", line))), "{:?}", shown);
     let [count, colours] = [include_str!("stored/count-0-2"), include_str!("stored/colours-6-4")];
-    let [why, robust] = [include_str!("stored/why-2"), include_str!("stored/suggest-robust")];
-    for stored in [count, colours, why, robust] {
+    let [why, fragile] = [include_str!("stored/why-2"), include_str!("stored/suggest-robust")];
+    let [mend, robust] = [include_str!("stored/mend-2"), include_str!("stored/robust")];
+    for stored in [count, colours, why, fragile, mend, robust] {
         let told = stored.trim_end_matches("status 0\n");
         let shown: Vec<String> = told.lines().map(|line| format!("    {}", line).trim_end().to_string()).collect();
         assert!(page.contains(&shown.join("\n")), "{:?}", shown);

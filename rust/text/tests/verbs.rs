@@ -26,6 +26,18 @@ fn on_the_sample() {
     holds("suggest-robust", &["suggest", "--robust"], SAMPLE);
     holds("suggest-robust-nodes", &["suggest", "--robust", "2", "5", "6"], SAMPLE);
     holds("suggest-robust-not-cleared", &["suggest", "--robust"], &SAMPLE.replace("accept 1", "accept 0"));
+    holds("mend", &["mend"], SAMPLE);
+    holds("mend-2", &["mend", "2", "--next", "9"], SAMPLE);
+    holds("mend-2-kept", &["mend", "2", "--keep", "3-5", "--keep", "6", "--burs", "0"], SAMPLE);
+    holds("mend-no-way", &["mend"], &SAMPLE.replace("accept 1", ""));
+    holds("robust", &["robust", "--keep", "0-3,5,6"], SAMPLE);
+    holds("robust-two", &["robust", "6", "--keep", "0-3,5"], SAMPLE);
+    holds("robust-never", &["robust", "--keep", "0-6"], SAMPLE);
+    holds("robust-2", &["robust", "2"], SAMPLE);
+    holds("refused-mend", &["mend", "7"], SAMPLE);
+    holds("wrong-keep", &["mend", "--keep", "7"], SAMPLE);
+    holds("wrong-burs", &["robust", "--burs", "fine-bur"], SAMPLE);
+    holds("suggest-none", &["suggest"], &SAMPLE.replace("accept 1", ""));
     holds("dot-2-allowed", &["dot", "2", "--allowed"], SAMPLE);
     holds("outline-4-allowed", &["outline", "4", "--allowed"], SAMPLE);
     holds("outline-4", &["outline", "4"], SAMPLE);
