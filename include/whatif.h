@@ -296,6 +296,7 @@ uint32_t whatif_clearing(const uint8_t *plan, size_t plan_len, const uint8_t *ru
  *          nothing. Past these entries and past the work space nothing is touched.
  * Answers: WHATIF_ACCEPTED, or the first of 2, 3, 4, 5, 6, 7, 8, 9, 10, 17, 11: 17 where may_len is neither 0 nor N, 11
  *          where work, nodes or labels is too short. Refused, everything is as it was.
+ *
  * Its time is at most in proportion to N x S x S x K. Where a single change may be enough, whatif_allowed answers
  * sooner. With want 0 and a plan that is cleared, *least wrong labels lose the clearance, and no fewer do.
  */
