@@ -10,7 +10,7 @@ use mathlib.Core.List.{List, []}
 use mathlib.Core.Option.{Option, some}
 use native.Mathlib.Omega.{arith}
 use lib.Dec.{leb, eqb}
-use lib.ListN.{length, take, length-take}
+use lib.ListN.{length, take}
 use lib.Seq.{length-take-le}
 use borrow.Author.Tests.{le-leb, eq-eqb}
 use Rattle.list_laws.specs.Tests.{allBelow, holds}
@@ -36,6 +36,7 @@ use Rattle.tables.specs.declared.answers.Reached.{Reached}
 use Rattle.tables.specs.Climbs.{View, reached}
 use Rattle.tables.proofs.node_tables.CellLaws.{length-nodeTableOf}
 use Rattle.tables.proofs.BuildLaws.{length-builtStates}
+use Rattle.tables.proofs.CheckAnswers.{begins-room}
 use Rattle.runs.specs.FreshRun.{rootState}
 use Rattle.changes.specs.Differing.{differing}
 use Rattle.changes.specs.inner.LastDiffering.{lastDiffering}
@@ -60,12 +61,6 @@ use Rattle.whole_questions.specs.Promise.{AskUsable, rootsLeft, partsLen
 use Rattle.whole_questions.proofs.AskChecks.{then-list}
 use Rattle.whole_questions.proofs.AskNumbers.{lent-is}
 use Rattle.whole_questions.proofs.RuledLaws.{handled-ruled}
-
--- a buffer that begins with a list of n elements has n
-begins : (n : ℕ) (b l : List ℕ) → take n b ≡ l → length l ≡ n → n ≤ length b
-begins n b l e z =
-    let q : length (take n b) ≡ n = ap length e ∙ z in
-    omega (arith, length-take n b)
 
 module _ (p r nodeTable stateTable vs bs : List ℕ) where
   abbrev t : Tree
@@ -97,7 +92,7 @@ module _ (p r nodeTable stateTable vs bs : List ℕ) where
 
     links-room : nodeCount p * 4 ≤ length nodeTable
     links-room =
-        begins (n * 4) nodeTable _ (U .links) (length-nodeTableOf t ∙ ap (λ (m : ℕ). m * 4) size-is)
+        begins-room (n * 4) nodeTable _ (U .links) (length-nodeTableOf t ∙ ap (λ (m : ℕ). m * 4) size-is)
 
     lengths : buffersFit (nodeCount p) (stateCount r) (ruleLength (stateCount r) (labelCount r)) (length p) (length r)
         (length nodeTable) (length stateTable) ≡ true
@@ -234,7 +229,7 @@ module _ (p r nodeTable stateTable vs bs : List ℕ) where
     built-usable = record {
       accepted = B .accepted;
       links = B .links;
-      room = begins (stateTableLength n s) stateTable _ (B .states)
+      room = begins-room (stateTableLength n s) stateTable _ (B .states)
           (length-builtStates p (rule-table-passes p r (B .accepted) .0) r);
       below = sound-below z x vs bs made table-built;
     }

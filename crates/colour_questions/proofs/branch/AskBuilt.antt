@@ -49,10 +49,11 @@ use Rattle.colour_tables.specs.ColourCells.{copyRow}
 use Rattle.colour_tables.specs.Layout.{colourNumbersOf, copiesOf, colourNumbersLength, copiesLength}
 use Rattle.colour_tables.proofs.LayoutLaws.{length-numbers, length-copies, copies-cells}
 use Rattle.colour_tables.proofs.RangeLaws.{descend-low}
+use Rattle.tables.proofs.CheckAnswers.{begins-room}
 use Rattle.colour_questions.specs.branch.Question.{colourBuffersFit, colourIn, colourAskAnswer}
 use Rattle.colour_questions.specs.declared.branch.answers.Descending.the-variants.{Answered}
 use Rattle.colour_questions.specs.branch.Promise.{BranchColoursBuilt, BranchColoursUsable, wordStart, wordDescent, wordDrops}
-use Rattle.colour_questions.proofs.branch.FitLaws.{begins, are-fits}
+use Rattle.colour_questions.proofs.branch.FitLaws.{are-fits}
 use Rattle.colour_questions.proofs.branch.AnswerLaws.{below-yes}
 use Rattle.colour_questions.proofs.branch.OnCopies.{on-copies}
 
@@ -91,17 +92,17 @@ module _ (p r nodeTable numbers bytes : List ℕ) (D : BranchColoursBuilt p r no
 
   links-room : nodeCount p * 4 ≤ length nodeTable
   links-room =
-      begins (nodeCount p * 4) nodeTable (nodeTableOf t) (D .links)
+      begins-room (nodeCount p * 4) nodeTable (nodeTableOf t) (D .links)
       (length-nodeTableOf t ∙ ap (λ (n : ℕ). n * 4) size-is)
 
   numbers-room : colourNumbersLength (nodeCount p) (stateCount r) ≤ length numbers
   numbers-room =
-      begins (s * (nodeCount p * 4)) numbers (colourNumbersOf s step t) (D .coloured .numbers-are)
+      begins-room (s * (nodeCount p * 4)) numbers (colourNumbersOf s step t) (D .coloured .numbers-are)
       (length-numbers s step t ∙ ap (λ (n : ℕ). s * (n * 4)) size-is)
 
   bytes-room : copiesLength (nodeCount p) (stateCount r) ≤ length bytes
   bytes-room =
-      begins (nodeCount p * s) bytes (copiesOf s step t) (D .coloured .bytes-are)
+      begins-room (nodeCount p * s) bytes (copiesOf s step t) (D .coloured .bytes-are)
       (length-copies s step t keeps ∙ ap (λ (n : ℕ). n * s) size-is)
 
   heads : headersFit 16 p r ≡ true

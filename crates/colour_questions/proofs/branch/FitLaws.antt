@@ -1,14 +1,12 @@
 -- Check 17 of a branch question by colours.
---     begins                                             a buffer that begins with a list is as long
 --     headers-no, plan-no, table-no, links-no, fit-end   what each test of the code says of it
 --     Fits, fits-are, are-fits                           what a yes says, and back
 use Prim.Native.Nat.{ℕ, _+_, _*_, _≤_, _<_}
-use mathlib.Core.Path.{_≡_, ap, _∙_}
+use mathlib.Core.Path.{_≡_}
 use mathlib.Core.Bool.{Bool, true, false, _&&_}
 use mathlib.Core.List.{List}
-use native.Mathlib.Omega.{arith}
 use lib.Dec.{leb, eqb}
-use lib.ListN.{length, take, length-take}
+use lib.ListN.{length}
 use borrow.Author.Tests.{leb-true, le-leb, lt-leb, eqb-true, eq-eqb, ne-eqb}
 use Rattle.list_laws.proofs.BoolLaws.{and-left, and-right}
 use Rattle.formats.specs.Plan.{nodeCount, planLength}
@@ -19,12 +17,6 @@ use Rattle.formats.proofs.BufferLaws.{Headers, headers-are}
 use Rattle.colour_tables.specs.Layout.{colourNumbersLength, copiesLength}
 use Rattle.colour_tables.specs.branch.Build.{coloursFit}
 use Rattle.colour_questions.specs.branch.Question.{colourBuffersFit}
-
--- a buffer that begins with a list of n elements has n
-pub begins : (n : ℕ) (b l : List ℕ) → take n b ≡ l → length l ≡ n → n ≤ length b
-begins n b l e z =
-    let q : length (take n b) ≡ n = ap length e ∙ z in
-    omega (arith, length-take n b)
 
 module _ (p r : List ℕ) (nodeTable numbers bytes : ℕ) where
   pub headers-no : headersFit 16 p r ≡ false → false ≡ colourBuffersFit p r nodeTable numbers bytes

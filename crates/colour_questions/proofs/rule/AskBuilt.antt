@@ -35,7 +35,7 @@ use Rattle.colour_questions.specs.parts.Searches.{questionSearches}
 use Rattle.colour_questions.specs.parts.Trials.{triedParts, trialsFrom}
 use Rattle.colour_questions.specs.rule.Question.{askedChecks, ruleAskAnswer, answeredWith}
 use Rattle.colour_questions.specs.rule.Promise.{RuleColoursBuilt, RuleColoursUsable, rootsLeft, searchesLeft, RuleColourAnswer}
-use Rattle.colour_questions.proofs.branch.FitLaws.{begins}
+use Rattle.tables.proofs.CheckAnswers.{begins-room}
 use Rattle.colour_questions.proofs.parts.TrialsBuilt.{all-trials}
 use Rattle.colour_questions.proofs.rule.AskUsable as usable
 
@@ -72,7 +72,7 @@ module _ (p r nodeTable stateTable numbers bytes vs bs : List ℕ)
     accepted = D .tables .accepted;
     links = D .tables .links;
     coloured = D .coloured;
-    room = begins (stateTableLength (nodeCount p) (stateCount r)) stateTable _ (D .tables .states)
+    room = begins-room (stateTableLength (nodeCount p) (stateCount r)) stateTable _ (D .tables .states)
         (length-builtStates p plan-passes r);
     below = sound-below z x [] [] built table-built;
   }

@@ -58,7 +58,7 @@ use Rattle.colour_tables.proofs.rule.ColouredLaws.{coloured-cells, coloured-cop
 use Rattle.colour_questions.specs.parts.OneSided.{oneSided}
 use Rattle.colours.specs.Descents.{AllLe}
 use Rattle.colour_questions.specs.parts.Part.{ColourView, handledFrom}
-use Rattle.colour_questions.proofs.branch.FitLaws.{begins}
+use Rattle.tables.proofs.CheckAnswers.{begins-room}
 use Rattle.colour_questions.proofs.parts.TriesBuilt.{SidesBuilt}
 use Rattle.colour_questions.specs.rule.Question.{handled, handledOn, askedOn, leftIn, lentColours}
 use Rattle.colour_questions.specs.rule.Question.{ruleColoursFit, askedChecks, ruleAnswer, ruleAskAnswer}
@@ -99,18 +99,18 @@ module _ (p r nodeTable stateTable numbers bytes vs bs : List ℕ)
 
   links-room : nodeCount p * 4 ≤ length nodeTable
   links-room =
-      begins (n * 4) nodeTable _ (D .links) (length-nodeTableOf t ∙ ap (λ (m : ℕ). m * 4) size-is)
+      begins-room (n * 4) nodeTable _ (D .links) (length-nodeTableOf t ∙ ap (λ (m : ℕ). m * 4) size-is)
 
   states-room : stateTableLength (nodeCount p) (stateCount r) ≤ length stateTable
   states-room = D .room
 
   numbers-room : setNumbersLength (nodeCount p) (stateCount r) ≤ length numbers
   numbers-room =
-      begins (setNumbersLength n s) numbers (builtSetNumbers p r) (D .coloured .numbers-are) (length-setNumbers p r
+      begins-room (setNumbersLength n s) numbers (builtSetNumbers p r) (D .coloured .numbers-are) (length-setNumbers p r
       plan-passes)
 
   bytes-room : setBytesLength (nodeCount p) (stateCount r) ≤ length bytes
-  bytes-room = begins (setBytesLength n s) bytes (builtSetBytes p r) (D .coloured .bytes-are) (length-setBytes p r
+  bytes-room = begins-room (setBytesLength n s) bytes (builtSetBytes p r) (D .coloured .bytes-are) (length-setBytes p r
       plan-passes)
 
   lengths : buffersFit (nodeCount p) (stateCount r) (ruleLength (stateCount r) (labelCount r)) (length p) (length r)
