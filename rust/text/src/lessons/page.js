@@ -267,7 +267,7 @@
     show();
   }
 
-  // The calls. One that is refused changes nothing, and its refusal is told.
+  // The calls. One that is refused changes nothing, and its refusal is shown.
   const calls = {
     start: () => go(place().state === 'answered' ? 1 : run, 1, ''),
     advance: () => go(run, at + 1, ''),

@@ -390,7 +390,8 @@ fn allowed_by_runs(panel: &Panel) -> Option<Vec<LabelSet>> {
 /// The least that must change on a plan with changes made, whose nodes keep their labels.
 fn mend(changed: &Panel, changes: &[(u16, u8)], names: &Names) -> Option<String> {
     let listed: Vec<u16> = changes.iter().map(|change| change.0).collect();
-    let may = changed.may_change().keep(&listed).unwrap();
+    let every = changed.may_change();
+    let may = if listed.is_empty() { every } else { every.keep(&listed).unwrap() };
     let fewest = changed.fewest(Want::Cleared, &may).unwrap();
     let (kept, noun) =
         if changes.is_empty() { ("", "change") } else { ("With the question's changes kept, ", "more change") };
