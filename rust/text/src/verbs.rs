@@ -106,6 +106,7 @@ pub const ALL: &[Verb] = &[
         .example("whatif-text svg 4 < examples/sample.txt > plan.svg"),
     verb("page", "QUESTION", 1, 1, "a lesson: the question call by call, as a page for a browser")
         .more("One file, which opens without network. Above 100 nodes it has the outline's nodes, and unfolds.
+Where the plan is not cleared, it ends with the least that must change and the mended plan, as mend QUESTION has them.
 --allowed: once it is answered, marked are the nodes that can take one label alone, and those that can take none.")
         .options(&["--allowed"])
         .example("whatif-text page 4 < examples/sample.txt > lesson.html"),

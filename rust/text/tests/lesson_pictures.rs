@@ -43,11 +43,9 @@ fn style(page: &str) -> String {
         };
         let end = rest.find(ends).unwrap() + 1;
         let selector = rest[..open].trim();
-        if [":root", "*", "svg", ".node", ".edge", ".words", "#screens", ".screen", "progress"]
-            .iter()
-            .any(|first| selector.starts_with(first))
-        {
-            kept += rest[..end].trim();
+        let kinds = [":root", "*", "svg", "#tree ", "#screens", ".screen", "progress"];
+        if kinds.iter().any(|kind| selector.starts_with(kind)) {
+            kept += rest[..end].trim().trim_start_matches("#tree ");
             kept += "\n";
         }
         rest = &rest[end..];
@@ -100,10 +98,12 @@ fn of_eight_screens() {
     is_stored("lesson-screens", &pressed(&page, &["advance"; 12], "frames(1100, 540)"));
 }
 
-/// The first picture of a sheet: no browser is needed.
+/// The first picture that is written as such: no browser is needed.
 #[test]
-fn of_sheets() {
-    for (name, page) in [("lesson-sheet", "sheet.html"), ("lesson-exercise", "exercise.html")] {
+fn of_sheets_and_of_the_mended_plan() {
+    let pages =
+        [("lesson-sheet", "sheet.html"), ("lesson-exercise", "exercise.html"), ("lesson-mended", "sample.html")];
+    for (name, page) in pages {
         let page = fs::read_to_string(root().join("docs/lessons").join(page)).unwrap();
         let (start, end) = (page.find("<svg").unwrap(), page.find("</svg>").unwrap());
         is_stored(name, &(page[start..end].to_string() + "</svg>\n"));

@@ -1,6 +1,7 @@
 //! What `session` says of an advance, what sheets and exercises say.
 
 use std::collections::BTreeSet;
+use std::process::Command;
 use text::input::Input;
 use text::lessons::{exercise, page, sheet};
 use text::loaded::Loaded;
@@ -64,6 +65,27 @@ fn a_legend_of_marks() {
         );
     }
     assert!(marked.contains("\"sets\":") && !plain.contains("\"sets\":") && !plain.contains("label clears"));
+}
+
+/// What a page lists as the least that must change is what `mend` lists.
+#[test]
+fn the_least_by_mend() {
+    let input = Input::of_text(SAMPLE).unwrap();
+    for question in [2, 4, 5] {
+        let page = words(&page::of_question(&input, question, false).unwrap());
+        let mut program = Command::new(env!("CARGO_BIN_EXE_whatif-text"));
+        let mend =
+            program.args(["mend", &question.to_string(), "--input", "../../examples/sample.txt"]).output().unwrap();
+        let mend = String::from_utf8(mend.stdout).unwrap();
+        let line = |line: &str| {
+            Some(line.strip_prefix("# ")?.replace(": label", " from label")).filter(|to| to.contains(" from "))
+        };
+        let listed: Vec<String> = mend.lines().filter_map(line).collect();
+        assert!(!listed.is_empty(), "{}", mend);
+        for change in listed {
+            assert!(page.contains(&change), "question {}: {}", question, change);
+        }
+    }
 }
 
 /// The words of a page, tags left out.

@@ -127,6 +127,26 @@ fn at_61471_nodes() {
     walks(&plan, 1, true);
 }
 
+/// Where a page ends with a plan that is not cleared: several changes, no way, and more than can be listed.
+#[test]
+fn the_least_that_must_change() {
+    // every leaf must have label 1
+    let rules = "rules\nstates 2\nlabels 2\nleaf 0 -> 0\nleaf 1 -> 1\ninner * * * -> 0\ninner 1 * 1 -> 1\naccept 1\n";
+    let comb = |leaves: usize| format!("plan\nleaf 0\n{}", "leaf 0\ninner 0\n".repeat(leaves - 1));
+    let small = format!("{}{}questions\nnone\n0->0\n1->1\n0->1 1->1\n", comb(3), rules);
+    let said = |question: usize| {
+        let page = page::of_question(&Input::of_text(&small).unwrap(), question, false).unwrap();
+        page.split("<h2>The least that must change</h2>\n<p>").nth(1).unwrap().split("</p>").next().unwrap().to_string()
+    };
+    assert_eq!(said(1), "3 changes clear the plan, and no fewer do.");
+    assert_eq!(said(2), "With the question's changes kept, nothing clears the plan.");
+    assert_eq!(said(3), "With the question's changes kept, 2 more changes clear the plan, and no fewer do.");
+    assert_eq!(said(4), "With the question's changes kept, 1 more change clears the plan.");
+    (1..=4).for_each(|question| walks(&small, question, false));
+    walks(&format!("{}{}questions\nnone\n", comb(70), rules), 1, false);
+    walks(&format!("{}{}questions\nnone\n", comb(3), rules.replace("accept 1", "")), 1, false);
+}
+
 /// By the browser's own clock, from the navigation to the end of the load, drawn and laid out. A busy machine makes a
 /// load longer, never shorter: the shortest of up to twenty counts.
 #[test]
@@ -151,7 +171,7 @@ fn loads_within_two_seconds() {
 }
 
 /// Wrong pages, each an edit of the script. The comparison must notice every one.
-const WRONG: [(&str, &str); 15] = [
+const WRONG: [(&str, &str); 16] = [
     // a part's state is shown before it is handled
     ("if (i !== undefined && i < here.done) {", "if (i !== undefined && i <= here.done) {"),
     ("if (done && data.before[v] !== data.after[i])", "if (done)"),
@@ -170,6 +190,7 @@ const WRONG: [(&str, &str); 15] = [
     ("lines.push(mark.words)", "lines.push('')"),
     ("classes.push(mark.class)", "classes.push('one')"),
     ("'aria-label', labelOf(v, here)", "'aria-label', 'node ' + v"),
+    ("byId('mend').hidden = here.state !== 'answered'", "byId('mend').hidden = false"),
 ];
 
 #[test]

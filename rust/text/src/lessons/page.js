@@ -249,6 +249,7 @@
     byId('back').setAttribute('aria-disabled', String(before.length === 0));
     document.querySelectorAll('#parts li').forEach((item, i) => { item.hidden = i >= here.done; });
     byId('walk').hidden = here.done === 0;
+    if (byId('mend')) byId('mend').hidden = here.state !== 'answered';
     bringIntoView(byId('n' + (here.done > 0 ? data.roots[here.done - 1] : rootOfPlan)));
   }
 
@@ -266,7 +267,7 @@
     show();
   }
 
-  // The calls. One that is refused changes nothing, and its refusal is told.
+  // The calls. One that is refused changes nothing, and its refusal is shown.
   const calls = {
     start: () => go(place().state === 'answered' ? 1 : run, 1, ''),
     advance: () => go(run, at + 1, ''),

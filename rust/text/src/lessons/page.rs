@@ -4,6 +4,7 @@
 
 use super::advance::Advance;
 use super::html::{self, escaped, paragraph};
+use super::mended;
 use super::walk::{Place, Walk};
 use crate::count::grouped;
 use crate::drawing::{NO_LABEL_CLEARS, ONE_LABEL_CLEARS, OTHER_STATE_WHERE_MARKED};
@@ -29,6 +30,7 @@ pub fn of_question(input: &Input, number: usize, allowed: bool) -> Result<String
         + CONTROLS
         + &legend(allowed)
         + &parts(&walk)
+        + &mended::section(&walk)?
         + &html::scripted(&data(&walk, marks), SCRIPT);
     Ok(html::page(&title, STYLE, &body))
 }

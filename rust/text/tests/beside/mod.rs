@@ -4,7 +4,7 @@ use std::collections::{BTreeMap, BTreeSet};
 use text::input::Input;
 use text::names::Names;
 use whatif::layout::number;
-use whatif::{LabelSet, Panel, Plan, Refusal, Rules, Session, State};
+use whatif::{Fewest, LabelSet, Panel, Plan, Refusal, Rules, Session, State, Want};
 
 /// A session at the panel beside the page: each thing pressed is a call of the library.
 pub struct Beside {
@@ -21,6 +21,8 @@ pub struct Beside {
     refused: String,
     /// The labels that each node may take, with the changes made, where they are shown.
     allowed: Option<Vec<LabelSet>>,
+    /// The least that must change, where the plan is not cleared: its words, and the title of the mended plan.
+    mend: Option<String>,
     before: Vec<(Panel, (u32, u32), String)>,
 }
 
@@ -40,8 +42,8 @@ impl Beside {
         let climbs = climbs(&panel, &roots);
         let (names, note, refused) = (input.names.clone(), String::new(), String::new());
         let allowed = allowed.then(|| allowed_by_runs(&changed).unwrap_or_else(|| changed.allowed().unwrap()));
-        let (earlier, before) = ((0, 0), vec![]);
-        Beside { panel, changed, changes, names, roots, climbs, earlier, note, refused, allowed, before }
+        let (earlier, before, mend) = ((0, 0), vec![], mend(&changed, &changes, &names));
+        Beside { panel, changed, changes, names, roots, climbs, earlier, note, refused, allowed, mend, before }
     }
 
     pub fn press(&mut self, what: &str) {
@@ -120,6 +122,8 @@ impl Beside {
         };
         lines.extend(["start", "advance", "cancel"].map(|call| format!("disabled\t{}\t{}", call, refuses(call))));
         lines.extend((0..done).map(|i| format!("part\t{}", self.sentence(i))));
+        let hidden = state != Some(State::Answered);
+        lines.extend(self.mend.iter().map(|mend| format!("mend\t{}\t{}", hidden, mend)));
         for &v in shown {
             lines.extend(self.node(v, shown));
             lines.extend(self.edge(v, shown));
@@ -381,4 +385,62 @@ fn allowed_by_runs(panel: &Panel) -> Option<Vec<LabelSet>> {
     let clears = |v: u16, label: &u8| panel.fresh_run(&[(v, *label)]).unwrap().yes;
     let bits = |v: u16| (0..labels).filter(|label| clears(v, label)).fold(0, |bits, label| bits | 1 << label);
     (nodes <= 100).then(|| (0..nodes).map(|v| LabelSet::from_bits(bits(v))).collect())
+}
+
+/// The least that must change on a plan with changes made, whose nodes keep their labels.
+fn mend(changed: &Panel, changes: &[(u16, u8)], names: &Names) -> Option<String> {
+    let listed: Vec<u16> = changes.iter().map(|change| change.0).collect();
+    let every = changed.may_change();
+    let may = if listed.is_empty() { every } else { every.keep(&listed).unwrap() };
+    let fewest = changed.fewest(Want::Cleared, &may).unwrap();
+    let (kept, noun) =
+        if changes.is_empty() { ("", "change") } else { ("With the question's changes kept, ", "more change") };
+    let said = match &fewest {
+        Fewest::AsItIs => return None,
+        Fewest::NoWay => format!("{} clears the plan.", if changes.is_empty() { "Nothing" } else { "nothing" }),
+        Fewest::Number(least) => {
+            format!("{} clear the plan, and no fewer do: too many to be listed.", count(*least, noun))
+        }
+        Fewest::Changes(list) if list.len() == 1 => format!("1 {} clears the plan.", noun),
+        Fewest::Changes(list) => format!("{} clear the plan, and no fewer do.", count(list.len() as u32, noun)),
+    };
+    let list = match fewest {
+        Fewest::Changes(list) => list,
+        _ => return Some(format!("{}{}\t", kept, said)),
+    };
+    assert!(list.iter().all(|change| !listed.contains(&change.0)), "the question's changes are kept");
+    no_fewer_clear(changed, &listed, list.len());
+    let answer = changed.clone().ask(&list).unwrap();
+    let fresh = changed.fresh_run(&list).unwrap();
+    assert!(fresh.yes && answer.yes && fresh.state == answer.state);
+    let change = |&(v, to): &(u16, u8)| {
+        let from = changed.node(v).unwrap().label;
+        format!("node {} from label {} to {}", v, names.label(from), names.label(to))
+    };
+    let listed: Vec<String> = list.iter().map(change).collect();
+    let then = format!("Then the plan is cleared, state {}.", names.state(fresh.state));
+    let by = "The list is the library's answer, by whatif_fewest; the verdict is a fresh run's.";
+    let climbs = format!("{}, {} passed over", count(answer.links, "link"), count(answer.passed, "node"));
+    let picture = format!("cleared, state {}, {}, {}", names.state(answer.state), count(answer.parts, "part"), climbs);
+    let title = format!("The mended plan: {}. (before: the plan with the question's changes)", picture);
+    Some(format!("{}{} / {} / {} / {}\t{}", kept, said, listed.join(" / "), then, by, title))
+}
+
+/// On a small plan no list of one change fewer clears it, by fresh runs; shorter ones are lists with own labels.
+fn no_fewer_clear(changed: &Panel, listed: &[u16], least: usize) {
+    let (nodes, labels) = (changed.plan().nodes() as u16, changed.rules().labels() as u8);
+    if nodes > 31 || least > 3 {
+        return;
+    }
+    let mut lists: Vec<Vec<(u16, u8)>> = vec![vec![]];
+    for _ in 1..least {
+        let longer = |list: &Vec<(u16, u8)>| {
+            let first = list.last().map_or(0, |change| change.0 + 1);
+            let nodes = (first..nodes).filter(|v| !listed.contains(v));
+            let changes = nodes.flat_map(|v| (0..labels).map(move |label| (v, label)));
+            changes.map(|change| [&list[..], &[change]].concat()).collect::<Vec<_>>()
+        };
+        lists = lists.iter().flat_map(longer).collect();
+    }
+    assert!(lists.iter().all(|list| !changed.fresh_run(list).unwrap().yes), "fewer are enough");
 }

@@ -9,7 +9,13 @@ function look() {
   for (const id of ['read', 'refused']) note(id, said(id));
   for (const id of ['start', 'advance', 'cancel']) note('disabled', id, byId(id).getAttribute('aria-disabled'));
   for (const item of document.querySelectorAll('#parts li:not([hidden])')) note('part', item.textContent);
-  const groups = [...document.querySelectorAll('svg .node')];
+  const mend = byId('mend');
+  if (mend) {
+    const words = [...mend.querySelectorAll('p, li')].map(element => element.textContent);
+    const title = mend.querySelector('svg > title');
+    note('mend', mend.hidden, words.join(' / '), title ? title.textContent : '');
+  }
+  const groups = [...document.querySelectorAll('#tree .node')];
   groups.sort((a, b) => Number(a.id.slice(1)) - Number(b.id.slice(1)));
   for (const group of groups) {
     const lines = [...group.querySelectorAll('.head, .line')].map(text => text.textContent);
