@@ -1,14 +1,17 @@
 -- What the builds and the full checks answer, and what they leave in the caller's buffers.
 --
 -- buildingNumber a, checkNumber a == document 01's number of an answer: 0 accepted, else the refusal's
+-- checkingTold a == document 01's number and value of a full check's answer: 0 with yes or no, or the refusal's number
+--   alone
 -- buildAnswer n, checkAnswer n same == the answer of a build, or of a full check, whose first failing check is n (0: none)
 -- written n table entry == what a buffer holds afterwards: the table and the entry's excess, or the entry where refused
 -- BuildDone == a build's promise: the answer, its number and both buffers, on every input
 -- CheckDone == a full check's promise
 use Prim.Native.Nat.{ℕ, zero, suc}
 use mathlib.Core.Path.{_≡_}
-use mathlib.Core.Bool.{Bool, cond, _&&_}
+use mathlib.Core.Bool.{Bool, true, false, cond, _&&_}
 use mathlib.Core.List.{List, _++_}
+use mathlib.Core.Option.{Option, none, some}
 use lib.Dec.{eqb}
 use lib.ListN.{length, take, drop}
 use Rattle.list_laws.specs.Tests.{sameList}
@@ -21,10 +24,14 @@ unfoldable pub buildingNumber : Building → ℕ
 buildingNumber Built = 0
 buildingNumber (Refused n) = n
 
+-- "The first no gives its number; nothing else is returned and nothing is altered."
+abbrev pub checkingTold : Checking → ℕ × Option Bool
+checkingTold Yes = (0, some true)
+checkingTold No = (0, some false)
+checkingTold (NotChecked n) = (n, none)
+
 unfoldable pub checkNumber : Checking → ℕ
-checkNumber Yes = 0
-checkNumber No = 0
-checkNumber (NotChecked n) = n
+checkNumber a = checkingTold a .0
 
 unfoldable pub buildAnswer : ℕ → Building
 buildAnswer zero = Built

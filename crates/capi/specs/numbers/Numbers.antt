@@ -14,8 +14,7 @@ use mathlib.Core.List.{List}
 use mathlib.Core.Option.{Option, none, some}
 use Rattle.tables.specs.declared.answers.Building.{Building}
 use Rattle.tables.specs.declared.answers.Checking.{Checking}
-use Rattle.tables.specs.declared.answers.Checking.the-variants.{Yes, No, Refused as NotChecked}
-use Rattle.tables.specs.Answers.{buildingNumber, checkNumber, BuildDone, CheckDone}
+use Rattle.tables.specs.Answers.{buildingNumber, checkingTold, checkNumber, BuildDone, CheckDone}
 
 abbrev pub bitOf : Bool → ℕ
 bitOf true = 1
@@ -34,9 +33,7 @@ pub record BuildExported (n : ℕ) (links states nodeTable stateTable : List ℕ
   pub result : r ≡ buildingNumber answer
 
 abbrev pub yesOf : Checking → ℕ → ℕ
-yesOf Yes old = 1
-yesOf No old = 0
-yesOf (NotChecked n) old = old
+yesOf a old = onAnswer (checkingTold a .1) bitOf old
 
 pub record CheckNumber (a : Checking) (yes₀ r yes₁ : ℕ) : Type 0 where
   pub result : r ≡ checkNumber a
