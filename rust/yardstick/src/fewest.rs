@@ -1,6 +1,6 @@
 //! The fewest changes: for each node and state the least number of changes, up; then the labels that attain the root's,
-//! down. A row of the work space has the size of a node's subtree, then its costs. Labels are tried one by one, or all
-//! at once: where every label is permitted, the states that some label leads to are the same at every node.
+//! down. A row of the work space has the size of a node's subtree, then its costs. Where every node may take every label,
+//! and there are more labels than states, all labels are tried at once: the states that some label leads to.
 
 use crate::checks::{self, Plan, Rules};
 
@@ -31,9 +31,9 @@ fn members(mut set: u64) -> impl Iterator<Item = usize> {
 }
 
 impl<'a> Problem<'a> {
-    fn new(plan: Plan<'a>, rules: Rules<'a>, may: &'a [u64], cleared: bool, by_images: bool) -> Problem<'a> {
+    fn new(plan: Plan<'a>, rules: Rules<'a>, may: &'a [u64], cleared: bool) -> Problem<'a> {
         let (s, k) = (rules.s, rules.k);
-        let mut images = vec![0; if by_images && may.is_empty() { s * s } else { 0 }];
+        let mut images = vec![0; if may.is_empty() && s < k { s * s } else { 0 }];
         for (pair, image) in images.iter_mut().enumerate() {
             let (p, q) = (pair / s, pair % s);
             *image = (0..k).fold(0, |all, b| all | 1 << rules.inner[(p * k + b) * s + q]);
@@ -169,36 +169,12 @@ impl<'a> Problem<'a> {
     }
 }
 
-/// The least number of changes and how many are listed; 2 to 10, 17 or 11. Labels are tried one by one.
+/// The least number of changes and how many are listed; 2 to 10, 17 or 11.
 pub fn fewest(
     plan: &[u8],
     rules: &[u8],
     may: &[u64],
     cleared: bool,
-    work: &mut [u32],
-    list: (&mut [u16], &mut [u8]),
-) -> Result<(u32, u32), u32> {
-    answer(plan, rules, may, (cleared, false), work, list)
-}
-
-/// The same; where no sets are given, all labels are tried at once.
-pub fn fewest_by_images(
-    plan: &[u8],
-    rules: &[u8],
-    may: &[u64],
-    cleared: bool,
-    work: &mut [u32],
-    list: (&mut [u16], &mut [u8]),
-) -> Result<(u32, u32), u32> {
-    answer(plan, rules, may, (cleared, true), work, list)
-}
-
-#[inline(always)]
-fn answer(
-    plan: &[u8],
-    rules: &[u8],
-    may: &[u64],
-    (cleared, by_images): (bool, bool),
     work: &mut [u32],
     (nodes, labels): (&mut [u16], &mut [u8]),
 ) -> Result<(u32, u32), u32> {
@@ -210,7 +186,7 @@ fn answer(
     if work.len() < plan.n * (rules.s + 1) || nodes.len() < LISTED || labels.len() < LISTED {
         return Err(11);
     }
-    let problem = Problem::new(plan, rules, may, cleared, by_images);
+    let problem = Problem::new(plan, rules, may, cleared);
     if problem.as_it_is() {
         return Ok((0, 0));
     }

@@ -40,7 +40,7 @@ pub use branch::{ask, ask_with_upper, branch_build, branch_check, Told};
 pub use colour_branch::{ask_colours, ask_colours_with_upper, colour_branch_build, ColourTold};
 pub use colour_rules::{colour_ask, colour_build, ColourAnswer};
 pub use count::count;
-pub use fewest::{fewest, fewest_by_images, FAR};
+pub use fewest::{fewest, FAR};
 pub use fresh::fresh_run;
 pub use lists::lay_over;
 pub use merge::merge;

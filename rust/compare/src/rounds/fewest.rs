@@ -173,17 +173,14 @@ pub fn right(case: &Case, random: &mut Random, counts: &mut Counts) {
     });
 }
 
-/// Both forms of plain Rust.
 fn by_yardstick(case: &Case, may: &[u64], cleared: bool, told: &Told) {
     let (plan, rules) = (read_plan(&case.plan).unwrap(), read_rules(&case.rules).unwrap());
-    for fewest in [yardstick::fewest, yardstick::fewest_by_images] {
-        let (mut work, mut nodes, mut labels) = (vec![7; case.state_table_len()], [0; MOST_LISTED], [0; MOST_LISTED]);
-        let plain = fewest(&case.plan, &case.rules, may, cleared, &mut work, (&mut nodes, &mut labels));
-        let (number, count) = plain.expect("accepted by plain Rust");
-        assert_eq!((number, count as usize), (told.least, told.nodes.len()), "plain Rust's number");
-        let (nodes, labels) = (nodes[..count as usize].to_vec(), labels[..count as usize].to_vec());
-        list_holds(&plan, &rules, may, cleared, &Told { least: number, nodes, labels });
-    }
+    let (mut work, mut nodes, mut labels) = (vec![7; case.state_table_len()], [0; MOST_LISTED], [0; MOST_LISTED]);
+    let plain = yardstick::fewest(&case.plan, &case.rules, may, cleared, &mut work, (&mut nodes, &mut labels));
+    let (number, count) = plain.expect("accepted by plain Rust");
+    assert_eq!((number, count as usize), (told.least, told.nodes.len()), "plain Rust's number");
+    let (nodes, labels) = (nodes[..count as usize].to_vec(), labels[..count as usize].to_vec());
+    list_holds(&plan, &rules, may, cleared, &Told { least: number, nodes, labels });
 }
 
 /// The wrapper's answer, and what may change as its builder has it.
