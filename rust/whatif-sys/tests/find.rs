@@ -96,7 +96,10 @@ fn pkg_config() {
         assert_eq!(by_pkg_config(None), there);
         return;
     }
-    assert!(Command::new("pkg-config").arg("--version").output().is_ok(), "this test needs pkg-config (Debian's pkgconf)");
+    assert!(
+        Command::new("pkg-config").arg("--version").output().is_ok(),
+        "this test needs pkg-config (Debian's pkgconf)"
+    );
     let text = format!("Name: whatif\nDescription: x\nVersion: {}\nLibs: -L${{pcfiledir}} -lwhatif\n", OWN_VERSION);
     let (whole, empty) = (Folder::with("pc", &["libwhatif.a", "whatif.pc"]), Folder::with("no-pc", &["other"]));
     fs::write(whole.0.join("whatif.pc"), text).unwrap();
