@@ -1,12 +1,12 @@
 // Which word a branch question reads: with the upper node's label, or from below the upper node.
-#[derive(Drop)]
+#[derive(Clone, Copy)]
 pub enum Reading {
     WithUpper,
     BelowUpper,
 }
 
 // The state at the end of a word, whether it is marked, the links of the climb, and the nodes that it passed over.
-#[derive(Drop)]
+#[derive(Clone, Copy)]
 pub struct Branched {
     pub state: u8,
     pub marked: bool,
@@ -15,7 +15,7 @@ pub struct Branched {
 }
 
 // The answer of a branch question, or a refusal's number.
-#[derive(Drop)]
+#[derive(Clone, Copy)]
 pub enum Branching {
     Answered(Branched),
     Refused(u8),

@@ -12,7 +12,7 @@ use formats::limits::CHANGE_LIMIT;
 use formats::lists::{is_listed, lists_fit};
 
 // The first `count` nodes are those that are left, each once; the rest is zero.
-#[derive(Drop)]
+#[derive(Clone, Copy)]
 pub struct LeftNodes {
     pub count: usize,
     pub nodes: [u16; CHANGE_LIMIT],

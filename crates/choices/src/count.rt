@@ -15,7 +15,7 @@ use formats::rules::all_below;
 use questions::roots::roots;
 
 // The answer's number, the counts by state, how many parts there were and the links of their climbs.
-#[derive(Drop)]
+#[derive(Clone, Copy)]
 pub struct Counted {
     pub answer: u8,
     pub counts: [u64; STATE_LIMIT],

@@ -10,7 +10,7 @@ use questions::part::last_below;
 use tables::node_tables::moves::size_at;
 
 // The labels that a node may have: those from `first` to before `end`.
-#[derive(Drop)]
+#[derive(Clone, Copy)]
 pub struct LabelRange {
     pub first: usize,
     pub end: usize,
@@ -33,7 +33,7 @@ fn label_range(labels: &[u8], k: usize, free: bool, v: usize) -> LabelRange
 
 // The left child of a part's root, and the places from 1, among the earlier roots, of the last below the left child and
 // of the last below the right one; 0 for none.
-#[derive(Drop)]
+#[derive(Clone, Copy)]
 pub struct Places {
     pub ok: bool,
     pub child: usize,

@@ -15,19 +15,19 @@ use session::answers::{CallAnswer, ReadAnswer, StartAnswer};
 use session::state::Session;
 
 // An answer to Start, to Cancel and to a deal, with the eight records that it leaves.
-#[derive(Drop)]
+#[derive(Clone, Copy)]
 pub struct StartedOn {
     pub answer: StartAnswer,
     pub all: [Session; 8],
 }
 
-#[derive(Drop)]
+#[derive(Clone, Copy)]
 pub struct CalledOn {
     pub answer: CallAnswer,
     pub all: [Session; 8],
 }
 
-#[derive(Drop)]
+#[derive(Clone, Copy)]
 pub struct DealtOn {
     pub answer: DealAnswer,
     pub all: [Session; 8],
@@ -117,7 +117,7 @@ fn next_after(answer: DealAnswer, first: usize) -> usize
 }
 
 // Eight records after some deals, and the screen to try first next.
-#[derive(Drop)]
+#[derive(Clone, Copy)]
 pub struct Dealt {
     pub all: [Session; 8],
     pub next: usize,
@@ -156,7 +156,7 @@ fn deal_by(
 // The parts that Start returns on two screens, the screen to try first after the deals, the number of Cancel of the
 // second, and what Read returns of the first.
 #[repr(C)]
-#[derive(Drop)]
+#[derive(Clone, Copy)]
 pub struct Eight {
     pub parts: u32,
     pub others: u32,

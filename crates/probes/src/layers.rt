@@ -12,7 +12,7 @@ use tables::answers::Climbed;
 
 // A part's state and links.
 #[repr(C)]
-#[derive(Drop)]
+#[derive(Clone, Copy)]
 pub struct Part {
     pub state: u32,
     pub links: u32,

@@ -10,7 +10,7 @@ use session::state::{Phase, Session, Sizes, idle, no_last};
 
 // A question's parts, and its links so far.
 #[repr(C)]
-#[derive(Drop)]
+#[derive(Clone, Copy)]
 pub struct Steps {
     pub parts: u32,
     pub links: u32,
@@ -18,7 +18,7 @@ pub struct Steps {
 
 // What Read returns.
 #[repr(C)]
-#[derive(Drop)]
+#[derive(Clone, Copy)]
 pub struct Question {
     pub state: u32,
     pub yes: bool,
@@ -171,7 +171,7 @@ pub extern "C" fn probe_question(
 // The numbers of Load and Cancel, the parts that the first Start returns, and what Read returns for the question asked
 // again.
 #[repr(C)]
-#[derive(Drop)]
+#[derive(Clone, Copy)]
 pub struct Life {
     pub load: u32,
     pub parts: u32,

@@ -18,7 +18,7 @@ use formats::rules::{check_rule_bytes, inner_count};
 
 // The number of a refusal, or 0; how many lines are shown, 0 where the tables agree; the lines. Line i is a leaf (kind 0) with label
 // labels[i], or an inner node (kind 1) over the earlier lines lefts[i] and rights[i]; the last line is the root. What no line uses is 0.
-#[derive(Drop)]
+#[derive(Clone, Copy)]
 pub struct Agreement {
     pub number: u8,
     pub count: usize,

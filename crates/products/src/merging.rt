@@ -17,7 +17,7 @@ use formats::limits::STATE_LIMIT;
 use formats::rules::{check_rule_bytes, inner_count};
 
 // Written, or the number of a refusal.
-#[derive(Drop)]
+#[derive(Clone, Copy)]
 pub enum MergeAnswer {
     Merged,
     Refused(u8),

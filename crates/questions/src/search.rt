@@ -9,7 +9,7 @@ ghost use Rattle.questions.specs.inner.SearchAnswers.{meeting_of, target_of, ris
 use tables::node_tables::moves::{depth_at, is_below, jump_at, parent_at};
 
 // A node, or that a value read leads outside the plan or a move does not rise.
-#[derive(Drop)]
+#[derive(Clone, Copy)]
 pub enum Meeting {
     At(usize),
     Outside,

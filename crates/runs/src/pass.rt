@@ -8,7 +8,7 @@ use formats::rules::rule;
 
 // Before a node's iteration: the node's index in the kinds given, how many trees wait, and the state of the last
 // completed. Those of the others are in an array.
-#[derive(Drop)]
+#[derive(Clone, Copy)]
 pub struct Waiting {
     pub node: usize,
     pub count: usize,

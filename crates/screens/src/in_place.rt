@@ -16,7 +16,7 @@ use session::answers::{AdvanceAnswer, CallAnswer, ReadAnswer, StartAnswer};
 use session::state::{Phase, Session};
 
 // A deal: more or finished, with the screen to try first next time; or a refusal's number.
-#[derive(Drop)]
+#[derive(Clone, Copy)]
 pub enum DealAnswer {
     More(u8),
     Finished(u8),

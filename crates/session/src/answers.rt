@@ -2,21 +2,21 @@
 use crate::state::{Head, Session};
 
 // Load and Cancel: accepted, or a refusal's number.
-#[derive(Drop)]
+#[derive(Clone, Copy)]
 pub enum CallAnswer {
     Accepted,
     Refused(u8),
 }
 
 // Start: the number of parts, or a refusal's number.
-#[derive(Drop)]
+#[derive(Clone, Copy)]
 pub enum StartAnswer {
     Parts(u8),
     Refused(u8),
 }
 
 // Advance: whether there is more, or a refusal's number.
-#[derive(Drop)]
+#[derive(Clone, Copy)]
 pub enum AdvanceAnswer {
     More,
     Finished,
@@ -25,7 +25,7 @@ pub enum AdvanceAnswer {
 
 // What Read returns of a finished question: the root's state, the yes or no, the number of parts, the links of all
 // climbs and the nodes that they passed over.
-#[derive(Drop)]
+#[derive(Clone, Copy)]
 pub struct Outcome {
     pub state: u8,
     pub yes: bool,
@@ -35,33 +35,33 @@ pub struct Outcome {
 }
 
 // Read: the outcome, or a refusal's number.
-#[derive(Drop)]
+#[derive(Clone, Copy)]
 pub enum ReadAnswer {
     Outcome(Outcome),
     Refused(u8),
 }
 
 // An answer with the record that the call leaves.
-#[derive(Drop)]
+#[derive(Clone, Copy)]
 pub struct Called {
     pub answer: CallAnswer,
     pub session: Session,
 }
 
-#[derive(Drop)]
+#[derive(Clone, Copy)]
 pub struct Started {
     pub answer: StartAnswer,
     pub session: Session,
 }
 
-#[derive(Drop)]
+#[derive(Clone, Copy)]
 pub struct Advanced {
     pub answer: AdvanceAnswer,
     pub session: Session,
 }
 
 // What an advance finds: its answer, the record's head after it, whether it stores a state, and which.
-#[derive(Drop)]
+#[derive(Clone, Copy)]
 pub struct AdvanceStep {
     pub answer: AdvanceAnswer,
     pub head: Head,

@@ -12,7 +12,7 @@ use formats::limits;
 use formats::limits::{CHANGE_LIMIT, PART_LIMIT};
 
 // Which of the four states a session is in.
-#[derive(Drop)]
+#[derive(Clone, Copy)]
 pub enum Phase {
     Empty,
     Loaded,
@@ -21,7 +21,7 @@ pub enum Phase {
 }
 
 // N, S and K: how many nodes, states and labels there are.
-#[derive(Drop)]
+#[derive(Clone, Copy)]
 pub struct Sizes {
     pub n: u16,
     pub s: u8,
@@ -29,7 +29,7 @@ pub struct Sizes {
 }
 
 // The last finished answer, and whether there is one; all zero where there is none.
-#[derive(Drop)]
+#[derive(Clone, Copy)]
 pub struct Last {
     pub present: bool,
     pub outcome: Outcome,
@@ -38,7 +38,7 @@ pub struct Last {
 // The record without its arrays: the state, the yes or no once answered, N, S and K, how many changes are listed, how
 // many parts there are, how many are handled, the links and the nodes passed over so far, and the last finished answer.
 // Tests take it beside references to the arrays, so that the record is not copied for them.
-#[derive(Drop)]
+#[derive(Clone, Copy)]
 pub struct Head {
     pub phase: Phase,
     pub yes: bool,
@@ -53,7 +53,7 @@ pub struct Head {
 
 // The session's record: its head, the changes as listed, the roots of the parts and the states of the parts handled so far.
 // Unused entries are zero.
-#[derive(Drop)]
+#[derive(Clone, Copy)]
 pub struct Session {
     pub head: Head,
     pub nodes: [u16; CHANGE_LIMIT],
@@ -75,12 +75,7 @@ impl Session {
     // A session with nothing loaded.
     pub fn fresh() -> Session
         ensures value { result ≡ fresh_session }
-        ensures* fact { do
-          n ← (⟦Session::NODE_LIMIT⟧).entry
-          s ← (⟦Session::STATE_LIMIT⟧).entry
-          k ← (⟦Session::LABEL_LIMIT⟧).entry
-          m ← (⟦Session::CHANGE_LIMIT⟧).entry
-          ⌜ LimitsAre n s k m ⌝ }
+        ensures limits { LimitsAre Session.NODE_LIMIT Session.STATE_LIMIT Session.LABEL_LIMIT Session.CHANGE_LIMIT }
     {
         let sizes = Sizes { n: 0, s: 0, k: 0 };
         let last = no_last();

@@ -7,7 +7,7 @@ ghost use Rattle.table_checks.specs.inner.PairPlaces.{PairPlaced};
 use crate::siblings::left_in;
 
 // The left child, where the steps of both children begin in the inner states, and the state's difference.
-#[derive(Drop)]
+#[derive(Clone, Copy)]
 pub struct Pair {
     pub left: usize,
     pub row: usize,

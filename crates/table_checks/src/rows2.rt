@@ -11,7 +11,7 @@ use crate::siblings::inside;
 use formats::layout::{JUMP, NODE_COLUMNS};
 
 // What node v and its jump make of the states 0 and 1 of its children; the states themselves where they are near.
-#[derive(Drop)]
+#[derive(Clone, Copy)]
 struct Two {
     zero: u8,
     one: u8,

@@ -1,12 +1,12 @@
 // The answer of a build: done, or the number of the first check that failed.
-#[derive(Drop)]
+#[derive(Clone, Copy)]
 pub enum Building {
     Built,
     Refused(u8),
 }
 
 // The answer of a full check: whether the tables are what the build writes, or the number of the first check that failed.
-#[derive(Drop)]
+#[derive(Clone, Copy)]
 pub enum Checking {
     Yes,
     No,
@@ -14,7 +14,7 @@ pub enum Checking {
 }
 
 // The state that a climb or a part ends in, the links that led to it, and the nodes that they passed over.
-#[derive(Drop)]
+#[derive(Clone, Copy)]
 pub struct Reached {
     pub state: u8,
     pub links: u32,
@@ -23,7 +23,7 @@ pub struct Reached {
 
 // What a climb or a part ends in; or that a value read led outside the plan, the states or the labels, or that a climb
 // did not rise.
-#[derive(Drop)]
+#[derive(Clone, Copy)]
 pub enum Climbed {
     Reached(Reached),
     OutOfRange,

@@ -9,7 +9,7 @@ use crate::lookups::{rule_on, run_on, sibling_on};
 use crate::node_tables::moves::{NextMove, depth_at, next_move};
 
 // The node that a move leads to and the state there: no state where the number is not below S.
-#[derive(Drop)]
+#[derive(Clone, Copy)]
 pub struct Landed {
     pub node: usize,
     pub state: usize,

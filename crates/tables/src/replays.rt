@@ -22,7 +22,7 @@ const NO_STATE: u8 = 255;
 
 // One move, remembered as twice its node, and 1 more where it is by the jump; and the node that it leads to. Or that
 // there is none.
-#[derive(Drop)]
+#[derive(Clone, Copy)]
 pub struct Note {
     pub ok: bool,
     pub code: u32,
@@ -31,7 +31,7 @@ pub struct Note {
 
 // The moves of a climb that were remembered: how many, and the node that they lead to. Or that the climb does not go
 // on.
-#[derive(Drop)]
+#[derive(Clone, Copy)]
 pub struct Part {
     pub ok: bool,
     pub count: usize,

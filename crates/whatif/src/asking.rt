@@ -13,7 +13,7 @@ use session::state::Session;
 // The progress of the questions after a read: how many bytes came with it, how many the lines that they completed have,
 // how many came of the question that is not yet whole, how many are still to come, how many were handed to the system
 // in all, and whether the last were written.
-#[derive(Drop)]
+#[derive(Clone, Copy)]
 pub struct Turn {
     pub came: usize,
     pub end: usize,

@@ -11,7 +11,7 @@ use crate::question::{keep, kept_changes, labels_in, nodes_in, question_length};
 use session::state::Session;
 
 // How many bytes of the question that is not yet whole came, and where the text of the lines ends.
-#[derive(Drop)]
+#[derive(Clone, Copy)]
 pub struct Taken {
     pub have: usize,
     pub end: usize,

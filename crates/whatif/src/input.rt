@@ -109,7 +109,7 @@ pub fn read_some(most: usize, chunk: &mut [u8]) -> usize
 }
 
 // How many bytes were asked for, and how many came.
-#[derive(Drop)]
+#[derive(Clone, Copy)]
 pub struct ReadCount {
     pub asked: usize,
     pub count: usize,

@@ -33,14 +33,14 @@ use session::answers::CallAnswer;
 use session::state::Session;
 
 // How many bytes came of the questions, and how many were handed to the system.
-#[derive(Drop)]
+#[derive(Clone, Copy)]
 struct QuestionBytes {
     came: usize,
     sent: usize,
 }
 
 // What came of the plan and the rules, how many bytes of the questions, and how many were handed to the system.
-#[derive(Drop)]
+#[derive(Clone, Copy)]
 struct ProgramRun {
     plan: ReadCount,
     rules: ReadCount,
@@ -118,7 +118,7 @@ fn answer(head: &[u8], plan: &mut [u8], rules: &mut [u8]) -> ProgramRun
 }
 
 // What came of the twelve length bytes, and then of the rest.
-#[derive(Drop)]
+#[derive(Clone, Copy)]
 struct Whole {
     head: ReadCount,
     rest: ProgramRun,

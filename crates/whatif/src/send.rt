@@ -8,7 +8,7 @@ ghost use Rattle.whatif.specs.Turns.{Lines};
 use libc::STDOUT_FILENO;
 
 // How many bytes were handed to the system, and whether it took them all.
-#[derive(Drop)]
+#[derive(Clone, Copy)]
 pub struct Sent {
     pub bytes: usize,
     pub is_written: bool,

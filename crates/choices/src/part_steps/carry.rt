@@ -9,7 +9,7 @@ use tables::answers::Climbed;
 use tables::climb::climb_state;
 
 // Whether every climb ended in a state, and the links of a climb.
-#[derive(Drop)]
+#[derive(Clone, Copy)]
 pub struct Carried {
     pub ok: bool,
     pub links: u32,

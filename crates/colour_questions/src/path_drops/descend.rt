@@ -10,7 +10,7 @@ use crate::path_drops::drops::{Dropping, next_drop, seen_at};
 use formats::layout::NODE_COLUMNS;
 
 // The colour at the end, the drops and the links of all searches; or that a value read leads outside.
-#[derive(Drop)]
+#[derive(Clone, Copy)]
 pub enum Descended {
     Reached(usize, u32, u32),
     NotReached,

@@ -10,7 +10,7 @@ use crate::path_drops::search::{Searched, search};
 use tables::node_tables::moves::{depth_at, parent_at, size_at};
 
 // What comes next: no drop, nothing that can be found, or a drop at a node, to a colour, found by some links.
-#[derive(Drop)]
+#[derive(Clone, Copy)]
 pub enum Dropping {
     Done,
     Lost,

@@ -8,7 +8,7 @@ ghost use Rattle.colour_questions.specs.path_drops.inner.Search.{next_node, sear
 use tables::node_tables::moves::{NextMove, depth_at, next_move};
 
 // Where a search ends, and its links; or that it would leave the nodes or not rise.
-#[derive(Drop)]
+#[derive(Clone, Copy)]
 pub enum Searched {
     Found(usize, u32),
     NotFound,

@@ -8,7 +8,7 @@ use colour_tables::rows::places::place_of;
 use colour_tables::sets::bits::bit_of;
 
 // The state found, with the drops of all trials and the links of their searches; or that there is none.
-#[derive(Drop)]
+#[derive(Clone, Copy)]
 pub enum Trial {
     State(u8, u32, u32),
     NoState,
@@ -16,7 +16,7 @@ pub enum Trial {
 
 // One trial: whether the set that the target leads down to holds the state, with its drops and links; or that it has no
 // end.
-#[derive(Drop)]
+#[derive(Clone, Copy)]
 pub enum Tested {
     Ended(bool, u32, u32),
     NotEnded,

@@ -9,7 +9,7 @@ use tables::node_tables::down::by_distances;
 use tables::node_tables::moves::{parent_at, size_at};
 
 // A node's parent, jump and depth.
-#[derive(Drop)]
+#[derive(Clone, Copy)]
 pub struct Row {
     pub up: u16,
     pub jump: u16,

@@ -178,7 +178,7 @@ fn find_left(
 }
 
 // A way into a state: the children's states and the label.
-#[derive(Drop)]
+#[derive(Clone, Copy)]
 pub struct Choice {
     pub left: usize,
     pub right: usize,

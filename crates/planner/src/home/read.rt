@@ -9,7 +9,7 @@ use formats::layout::PLAN_HEAD;
 
 // How many entries the stack has, how many inner nodes are still to be read, and how many of the list that is being
 // read are read.
-#[derive(Drop)]
+#[derive(Clone, Copy)]
 pub struct Walk {
     pub depth: usize,
     pub left: usize,

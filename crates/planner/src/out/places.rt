@@ -7,7 +7,7 @@ ghost use Rattle.planner.specs.out.inner.Stack.{Pushed, CloseArgs, ListsClosed, 
 ghost use Rattle.planner.specs.out.inner.Stack.{NodesPlaced};
 
 // How far the stack goes, and the next place.
-#[derive(Drop)]
+#[derive(Clone, Copy)]
 pub struct Cursor {
     pub depth: usize,
     pub next: usize,
@@ -15,7 +15,7 @@ pub struct Cursor {
 
 // The cursor, how many nodes of the list that is being read are still to come, and 1 where the next node is the first
 // of its list.
-#[derive(Drop)]
+#[derive(Clone, Copy)]
 pub struct Walk {
     pub depth: usize,
     pub next: usize,

@@ -20,7 +20,7 @@ use formats::limits::STATE_LIMIT;
 pub const PAIR_LIMIT: usize = STATE_LIMIT * STATE_LIMIT;
 
 // Line i is a leaf (kind 0) or an inner node (kind 1) over lines lefts[i] and rights[i]; its tree has state codes[i].
-#[derive(Drop)]
+#[derive(Clone, Copy)]
 pub struct Search {
     pub kinds: [u8; PAIR_LIMIT],
     pub labels: [u8; PAIR_LIMIT],

@@ -12,7 +12,7 @@ use session::answers::CallAnswer;
 use session::state::Session;
 
 // A Load's answer, with the eight records that it leaves.
-#[derive(Drop)]
+#[derive(Clone, Copy)]
 pub struct LoadedAll {
     pub answer: CallAnswer,
     pub all: [Session; SCREENS],

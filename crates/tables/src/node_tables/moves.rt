@@ -9,7 +9,7 @@ use formats::layout::{DEPTH, JUMP, NODE_COLUMNS, SIZE};
 
 // Where a climb goes next: by a jump or to a parent, each with the node it leads to. Stuck where the move would leave
 // the plan or not rise, which never happens on a table as built.
-#[derive(Drop)]
+#[derive(Clone, Copy)]
 pub enum NextMove {
     Jump(usize),
     Parent(usize),
