@@ -7,11 +7,11 @@ use Rattle.screens.proofs.one_past.Tie as tie
 use Rattle.screens.proofs.one_past.Reads as reads
 use Rattle.screens.proofs.one_past.Lts as lts
 
-returns : tie.Need-returns
-returns c = (simp (lt-ltb _ _ c.if1.true) (omega arith), omega arith)
+returns : tie.Need-returns-then-i-lt-LAST_SCREEN
+returns c = (simp (lt-ltb _ _ c.if-i-lt-LAST_SCREEN.true) (omega arith), omega arith)
 
-returns-2 : tie.Need-returns-2
-returns-2 c = (simp (le-ltb _ _ c.if1.false), omega arith)
+returns-2 : tie.Need-returns
+returns-2 c = (simp (le-ltb _ _ c.if-i-lt-LAST_SCREEN.false), omega arith)
 
-pub one-past-spec : {M : Type 1} → statement M
-one-past-spec = tie.close (tie.spec (λ c. search rules) returns returns-2)
+pub one_past_spec : {M : Type 1} → statement M
+one_past_spec = tie.close (tie.spec (λ c. search rules) returns returns-2)

@@ -28,7 +28,7 @@ send-too-large-requires c κs =
     let h = (entered i).args.head.now in
     let n = (first i).length_at.ensures.0 in
     let m = i.before.length-at2.ensures.0 in
-    said-too-large h (too-large-by h _ _ _ true n m i.is-too-large.ensures c.before.if1.true)
+    said-too-large h (too-large-by h _ _ _ true n m i.is_too_large.ensures c.before.if1.true)
 
 returns : tie.Need-returns
 returns c =
@@ -36,11 +36,11 @@ returns c =
     let h = (entered i).args.head.now in
     let n = (first i).length_at.ensures.0 in
     let m = i.before.length-at2.ensures.0 in
-    let t = too-large-by h _ _ _ true n m i.is-too-large.ensures c.before.before.if1.true in (
+    let t = too-large-by h _ _ _ true n m i.is_too_large.ensures c.before.before.if1.true in (
       record {
         questions = [];
         count = refl;
-        all = c.send-too-large.ensures ∙ sym (ap length (too-large-said h _ _ [] t));
+        all = c.send_too_large.ensures ∙ sym (ap length (too-large-said h _ _ [] t));
         plan_most = omega arith;
         rules_most = omega arith;
         came_most = omega arith;
@@ -56,7 +56,7 @@ returns-2 c =
     let h = (entered i).args.head.now in
     let n = (first i).length_at.ensures.0 in
     let m = i.before.length-at2.ensures.0 in
-    let t = too-large-by h _ _ _ false n m i.is-too-large.ensures p.before.before.if1.false in
+    let t = too-large-by h _ _ _ false n m i.is_too_large.ensures p.before.before.if1.false in
     let A = c.clear.ensures.0 in
     let P = p.read_whole.ensures in
     let R = r.read-whole2.ensures in (

@@ -37,12 +37,12 @@ put-questions-requires c κs =
     let d = m.before.before.before.before in
     let f = (freshly d).fresh in
     let a = (entered d).args in
-    let n = (nodes d).node-table-space.result in
-    let b = (states d).state-table-space.result in
+    let n = (nodes d).node_table_space.result in
+    let b = (states d).state_table_space.result in
     let l = d.load.result in (
       (entered d).requires.1,
       load-cleared f.result l.session a.plan.now a.rules.now n b _ _ l.answer f.ensures.0
-          m.enum_told.given.1 d.load.ensures,
+          m.enum_told-1.given.1 d.load.ensures,
     )
 
 returns : tie.Need-returns
@@ -51,13 +51,13 @@ returns c =
     let d = m.before.before.before.before in
     let f = (freshly d).fresh in
     let a = (entered d).args in
-    let n = (nodes d).node-table-space.result in
-    let b = (states d).state-table-space.result in
+    let n = (nodes d).node_table_space.result in
+    let b = (states d).state_table_space.result in
     let l = d.load.result in
-    let G = c.before.put-questions.ensures.1.0 in
+    let G = c.before.put_questions.ensures.1.0 in
     let s =
     loaded-said a.plan.now a.rules.now n b f.result l.session _ _ l.answer f.ensures.0 d.load.ensures
-    m.enum_told.given.1 G.questions in
+    m.enum_told-1.given.1 G.questions in
     (record { questions = G.questions; count = G.count; all = G.lines ∙ sym (ap length s) }, omega arith)
 
 abbrev done : tie.After-known-told → tie.After-load
@@ -70,8 +70,8 @@ refusal : (c : tie.After-known-told) (qs : List ℕ)
 refusal c =
     let d = done c in
     let f = (freshly d).fresh in
-    let n = (nodes d).node-table-space in
-    let b = (states d).state-table-space in
+    let n = (nodes d).node_table_space in
+    let b = (states d).state_table_space in
     let s = entered d in
     let l = d.load.result in
     refused-said s.args.plan.now s.args.rules.now n.result b.result f.result l.session _ _ l.answer
@@ -82,7 +82,7 @@ send-load-refusal-requires c κs = refusal c
 
 returns-2 : tie.Need-returns-2
 returns-2 c =
-    let e = c.send-load-refusal.ensures ∙ sym (ap length (refusal c.before [])) in
+    let e = c.send_load_refusal.ensures ∙ sym (ap length (refusal c.before [])) in
     (record { questions = []; count = refl; all = e }, omega arith)
 
 pub clear_spec : {M : Type 1} → statement M

@@ -29,7 +29,7 @@ send-refusal-requires c κs qs =
 returns : tie.Need-returns
 returns c =
     let p = c.before.before.before in
-    c.send-refusal.ensures ∙ ap length p.Put-refused.ensures.0.text
+    c.send_refusal.ensures ∙ ap length p.Put-refused.ensures.0.text
 
 pub send-load-refusal-spec : {M : Type 1} → statement M
 send-load-refusal-spec =

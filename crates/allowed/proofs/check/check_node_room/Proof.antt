@@ -12,27 +12,27 @@ use Rattle.allowed.proofs.check.check_node_room.Lts as lts
 use Rattle.formats.proofs.bytes.read32.Reads as read32-reads
 use Rattle.formats.proofs.inputs.check_rule_inputs.Reads as check-rule-inputs-reads
 
-returns : tie.Need-returns
-returns c = let g = c.before.before.before.before.args in first-no g.plan.now g.rules.now g.room c.before.check-rule-inputs.result
-    c.before.check-rule-inputs.ensures c.if1.true
+returns : tie.Need-returns-then-t-ne0
+returns c = let g = c.before.before.before.before.args in first-no g.plan.now g.rules.now g.room c.before.check_rule_inputs-t.result
+    c.before.check_rule_inputs-t.ensures c.if-t-ne0.true
 
-read32-requires : tie.Need-read32-requires
+read32-requires : tie.Need-read32-n-requires
 read32-requires c κs =
     let g = c.before.before.before.before.args in
-    omega (arith, (rule-table-passes g.plan.now g.rules.now (sym c.before.check-rule-inputs.ensures ∙ c.if1.false)).0.long)
+    omega (arith, (rule-table-passes g.plan.now g.rules.now (sym c.before.check_rule_inputs-t.ensures ∙ c.if-t-ne0.false)).0.long)
 
-returns-2 : tie.Need-returns-2
+returns-2 : tie.Need-returns-then-room-n
 returns-2 c =
     let g = c.before.before.before.before.before.before.args in
-    no_room g.plan.now g.rules.now g.room (sym c.before.before.before.check-rule-inputs.ensures ∙ c.before.before.if1.false)
-    (omega (arith, c.if2.true, c.before.read32.ensures))
+    no_room g.plan.now g.rules.now g.room (sym c.before.before.before.check_rule_inputs-t.ensures ∙ c.before.before.if-t-ne0.false)
+    (omega (arith, c.if-room-n.true, c.before.read32-n.ensures))
 
-returns-3 : tie.Need-returns-3
+returns-3 : tie.Need-returns
 returns-3 c =
     let g = c.before.before.before.before.before.before.args in
-    all_yes g.plan.now g.rules.now g.room (sym c.before.before.before.check-rule-inputs.ensures ∙ c.before.before.if1.false)
-    (omega (arith, c.if2.false, c.before.read32.ensures))
+    all_yes g.plan.now g.rules.now g.room (sym c.before.before.before.check_rule_inputs-t.ensures ∙ c.before.before.if-t-ne0.false)
+    (omega (arith, c.if-room-n.false, c.before.read32-n.ensures))
 
-pub check-node-room-spec : {M : Type 1} → statement M
-check-node-room-spec =
+pub check_node_room_spec : {M : Type 1} → statement M
+check_node_room_spec =
     tie.close (tie.spec (λ c κs. search rules) returns read32-requires returns-2 returns-3)

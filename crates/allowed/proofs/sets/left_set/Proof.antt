@@ -16,6 +16,6 @@ returns c =
     let g = t.args in
     (c.gathered.ensures, omega (arith, c.gathered.ensures, gathered-below g.inner.now (g.a * g.s + g.q) (g.k * g.s) g.c g.s t.requires.few))
 
-pub left-set-spec : {M : Type 1} → statement M
-left-set-spec =
+pub left_set_spec : {M : Type 1} → statement M
+left_set_spec =
     tie.close (tie.spec (λ c. search rules) (λ c. search rules) (λ c. search rules) (λ c κs. search rules) returns)

@@ -15,5 +15,5 @@ returns c =
     let t = c.before.before in
     (c.gathered.ensures, omega (arith, c.gathered.ensures, gathered-below t.args.marks.now 0 1 2 t.args.s t.requires.few))
 
-pub marked-set-spec : {M : Type 1} → statement M
-marked-set-spec = tie.close (tie.spec (λ c κs. search rules) returns)
+pub marked_set_spec : {M : Type 1} → statement M
+marked_set_spec = tie.close (tie.spec (λ c κs. search rules) returns)

@@ -16,6 +16,6 @@ returns c =
     let g = t.args in
     (c.gathered.ensures, omega (arith, c.gathered.ensures, gathered-below g.inner.now ((g.p * g.k + g.a) * g.s) 1 g.c g.s t.requires.few))
 
-pub right-set-spec : {M : Type 1} → statement M
-right-set-spec =
+pub right_set_spec : {M : Type 1} → statement M
+right_set_spec =
     tie.close (tie.spec (λ c. search rules) (λ c. search rules) (λ c. search rules) (λ c κs. search rules) returns)

@@ -18,62 +18,62 @@ use Rattle.branches.proofs.ask.ask.Lts as lts
 use Rattle.branches.proofs.ask.answer_branch.Reads as answer-branch-reads
 
 -- 17 passes
-fits : (c : tie.Else1) → let g = c.before.before.before.before.before.before.args in
-    headed_buffers_fit branch_tables g.plan.now g.branch.now (length g.node-table.now) (length g.state-table.now) ≡ true
-fits c = sym c.before.branch-buffers-fit.ensures ∙ not-false _ c.if1.false
+fits : (c : tie.Else-not-branch_buffers_fit) → let g = c.before.before.before.before.before.before.args in
+    headed_buffers_fit branch_tables g.plan.now g.branch.now (length g.node_table.now) (length g.state_table.now) ≡ true
+fits c = sym c.before.branch_buffers_fit.ensures ∙ not-false _ c.if-not-branch_buffers_fit.false-raw
 
 -- 13 passes
-upper_in : (c : tie.Else2) → let g = c.before.before.before.before.before.before.before.before.args in
+upper_in : (c : tie.Else-n-u) → let g = c.before.before.before.before.before.before.before.before.args in
     g.upper < node_count g.plan.now
-upper_in c = omega (arith, c.if2.false, c.before.read32.ensures)
+upper_in c = omega (arith, c.if-n-u.false, c.before.read32-n.ensures)
 
-lower_in : (c : tie.Else3) → let g = c.before.before.before.before.before.before.before.before.before.args in
+lower_in : (c : tie.Else-n-l) → let g = c.before.before.before.before.before.before.before.before.before.args in
     g.lower < node_count g.plan.now
-lower_in c = omega (arith, c.if3.false, c.before.before.read32.ensures)
+lower_in c = omega (arith, c.if-n-l.false, c.before.before.read32-n.ensures)
 
-returns : tie.Need-returns
+returns : tie.Need-returns-then-not-branch_buffers_fit
 returns c = ask-done _ _ _ _ _ _ _ _
-    (ask-17 _ _ _ _ _ _ _ (sym c.before.branch-buffers-fit.ensures ∙ not-true _ c.if1.true))
+    (ask-17 _ _ _ _ _ _ _ (sym c.before.branch_buffers_fit.ensures ∙ not-true _ c.if-not-branch_buffers_fit.true-raw))
 
-read32-requires : tie.Need-read32-requires
+read32-requires : tie.Need-read32-n-requires
 read32-requires c κs = omega (arith, (headed-are _ _ _ _ _ (fits c)).headers.plan-long)
 
-returns-2 : tie.Need-returns-2
+returns-2 : tie.Need-returns-then-n-u
 returns-2 c = ask-done _ _ _ _ _ _ _ _
-    (ask-13-upper _ _ _ _ _ _ _ (fits c.before.before) (omega (arith, c.if2.true, c.before.read32.ensures)))
+    (ask-13-upper _ _ _ _ _ _ _ (fits c.before.before) (omega (arith, c.if-n-u.true, c.before.read32-n.ensures)))
 
-returns-3 : tie.Need-returns-3
+returns-3 : tie.Need-returns-then-n-l
 returns-3 c =
     ask-done _ _ _ _ _ _ _ _
     (ask-13-lower _ _ _ _ _ _ _ (fits c.before.before.before)
-    (omega (arith, c.if3.true, c.before.before.read32.ensures)))
+    (omega (arith, c.if-n-l.true, c.before.before.read32-n.ensures)))
 
-is-below-requires : tie.Need-is-below-requires
+is-below-requires : tie.Need-is_below-requires
 is-below-requires c κs =
     omega (arith, upper_in c.before, (headed-are _ _ _ _ _ (fits c.before.before.before)).node_table_room)
 
-returns-4 : tie.Need-returns-4
+returns-4 : tie.Need-returns-then-not-is_below
 returns-4 c =
     let e = c.before.before in
     ask-done _ _ _ _ _ _ _ _
     (ask-16 _ _ _ _ _ _ _ (fits e.before.before.before) (upper_in e.before) (lower_in e)
-    (sym c.before.is_below.ensures ∙ not-true _ c.if4.true))
+    (sym c.before.is_below.ensures ∙ not-true _ c.if-not-is_below.true-raw))
 
-answer-branch-requires : tie.Need-answer-branch-requires
+answer-branch-requires : tie.Need-answer_branch-requires
 answer-branch-requires c κs =
     let e = c.before.before in
     record { fits = fits e.before.before.before; upper = upper_in e.before; lower = lower_in e }
 
-returns-5 : tie.Need-returns-5
+returns-5 : tie.Need-returns
 returns-5 c =
     let e = c.before.before.before in
-    ask-done _ _ _ _ _ _ _ c.answer-branch.result
-    (c.answer-branch.ensures
+    ask-done _ _ _ _ _ _ _ c.answer_branch.result
+    (c.answer_branch.ensures
     ∙ sym (ask-on _ _ _ _ _ _ _ (fits e.before.before.before) (upper_in e.before) (lower_in e)
-    (sym c.before.before.is_below.ensures ∙ not-false _ c.before.if4.false)))
+    (sym c.before.before.is_below.ensures ∙ not-false _ c.before.if-not-is_below.false-raw)))
 
-pub ask-spec : {M : Type 1} → statement M
-ask-spec =
+pub ask_spec : {M : Type 1} → statement M
+ask_spec =
     tie.close
     (tie.spec (λ c κs. search rules) returns read32-requires returns-2 returns-3 is-below-requires returns-4
     answer-branch-requires returns-5)

@@ -8,19 +8,19 @@ use Rattle.branches.proofs.ask.finish_answer.Tie as tie
 use Rattle.branches.proofs.ask.finish_answer.Reads as reads
 use Rattle.branches.proofs.ask.finish_answer.Lts as lts
 
-shared-slice-read-mark : tie.Need-shared-slice-read-mark
+shared-slice-read-mark : tie.Need-bounds-marks-x
 shared-slice-read-mark c =
     let e = c.before.before.before in
     let s = e.before.before in
-    subst (StateIn (length s.args.marks.now)) e.end.given.1 s.requires
+    subst (StateIn (length s.args.marks.now)) e.end-1.given.1 s.requires
 
-returns : tie.Need-returns
+returns : tie.Need-returns-in-Reached
 returns c =
     let e = c.before.before.before in
-    ap (told_of e.before.before.args.marks.now) (sym e.end.given.1)
+    ap (told_of e.before.before.args.marks.now) (sym e.end-1.given.1)
 
-pub finish-answer-spec : {M : Type 1} → statement M
-finish-answer-spec =
+pub finish_answer_spec : {M : Type 1} → statement M
+finish_answer_spec =
     tie.close
     (tie.spec (λ c. search rules) (λ c. search rules) shared-slice-read-mark (λ c. search rules) returns
     (λ c. search rules))

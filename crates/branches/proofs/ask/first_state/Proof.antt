@@ -7,13 +7,13 @@ use Rattle.branches.proofs.ask.first_state.Reads as reads
 use Rattle.branches.proofs.ask.first_state.Lts as lts
 use Rattle.branches.proofs.ask.after_upper.Reads as after-upper-reads
 
-returns : tie.Need-returns
-returns c = rw c.before.enum_told.given.1 c.after-upper.ensures
+returns : tie.Need-returns-in-WithUpper
+returns c = rw c.before.enum_told-1.given.1 c.after_upper.ensures
 
-returns-2 : tie.Need-returns-2
+returns-2 : tie.Need-returns-in-BelowUpper
 returns-2 c =
-    rw c.enum-told2.given.1 (first-start _ _ _ _ _ c.before.before.before.before.requires.least)
+    rw c.enum_told-in-BelowUpper-1.given.1 (first-start _ _ _ _ _ c.before.before.before.before.requires.least)
 
-pub first-state-spec : {M : Type 1} → statement M
-first-state-spec =
+pub first_state_spec : {M : Type 1} → statement M
+first_state_spec =
     tie.close (tie.spec (λ c. search rules) (λ c κs. search rules) (λ c. search rules) returns returns-2)

@@ -11,42 +11,42 @@ use Rattle.branches.proofs.build.build_branch_tables.Statement.{statement}
 use Rattle.branches.proofs.build.build_branch_tables.Tie as tie
 
 -- all checks pass
-passed : (c : tie.Else1) → let g = c.before.before.before.before.before.before.args in
-    first_no (branch_build_checks g.plan.now g.branch.now (length g.node-table.now) (length g.state-table.now)) ≡ 0
-passed c = sym c.before.check-branch-build.ensures ∙ c.if1.false
+passed : (c : tie.Else-no-ne0) → let g = c.before.before.before.before.before.before.args in
+    first_no (branch_build_checks g.plan.now g.branch.now (length g.node_table-1.now) (length g.state_table-1.now)) ≡ 0
+passed c = sym c.before.check_branch_build-no.ensures ∙ c.if-no-ne0.false
 
-accepts : (c : tie.Else1) → let g = c.before.before.before.before.before.before.args in
-    Accepted g.plan.now g.branch.now (length g.node-table.now) (length g.state-table.now)
+accepts : (c : tie.Else-no-ne0) → let g = c.before.before.before.before.before.before.args in
+    Accepted g.plan.now g.branch.now (length g.node_table-1.now) (length g.state_table-1.now)
 accepts c = let g = c.before.before.before.before.before.before.args in
-    accepted g.plan.now g.branch.now (length g.node-table.now) (length g.state-table.now) (passed c)
+    accepted g.plan.now g.branch.now (length g.node_table-1.now) (length g.state_table-1.now) (passed c)
 
-returns : tie.Need-returns
+returns : tie.Need-returns-then-no-ne0
 returns c =
     let g = c.before.before.before.before.before.before.args in
-    let r = c.before.check-branch-build in
-    build-refused (built_node_table g.plan.now) (built_branch_table g.plan.now g.branch.now) g.node-table.now
-    g.state-table.now _
-    r.result r.ensures c.if1.true
+    let r = c.before.check_branch_build-no in
+    build-refused (built_node_table g.plan.now) (built_branch_table g.plan.now g.branch.now) g.node_table-1.now
+    g.state_table-1.now _
+    r.result r.ensures c.if-no-ne0.true
 
-write-branch-requires : tie.Need-write-branch-requires
+write-branch-requires : tie.Need-write_branch-requires
 write-branch-requires c κs =
     let i = c.before.before.before.before.before in
     let g = i.before.before.before.before.before.before.args in
-    part-args g.plan.now g.branch.now (length g.node-table.now) (length g.state-table.now) (passed i) _ _ _
-    c.before.before.before.before.read32.ensures c.before.before.before.read322.ensures
-    c.before.before.read323.ensures
+    part-args g.plan.now g.branch.now (length g.node_table-1.now) (length g.state_table-1.now) (passed i) _ _ _
+    c.before.before.before.before.read32-n.ensures c.before.before.before.read32-s.ensures
+    c.before.before.read32-k.ensures
 
-returns-2 : tie.Need-returns-2
+returns-2 : tie.Need-returns
 returns-2 c =
     let w = c.before.before.before.before in
     let i = w.before.before.before.before.before.before in
     let g = i.before.before.before.before.before.before.args in
-    build-done (built_node_table g.plan.now) (built_branch_table g.plan.now g.branch.now) g.node-table.now g.state-table.now _
-    w.write-branch.new.1.1.1.1.1.0 w.write-branch.new.1.1.1.1.1.1.0 (passed i)
-    w.write-branch.ensures.links w.write-branch.ensures.states
+    build-done (built_node_table g.plan.now) (built_branch_table g.plan.now g.branch.now) g.node_table-1.now g.state_table-1.now _
+    w.write_branch.new.1.1.1.1.1.0 w.write_branch.new.1.1.1.1.1.1.0 (passed i)
+    w.write_branch.ensures.links w.write_branch.ensures.states
 
-pub build-branch-tables-spec : {M : Type 1} → statement M
-build-branch-tables-spec =
+pub build_branch_tables_spec : {M : Type 1} → statement M
+build_branch_tables_spec =
     tie.close
     (tie.spec (λ c κs. search rules) returns (λ c κs. omega (arith, (accepts c).0.long))
     (λ c κs. omega (arith, (accepts c.before).1.long))

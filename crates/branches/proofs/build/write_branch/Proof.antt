@@ -5,26 +5,26 @@ use borrow.Author.Rules.{rules}
 use Rattle.branches.proofs.build.write_branch.Statement.{statement}
 use Rattle.branches.proofs.build.write_branch.Tie as tie
 
-fill-branch-requires : tie.Need-fill-branch-requires
+fill-branch-requires : tie.Need-fill_branch-requires
 fill-branch-requires c κs =
     let s = c.before.before.before.before.before.before.before.before.before in
     parts-filled s.args.plan.now s.args.branch.now s.args.n s.args.s s.args.k
-    (length s.args.node-table.now)
-    (length s.args.state-table.now) s.requires
+    (length s.args.node_table-1.now)
+    (length s.args.state_table-1.now) s.requires
 
 returns : tie.Need-returns
 returns c =
     let f = c.before.before.before.before in
     let s = f.before.before.before.before.before.before.before.before.before.before in
     parts-written s.args.plan.now s.args.branch.now s.args.n s.args.s s.args.k
-    (length s.args.node-table.now)
-    (length s.args.state-table.now) s.requires
-    s.args.node-table.now s.args.state-table.now f.fill-branch.new.1.1.1.1.1.0
-    f.fill-branch.new.1.1.1.1.1.1.0
-    f.fill-branch.ensures
+    (length s.args.node_table-1.now)
+    (length s.args.state_table-1.now) s.requires
+    s.args.node_table-1.now s.args.state_table-1.now f.fill_branch.new.1.1.1.1.1.0
+    f.fill_branch.new.1.1.1.1.1.1.0
+    f.fill_branch.ensures
 
-pub write-branch-spec : {M : Type 1} → statement M
-write-branch-spec =
+pub write_branch_spec : {M : Type 1} → statement M
+write_branch_spec =
     tie.close
     (tie.spec (λ c. search rules) (λ c. search rules) (λ c. search rules) (λ c. search rules) (λ c. search rules)
     (λ c. search rules) (λ c. search rules) (λ c. search rules) (λ c. search rules) (λ c. search rules)

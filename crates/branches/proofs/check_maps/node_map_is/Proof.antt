@@ -12,36 +12,36 @@ use borrow.Author.Rules.{rules}
 use Rattle.branches.proofs.check_maps.node_map_is.Statement.{statement}
 use Rattle.branches.proofs.check_maps.node_map_is.Tie as tie
 
-cast-a : tie.Need-overflow-cast-a
-cast-a c = omega (arith, c.shared-slice-known5.given c.before.before.before.before.before.args.v)
+cast-a : tie.Need-overflow_cast-a
+cast-a c = omega (arith, c.shared_slice_known-5-1.given c.before.before.before.before.before.args.v)
 
-cast-j : tie.Need-overflow-cast-j
+cast-j : tie.Need-overflow_cast-j
 cast-j c = omega
-    (arith, c.shared-slice-known7.given (c.before.before.before.before.before.before.before.args.v * 4 + 1))
+    (arith, c.shared_slice_known-7-1.given (c.before.before.before.before.before.before.before.args.v * 4 + 1))
 
-returns : tie.Need-returns
+returns : tie.Need-returns-then-j-p
 returns c =
     let g = c.before.before.before.before.before.before.before.before.before.args in
-    c.near-row-is.ensures
-    ∙ row_equals-ext g.s g.state-table.now g.v (near_entry g.steps.now (get_or g.labels.now g.v 0) g.k)
-    (node_map g.labels.now g.node-table.now g.steps.now g.s g.k g.state-table.now g.v)
-    (λ q l. sym (node_map-near g.labels.now g.node-table.now g.steps.now g.s g.k g.state-table.now g.v q
-    c.before.if1.true))
+    c.near_row_is.ensures
+    ∙ row_equals-ext g.s g.state_table.now g.v (near_entry g.steps.now (get_or g.labels.now g.v 0) g.k)
+    (node_map g.labels.now g.node_table.now g.steps.now g.s g.k g.state_table.now g.v)
+    (λ q l. sym (node_map-near g.labels.now g.node_table.now g.steps.now g.s g.k g.state_table.now g.v q
+    c.before.if-j-p.true))
 
-returns-2 : tie.Need-returns-2
+returns-2 : tie.Need-returns
 returns-2 c =
     let g = c.before.before.before.before.before.before.before.before.before.before.args in
-    let p = parent_cell g.node-table.now g.v in
-    c.step-row-is.ensures
-    ∙ row_equals-ext g.s g.state-table.now g.v
-    (step_cell g.s g.state-table.now p (jump_cell g.node-table.now p) g.steps.now g.k
+    let p = parent_cell g.node_table.now g.v in
+    c.step_row_is.ensures
+    ∙ row_equals-ext g.s g.state_table.now g.v
+    (step_cell g.s g.state_table.now p (jump_cell g.node_table.now p) g.steps.now g.k
     (get_or g.labels.now g.v 0))
-    (node_map g.labels.now g.node-table.now g.steps.now g.s g.k g.state-table.now g.v)
-    (λ q l. sym (node_map-far g.labels.now g.node-table.now g.steps.now g.s g.k g.state-table.now g.v q
-    c.before.before.if1.false))
+    (node_map g.labels.now g.node_table.now g.steps.now g.s g.k g.state_table.now g.v)
+    (λ q l. sym (node_map-far g.labels.now g.node_table.now g.steps.now g.s g.k g.state_table.now g.v q
+    c.before.before.if-j-p.false))
 
-pub node-map-is-spec : {M : Type 1} → statement M
-node-map-is-spec =
+pub node_map_is_spec : {M : Type 1} → statement M
+node_map_is_spec =
     tie.close
     (tie.spec (λ c. search rules) cast-a (λ c. search rules) (λ c. search rules) (λ c. search rules)
     (λ c. search rules) (λ c. search rules) (λ c. search rules) (λ c. search rules) (λ c. search rules) cast-j

@@ -13,80 +13,80 @@ use borrow.Author.Rules.{rules}
 use Rattle.branches.proofs.check_maps.step_row_is.Statement.{statement}
 use Rattle.branches.proofs.check_maps.step_row_is.Tie as tie
 
-abbrev invariant-loop : tie.invariant-loop
+abbrev invariant-loop : tie.invariant-loop-q
 invariant-loop state_table s v p j steps k a at near far same₀ q₀ same q =
     (q ≤ s) × (same ≡ every q (λ x. eqb (map_cell s state_table v x) (step_cell s state_table p j steps k a x)))
 
-abbrev decreases-loop : tie.decreases-loop
+abbrev decreases-loop : tie.decreases-loop-q
 decreases-loop state_table s v p j steps k a at near far same₀ q₀ same q = s - q
 
 -- what an iteration reads
-far_below : (c : tie.In-loop invariant-loop decreases-loop) → let g = c.before.before.args in
-    map_cell g.s g.state-table.now g.j c.before.loop.q < g.s
-far_below c = c.before.before.requires.far_below c.before.loop.q c.loop-test.true
+far_below : (c : tie.In-loop-q invariant-loop decreases-loop) → let g = c.before.before.args in
+    map_cell g.s g.state_table.now g.j c.before.loop-q.q < g.s
+far_below c = c.before.before.requires.far_below c.before.loop-q.q c.loop-q-test.true
 
-inside : (c : tie.In-loop invariant-loop decreases-loop) → let g = c.before.before.args in
-    map_cell g.s g.state-table.now g.p (map_cell g.s g.state-table.now g.j c.before.loop.q) * g.k + g.a
+inside : (c : tie.In-loop-q invariant-loop decreases-loop) → let g = c.before.before.args in
+    map_cell g.s g.state_table.now g.p (map_cell g.s g.state_table.now g.j c.before.loop-q.q) * g.k + g.a
     < length g.steps.now
 inside c = let g = c.before.before.args in
-    c.before.before.requires.inside (map_cell g.s g.state-table.now g.j c.before.loop.q) (far_below c)
+    c.before.before.requires.inside (map_cell g.s g.state_table.now g.j c.before.loop-q.q) (far_below c)
 
-loop-holds : tie.Need-loop-init invariant-loop decreases-loop
+loop-holds : tie.Need-loop-q-init invariant-loop decreases-loop
 unfolding every
 loop-holds c = (omega arith, refl)
 
-cast-y : tie.Need-overflow-cast-y invariant-loop decreases-loop
+cast-y : tie.Need-overflow_cast-y invariant-loop decreases-loop
 cast-y c = omega (arith, far_below c.before.before, c.before.before.before.before.requires.near_room)
 
-add-z : tie.Need-overflow-add-z invariant-loop decreases-loop
+add-z : tie.Need-overflow_add-z invariant-loop decreases-loop
 add-z c = omega (arith, far_below c.before.before, c.before.before.before.before.requires.near_room)
 
-add-z-2 : tie.Need-overflow-add-z-2 invariant-loop decreases-loop
+add-z-2 : tie.Need-overflow_add-z-in-loop-q invariant-loop decreases-loop
 add-z-2 c = omega (arith, far_below c.before.before, c.before.before.before.before.requires.near_room)
 
-shared-slice-read-z : tie.Need-shared-slice-read-z invariant-loop decreases-loop
+shared-slice-read-z : tie.Need-bounds-state_table-near invariant-loop decreases-loop
 shared-slice-read-z c = omega
     (arith, far_below c.before.before.before, c.before.before.before.before.before.requires.near_room)
 
-cast-z : tie.Need-overflow-cast-z invariant-loop decreases-loop
+cast-z : tie.Need-overflow_cast-z invariant-loop decreases-loop
 cast-z c =
     let i = c.before.before.before in
     let g = i.before.before.args in
     omega (
       arith,
-      c.shared-slice-known3.given
-          (g.p * (g.s + 1) + (1 + map_cell g.s g.state-table.now g.j i.before.loop.q)),
+      c.shared_slice_known-in-loop-q-2-1.given
+          (g.p * (g.s + 1) + (1 + map_cell g.s g.state_table.now g.j i.before.loop-q.q)),
     )
 
-mul_next : tie.Need-overflow-mul-next invariant-loop decreases-loop
+mul_next : tie.Need-overflow_mul-next invariant-loop decreases-loop
 mul_next c = omega (arith, inside c.before.before.before)
 
-add-next : tie.Need-overflow-add-next invariant-loop decreases-loop
+add-next : tie.Need-overflow_add-next invariant-loop decreases-loop
 add-next c = omega (arith, inside c.before.before.before)
 
-shared-slice-read-next : tie.Need-shared-slice-read-next invariant-loop decreases-loop
+shared-slice-read-next : tie.Need-bounds-steps-z invariant-loop decreases-loop
 shared-slice-read-next c = inside c.before.before.before.before
 
-loop-again : tie.Need-loop-preserved invariant-loop decreases-loop
+loop-again : tie.Need-loop-q-preserved invariant-loop decreases-loop
 loop-again c =
-    let l = c.before.before.before.before.before.before.loop in
+    let l = c.before.before.before.before.before.before.loop-q in
     let g = c.before.before.before.before.before.before.before.args in
-    let f : ℕ → ℕ = step_cell g.s g.state-table.now g.p g.j g.steps.now g.k g.a in (
+    let f : ℕ → ℕ = step_cell g.s g.state_table.now g.p g.j g.steps.now g.k g.a in (
       omega arith,
-      elim c.if1.branch [
-        | inl w ↦ w.1 ∙ every-other l.q (map_cell g.s g.state-table.now g.v) f w.0.taken
-        | inr w ↦ w.1 ∙ every-same l.q (map_cell g.s g.state-table.now g.v) f l.same l.invariant.1 w.0.left
+      elim c.if-x-next.branch [
+        | inl w ↦ w.1 ∙ every-other l.q (map_cell g.s g.state_table.now g.v) f w.0.taken
+        | inr w ↦ w.1 ∙ every-same l.q (map_cell g.s g.state_table.now g.v) f l.same l.invariant.1 w.0.left
       ],
     )
 
 returns : tie.Need-returns invariant-loop decreases-loop
 returns c =
     let g = c.before.before.args in
-    let e : c.before.loop.q ≡ g.s = omega (arith, c.before.loop.invariant.0, c.loop-test.false) in
-    rw e at c.before.loop.invariant.1
+    let e : c.before.loop-q.q ≡ g.s = omega (arith, c.before.loop-q.invariant.0, c.loop-q-test.false) in
+    rw e at c.before.loop-q.invariant.1
 
-pub step-row-is-spec : {M : Type 1} → statement M
-step-row-is-spec =
+pub step_row_is_spec : {M : Type 1} → statement M
+step_row_is_spec =
     tie.close
     (tie.spec invariant-loop decreases-loop (λ c. search rules) (λ c. search rules) (λ c. search rules) (λ c. search rules)
     (λ c. search rules) (λ c. search rules) loop-holds (λ c. search rules) (λ c. search rules) (λ c. search rules)

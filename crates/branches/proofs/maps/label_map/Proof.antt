@@ -11,42 +11,42 @@ use borrow.Author.Rules.{rules}
 use Rattle.branches.proofs.maps.label_map.Statement.{statement}
 use Rattle.branches.proofs.maps.label_map.Tie as tie
 
-cast-a : tie.Need-overflow-cast-a
-cast-a c = omega (arith, c.shared-slice-known4.given c.before.before.before.before.before.args.v)
+cast-a : tie.Need-overflow_cast-a
+cast-a c = omega (arith, c.shared_slice_known-4-1.given c.before.before.before.before.before.args.v)
 
-cast-j : tie.Need-overflow-cast-j
+cast-j : tie.Need-overflow_cast-j
 cast-j c = omega
-    (arith, c.shared-slice-known6.given (c.before.before.before.before.before.before.before.args.v * 4 + 1))
+    (arith, c.shared_slice_known-6-1.given (c.before.before.before.before.before.before.before.args.v * 4 + 1))
 
-returns : tie.Need-returns
+returns : tie.Need-returns-then-j-p
 returns c =
     let n = c.before.before in
     let i = n.before.before in
     let g = i.before.before.before.before.before.before.before.before.args in
     row-ext g.s (λ q. get_or g.steps.now (get_or g.labels.now g.v 0 + q * g.k) 0)
-    (node_map g.labels.now g.node-table.now g.steps.now g.s g.k g.state-table.now g.v) g.v g.s
-    g.state-table.now
-    n.near-row.new.0 n.near-row.ensures
-    (λ q l. sym (node_map-near g.labels.now g.node-table.now g.steps.now g.s g.k g.state-table.now g.v q
-    i.if1.true))
+    (node_map g.labels.now g.node_table.now g.steps.now g.s g.k g.state_table-1.now g.v) g.v g.s
+    g.state_table-1.now
+    n.near_row.new.0 n.near_row.ensures
+    (λ q l. sym (node_map-near g.labels.now g.node_table.now g.steps.now g.s g.k g.state_table-1.now g.v q
+    i.if-j-p.true))
 
-returns-2 : tie.Need-returns-2
+returns-2 : tie.Need-returns-else-j-p
 returns-2 c =
     let n = c.before.before in
     let i = n.before.before.before in
     let g = i.before.before.before.before.before.before.before.before.args in
-    let p = parent_cell g.node-table.now g.v in
+    let p = parent_cell g.node_table.now g.v in
     row-ext g.s
-    (step_cell g.s g.state-table.now p (jump_cell g.node-table.now p) g.steps.now g.k
+    (step_cell g.s g.state_table-1.now p (jump_cell g.node_table.now p) g.steps.now g.k
     (get_or g.labels.now g.v 0))
-    (node_map g.labels.now g.node-table.now g.steps.now g.s g.k g.state-table.now g.v) g.v g.s
-    g.state-table.now
+    (node_map g.labels.now g.node_table.now g.steps.now g.s g.k g.state_table-1.now g.v) g.v g.s
+    g.state_table-1.now
     n.step_row.new.0 n.step_row.ensures
-    (λ q l. sym (node_map-far g.labels.now g.node-table.now g.steps.now g.s g.k g.state-table.now g.v q
-    i.if1.false))
+    (λ q l. sym (node_map-far g.labels.now g.node_table.now g.steps.now g.s g.k g.state_table-1.now g.v q
+    i.if-j-p.false))
 
-pub label-map-spec : {M : Type 1} → statement M
-label-map-spec =
+pub label_map_spec : {M : Type 1} → statement M
+label_map_spec =
     tie.close
     (tie.spec (λ c. search rules) cast-a (λ c. search rules) (λ c. search rules) (λ c. search rules)
     (λ c. search rules) (λ c. search rules) (λ c. search rules) (λ c. search rules) (λ c. search rules) cast-j

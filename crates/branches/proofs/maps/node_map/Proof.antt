@@ -15,53 +15,53 @@ by_count : {s x : ℕ} → x ≡ s → (ls node_table st : List ℕ) (k v : ℕ)
 by_count e ls node_table st k v b after =
     subst (λ (y : ℕ). Rowed y (node_map ls node_table st y k b v) v b after) e
 
-label-map-requires : tie.Need-label-map-requires
+label-map-requires : tie.Need-label_map-requires
 label-map-requires c κs =
     let s = c.before.before.before.before.before.before in
     let g = s.args in
-    subst (λ (x : ℕ). NodeArgs g.labels.now g.node-table.now g.steps.now x g.k g.state-table.now
-    g.v) c.before.if1.true s.requires
+    subst (λ (x : ℕ). NodeArgs g.labels.now g.node_table.now g.steps.now x g.k g.state_table-1.now
+    g.v) c.before.if-s-eq2.true s.requires
 
-returns : tie.Need-returns
+returns : tie.Need-returns-then-s-eq2
 returns c =
     let f = c.before.before in
     let t = f.before.before in
     let g = t.before.before.before.before.before.args in
-    by_count (sym t.if1.true) g.labels.now g.node-table.now g.steps.now g.k g.v
-    g.state-table.now f.label-map.new.1.1.1.1.1.1.0 f.label-map.ensures
+    by_count (sym t.if-s-eq2.true) g.labels.now g.node_table.now g.steps.now g.k g.v
+    g.state_table-1.now f.label_map.new.1.1.1.1.1.1.0 f.label_map.ensures
 
-label-map-requires-2 : tie.Need-label-map-requires-2
+label-map-requires-2 : tie.Need-label_map-requires-then-s-eq4
 label-map-requires-2 c κs =
     let s = c.before.before.before.before.before.before.before in
     let g = s.args in
-    subst (λ (x : ℕ). NodeArgs g.labels.now g.node-table.now g.steps.now x g.k g.state-table.now
-    g.v) c.before.if2.true s.requires
+    subst (λ (x : ℕ). NodeArgs g.labels.now g.node_table.now g.steps.now x g.k g.state_table-1.now
+    g.v) c.before.if-s-eq4.true s.requires
 
-returns-2 : tie.Need-returns-2
+returns-2 : tie.Need-returns-then-s-eq4
 returns-2 c =
     let f = c.before.before in
     let t = f.before.before in
     let g = t.before.before.before.before.before.before.args in
-    by_count (sym t.if2.true) g.labels.now g.node-table.now g.steps.now g.k g.v
-    g.state-table.now f.label-map2.new.1.1.1.1.1.1.0 f.label-map2.ensures
+    by_count (sym t.if-s-eq4.true) g.labels.now g.node_table.now g.steps.now g.k g.v
+    g.state_table-1.now f.label_map-then-s-eq4.new.1.1.1.1.1.1.0 f.label_map-then-s-eq4.ensures
 
-label-map-requires-3 : tie.Need-label-map-requires-3
+label-map-requires-3 : tie.Need-label_map-requires-then-s-eq16
 label-map-requires-3 c κs =
     let s = c.before.before.before.before.before.before.before.before in
     let g = s.args in
-    subst (λ (x : ℕ). NodeArgs g.labels.now g.node-table.now g.steps.now x g.k g.state-table.now
-    g.v) c.before.if3.true s.requires
+    subst (λ (x : ℕ). NodeArgs g.labels.now g.node_table.now g.steps.now x g.k g.state_table-1.now
+    g.v) c.before.if-s-eq16.true s.requires
 
-returns-3 : tie.Need-returns-3
+returns-3 : tie.Need-returns-then-s-eq16
 returns-3 c =
     let f = c.before.before in
     let t = f.before.before in
     let g = t.before.before.before.before.before.before.before.args in
-    by_count (sym t.if3.true) g.labels.now g.node-table.now g.steps.now g.k g.v
-    g.state-table.now f.label-map3.new.1.1.1.1.1.1.0 f.label-map3.ensures
+    by_count (sym t.if-s-eq16.true) g.labels.now g.node_table.now g.steps.now g.k g.v
+    g.state_table-1.now f.label_map-then-s-eq16.new.1.1.1.1.1.1.0 f.label_map-then-s-eq16.ensures
 
-pub node-map-spec : {M : Type 1} → statement M
-node-map-spec =
+pub node_map_spec : {M : Type 1} → statement M
+node_map_spec =
     tie.close
     (tie.spec label-map-requires (λ c. search rules) returns label-map-requires-2 (λ c. search rules) returns-2
     label-map-requires-3 (λ c. search rules) returns-3 (λ c κs. search rules) (λ c. search rules)

@@ -8,32 +8,32 @@ use Rattle.capi.proofs.choice_calls.copy_counts.Tie as tie
 use Rattle.capi.proofs.choice_calls.copy_counts.Reads as reads
 use Rattle.capi.proofs.choice_calls.copy_counts.Lts as lts
 
-abbrev invariant-loop : tie.invariant-loop
+abbrev invariant-loop : tie.invariant-loop-i
 invariant-loop n out₀ a i₀ out i = CopyLoop 16 a n out₀ out i
 
-abbrev decreases-loop : tie.decreases-loop
+abbrev decreases-loop : tie.decreases-loop-i
 decreases-loop n out₀ a i₀ out i = n - i
 
-loop-holds : tie.Need-loop-init invariant-loop decreases-loop
+loop-holds : tie.Need-loop-i-init invariant-loop decreases-loop
 loop-holds c = copy_start 16 c.args.t1 c.args.n c.args.out.now c.requires
 
-loop-again : tie.Need-loop-preserved invariant-loop decreases-loop
+loop-again : tie.Need-loop-i-preserved invariant-loop decreases-loop
 loop-again c =
     let g = c.before.before.args in
-    let l = c.before.loop in
-    copy-next 16 g.t1 g.n g.out.now l.out l.i l.invariant c.loop-test.true
+    let l = c.before.loop-i in
+    copy-next 16 g.t1 g.n g.out.now l.out l.i l.invariant c.loop-i-test.true
 
-same_length : tie.Need-same-length invariant-loop decreases-loop
-same_length c = c.before.loop.invariant.long
+same_length : tie.Need-shape_of-out invariant-loop decreases-loop
+same_length c = c.before.loop-i.invariant.long
 
 returns : tie.Need-returns invariant-loop decreases-loop
 returns c =
     let g = c.before.before.args in
-    let l = c.before.loop in
-    copy_done 16 g.t1 g.n g.out.now l.out l.i l.invariant c.loop-test.false
+    let l = c.before.loop-i in
+    copy_done 16 g.t1 g.n g.out.now l.out l.i l.invariant c.loop-i-test.false
 
-pub copy-counts-spec : {M : Type 1} → statement M
-copy-counts-spec =
+pub copy_counts_spec : {M : Type 1} → statement M
+copy_counts_spec =
     tie.close
     (tie.spec invariant-loop decreases-loop loop-holds (λ c. search rules) (λ c. search rules) (λ c. search rules)
     (λ c. search rules) (λ c. search rules) (λ c. search rules) loop-again same_length returns)

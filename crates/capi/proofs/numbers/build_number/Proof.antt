@@ -6,12 +6,12 @@ use Rattle.capi.proofs.numbers.build_number.Tie as tie
 use Rattle.capi.proofs.numbers.build_number.Reads as reads
 use Rattle.capi.proofs.numbers.build_number.Lts as lts
 
-returns : tie.Need-returns
-returns c = built _ c.enum_told.given.1
+returns : tie.Need-returns-in-Built
+returns c = built _ c.enum_told-1.given.1
 
-returns-2 : tie.Need-returns-2
-returns-2 c = not-built _ _ c.before.answer.given.1
+returns-2 : tie.Need-returns-in-Refused
+returns-2 c = not-built _ _ c.before.answer-1.given.1
 
-pub build-number-spec : {M : Type 1} → statement M
-build-number-spec = tie.close (tie.spec (λ c. search rules) (λ c. search rules) (λ c. search rules) returns
+pub build_number_spec : {M : Type 1} → statement M
+build_number_spec = tie.close (tie.spec (λ c. search rules) (λ c. search rules) (λ c. search rules) returns
     returns-2)

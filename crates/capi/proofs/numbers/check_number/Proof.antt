@@ -6,17 +6,17 @@ use Rattle.capi.proofs.numbers.check_number.Tie as tie
 use Rattle.capi.proofs.numbers.check_number.Reads as reads
 use Rattle.capi.proofs.numbers.check_number.Lts as lts
 
-returns : tie.Need-returns
-returns c = checked-yes _ _ c.enum_told.given.1
+returns : tie.Need-returns-in-Yes
+returns c = checked-yes _ _ c.enum_told-1.given.1
 
-returns-2 : tie.Need-returns-2
-returns-2 c = checked-no _ _ c.enum-told2.given.1
+returns-2 : tie.Need-returns-in-No
+returns-2 c = checked-no _ _ c.enum_told-in-No-1.given.1
 
-returns-3 : tie.Need-returns-3
-returns-3 c = not-checked _ _ _ c.before.answer.given.1
+returns-3 : tie.Need-returns-in-Refused
+returns-3 c = not-checked _ _ _ c.before.answer-1.given.1
 
-pub check-number-spec : {M : Type 1} → statement M
-check-number-spec =
+pub check_number_spec : {M : Type 1} → statement M
+check_number_spec =
     tie.close
     (tie.spec (λ c. search rules) (λ c. search rules) (λ c. search rules) (λ c. search rules) returns returns-2
     returns-3)

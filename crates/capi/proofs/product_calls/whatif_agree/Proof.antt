@@ -11,38 +11,38 @@ use Rattle.products.proofs.agreement.agree.Reads as agree-reads
 use Rattle.capi.proofs.product_calls.none_shown.Reads as none-shown-reads
 use Rattle.capi.proofs.product_calls.put_lines.Reads as put-lines-reads
 
-returns : tie.Need-returns
+returns : tie.Need-returns-then-number-ne0
 returns c =
     let g = c.before.before.before.before.before.args in
-    refused-exported g.first.now g.second.now c.before.agree.result c.before.agree.ensures
-    g.lines.now g.agreed.now g.count.now c.if1.true
+    refused-exported g.first.now g.second.now c.before.agree-reply.result c.before.agree-reply.ensures
+    g.lines-1.now g.agreed.now g.count.now c.if-number-ne0.true
 
-mul-if2 : tie.Need-overflow-mul-if2
+mul-if2 : tie.Need-overflow_mul-n
 mul-if2 c =
     let g = c.before.before.before.before.before.args in
     omega (
       arith,
-      count_most g.first.now g.second.now c.before.agree.result c.before.agree.ensures
-          c.if1.false,
+      count_most g.first.now g.second.now c.before.agree-reply.result c.before.agree-reply.ensures
+          c.if-number-ne0.false,
     )
 
-returns-2 : tie.Need-returns-2
+returns-2 : tie.Need-returns-then-lines-n
 returns-2 c =
     let g = c.before.before.before.before.before.before.args in
-    short-exported g.first.now g.second.now c.before.before.agree.result
-    c.before.before.agree.ensures g.lines.now g.agreed.now g.count.now c.before.if1.false
-    c.if2.true
+    short-exported g.first.now g.second.now c.before.before.agree-reply.result
+    c.before.before.agree-reply.ensures g.lines-1.now g.agreed.now g.count.now c.before.if-number-ne0.false
+    c.if-lines-n.true
 
-put-lines-requires : tie.Need-put-lines-requires
+put-lines-requires : tie.Need-put_lines-requires
 put-lines-requires c κs =
     let g = c.before.before.before.before.before.before.before.before.before.before.before.args in
     lines-args g.first.now g.second.now
-    c.before.before.before.before.before.before.before.agree.result
-    c.before.before.before.before.before.before.before.agree.ensures
-    c.before.before.before.before.before.before.if1.false g.lines.now (omega
-    (arith, c.before.before.before.before.before.if2.false))
+    c.before.before.before.before.before.before.before.agree-reply.result
+    c.before.before.before.before.before.before.before.agree-reply.ensures
+    c.before.before.before.before.before.before.if-number-ne0.false g.lines-1.now (omega
+    (arith, c.before.before.before.before.before.if-lines-n.false))
 
-cast-count : tie.Need-overflow-cast-count
+cast-count : tie.Need-overflow_cast-count
 cast-count c =
     let x10 = c.before.before.before.before.before.before.before.before.before.before in
     let x11 = x10.before in
@@ -51,12 +51,12 @@ cast-count c =
     omega (
       arith,
       count_most g.first.now g.second.now
-          x11.agree.result
-          x11.agree.ensures
-          x10.if1.false,
+          x11.agree-reply.result
+          x11.agree-reply.ensures
+          x10.if-number-ne0.false,
     )
 
-returns-3 : tie.Need-returns-3
+returns-3 : tie.Need-returns
 returns-3 c =
     let x3 = c.before.before.before in
     let x9 = x3.before.before.before.before.before.before in
@@ -65,15 +65,15 @@ returns-3 c =
     let x15 = x11.before.before.before.before in
     let g = x15.args in
     agree-exported g.first.now g.second.now
-    x11.agree.result
-    x11.agree.ensures
-    g.lines.now g.agreed.now g.count.now
-    x10.if1.false (omega
-    (arith, x9.if2.false)) _ _ _
-    x3.put-lines.ensures c.none-shown.ensures refl
+    x11.agree-reply.result
+    x11.agree-reply.ensures
+    g.lines-1.now g.agreed.now g.count.now
+    x10.if-number-ne0.false (omega
+    (arith, x9.if-lines-n.false)) _ _ _
+    x3.put_lines.ensures c.none_shown.ensures refl
 
-pub whatif-agree-spec : {M : Type 1} → statement M
-whatif-agree-spec =
+pub whatif_agree_spec : {M : Type 1} → statement M
+whatif_agree_spec =
     tie.close
     (tie.spec (λ c κs. tt) (λ c. search rules) returns mul-if2 returns-2 put-lines-requires (λ c κs. tt) cast-count
     (λ c. search rules) returns-3)

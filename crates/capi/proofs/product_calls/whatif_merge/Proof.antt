@@ -12,8 +12,8 @@ use Rattle.products.proofs.merging.merge.Reads as merge-reads
 returns : tie.Need-returns
 returns c =
     let g = c.before.before.before.before.before.before.before.before.args in
-    merge-exported g.first.now g.second.now g.merged.now c.before.before.before.merge.result _
-    c.before.before.before.merge.ensures c.merge-number.result c.merge-number.ensures
+    merge-exported g.first.now g.second.now g.merged-1.now c.before.before.before.merge-answer.result _
+    c.before.before.before.merge-answer.ensures c.merge_number.result c.merge_number.ensures
 
-pub whatif-merge-spec : {M : Type 1} → statement M
-whatif-merge-spec = tie.close (tie.spec (λ c κs. tt) (λ c κs. tt) (λ c. search rules) returns)
+pub whatif_merge_spec : {M : Type 1} → statement M
+whatif_merge_spec = tie.close (tie.spec (λ c κs. tt) (λ c κs. tt) (λ c. search rules) returns)

@@ -7,14 +7,14 @@ use Rattle.capi.proofs.table_calls.run_number.Reads as reads
 use Rattle.capi.proofs.table_calls.run_number.Lts as lts
 use Rattle.capi.proofs.numbers.bit.Reads as bit-reads
 
-returns : tie.Need-returns
-returns c = ended _ _ _ _ _ _ c.before.before.answer.given.1 c.bit.ensures
+returns : tie.Need-returns-in-Ended
+returns c = ended _ _ _ _ _ _ c.before.before.answer-1.given.1 c.bit.ensures
 
-returns-2 : tie.Need-returns-2
-returns-2 c = not-run _ _ _ _ c.before.answer2.given.1
+returns-2 : tie.Need-returns-in-Refused
+returns-2 c = not-run _ _ _ _ c.before.answer-in-Refused-1.given.1
 
-pub run-number-spec : {M : Type 1} → statement M
-run-number-spec =
+pub run_number_spec : {M : Type 1} → statement M
+run_number_spec =
     tie.close
     (tie.spec (λ c. search rules) (λ c. search rules) (λ c κs. search rules) (λ c. search rules) (λ c. search rules)
     returns returns-2)

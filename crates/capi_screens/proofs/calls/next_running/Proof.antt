@@ -13,41 +13,41 @@ use Rattle.capi_screens.proofs.calls.next_running.Reads as reads
 use Rattle.capi_screens.proofs.calls.next_running.Lts as lts
 use Rattle.screens.proofs.one_past.Reads as one-past-reads
 
-abbrev invariant-loop : tie.invariant-loop
+abbrev invariant-loop : tie.invariant-loop-left
 invariant-loop records first at₀ left₀ at left =
     (at < 8) × ((left ≤ 8) × (next_running_in left (runs records) at ≡ next_running_in 8 (runs records) first))
 
-abbrev decreases-loop : tie.decreases-loop
+abbrev decreases-loop : tie.decreases-loop-left
 decreases-loop records first at₀ left₀ at left = left
 
-loop-holds : tie.Need-loop-init invariant-loop decreases-loop
+loop-holds : tie.Need-loop-left-init invariant-loop decreases-loop
 loop-holds c = (omega (arith, c.before.requires.1), (omega arith, refl))
 
-returns : tie.Need-returns invariant-loop decreases-loop
+returns : tie.Need-returns-then-records-at-eq2 invariant-loop decreases-loop
 returns c =
-    let l = c.before.before.before.loop in
+    let l = c.before.before.before.loop-left in
     found_here _ _ l.left l.at c.before.before.before.before.before.requires.1 (omega arith) l.invariant.1.1
-    (runs_here _ l.at c.if1.true)
+    (runs_here _ l.at c.if-records-at-eq2.true)
 
-loop-again : tie.Need-loop-preserved invariant-loop decreases-loop
+loop-again : tie.Need-loop-left-preserved invariant-loop decreases-loop
 loop-again c =
-    let l = c.before.before.before.before.loop in
-    let a = c.one-past.ensures in (
+    let l = c.before.before.before.before.loop-left in
+    let a = c.one_past-at.ensures in (
       a.1,
       (
         omega arith,
         rw a.0 (found-on _ l.left l.at _ (omega arith) l.invariant.1.1
-            (rests-here _ l.at c.before.if1.false)),
+            (rests-here _ l.at c.before.if-records-at-eq2.false)),
       ),
     )
 
-returns-2 : tie.Need-returns-2 invariant-loop decreases-loop
+returns-2 : tie.Need-returns invariant-loop decreases-loop
 returns-2 c =
-    let l = c.before.loop in
+    let l = c.before.loop-left in
     found_nothing _ _ l.left l.at c.before.before.before.requires.1 (omega arith) l.invariant.1.1
 
-pub next-running-spec : {M : Type 1} → statement M
-next-running-spec =
+pub next_running_spec : {M : Type 1} → statement M
+next_running_spec =
     tie.close
     (tie.spec invariant-loop decreases-loop loop-holds (λ c. search rules) (λ c. search rules) returns (λ c κs. search rules)
     (λ c. search rules) (λ c. search rules) loop-again returns-2)

@@ -9,20 +9,20 @@ use Rattle.capi_screens.proofs.calls.whatif_screens_cancel.Reads as reads
 use Rattle.capi_screens.proofs.calls.whatif_screens_cancel.Lts as lts
 use Rattle.capi_session.proofs.calls.whatif_cancel.Reads as whatif-cancel-reads
 
-returns : tie.Need-returns
-returns c = not-run _ _ c.if1.true
+returns : tie.Need-returns-then-records-ne-RUN_BYTES
+returns c = not-run _ _ c.if-records-ne-RUN_BYTES.true
 
-returns-2 : tie.Need-returns-2
-returns-2 c = beyond _ _ _ cancel (names-cancel _ _) (omega arith) c.if2.true
+returns-2 : tie.Need-returns-then-screen-gt-LAST
+returns-2 c = beyond _ _ _ cancel (names-cancel _ _) (omega arith) c.if-screen-gt-LAST.true
 
-returns-3 : tie.Need-returns-3
+returns-3 : tie.Need-returns
 returns-3 c =
     let k = c.before.before in
-    on-screen _ _ _ cancel (names-cancel _ _) (omega arith) (omega arith) _ _ c.before.records.given.0
-    k.whatif-cancel.ensures
+    on-screen _ _ _ cancel (names-cancel _ _) (omega arith) (omega arith) _ _ c.before.records-1.given.0
+    k.whatif_cancel.ensures
 
-pub whatif-screens-cancel-spec : {M : Type 1} → statement M
-whatif-screens-cancel-spec =
+pub whatif_screens_cancel_spec : {M : Type 1} → statement M
+whatif_screens_cancel_spec =
     tie.close
     (tie.spec returns returns-2 (λ c. search rules) (λ c. search rules) (λ c. search rules) (λ c. search rules)
     (λ c. search rules) (λ c. search rules) (λ c κs. search rules) (λ c. search rules) returns-3)

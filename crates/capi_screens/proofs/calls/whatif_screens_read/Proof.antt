@@ -10,17 +10,17 @@ use Rattle.capi_screens.proofs.calls.whatif_screens_read.Reads as reads
 use Rattle.capi_screens.proofs.calls.whatif_screens_read.Lts as lts
 use Rattle.capi_session.proofs.calls.whatif_read.Reads as whatif-read-reads
 
-returns : tie.Need-returns
-returns c = read-refused _ _ _ _ (not-run-answer _ _ c.if1.true)
+returns : tie.Need-returns-then-records-ne-RUN_BYTES
+returns c = read-refused _ _ _ _ (not-run-answer _ _ c.if-records-ne-RUN_BYTES.true)
 
-returns-2 : tie.Need-returns-2
-returns-2 c = read-refused _ _ _ _ (beyond-answer _ _ _ read (names-read _ _) (omega arith) c.if2.true)
+returns-2 : tie.Need-returns-then-screen-gt-LAST
+returns-2 c = read-refused _ _ _ _ (beyond-answer _ _ _ read (names-read _ _) (omega arith) c.if-screen-gt-LAST.true)
 
-returns-3 : tie.Need-returns-3
-returns-3 c = read-on _ _ (omega arith) (omega arith) _ _ _ c.whatif-read.ensures
+returns-3 : tie.Need-returns
+returns-3 c = read-on _ _ (omega arith) (omega arith) _ _ _ c.whatif_read.ensures
 
-pub whatif-screens-read-spec : {M : Type 1} → statement M
-whatif-screens-read-spec =
+pub whatif_screens_read_spec : {M : Type 1} → statement M
+whatif_screens_read_spec =
     tie.close
     (tie.spec returns returns-2 (λ c. search rules) (λ c. search rules) (λ c. search rules) (λ c. search rules)
     (λ c. search rules) (λ c. search rules) (λ c κs. search rules) returns-3)

@@ -9,22 +9,22 @@ use Rattle.capi_screens.proofs.calls.whatif_screens_start.Reads as reads
 use Rattle.capi_screens.proofs.calls.whatif_screens_start.Lts as lts
 use Rattle.capi_session.proofs.calls.whatif_start.Reads as whatif-start-reads
 
-returns : tie.Need-returns
-returns c = start-refused _ _ _ _ (not-run _ _ c.if1.true) (not-run-answer _ _ c.if1.true)
+returns : tie.Need-returns-then-records-ne-RUN_BYTES
+returns c = start-refused _ _ _ _ (not-run _ _ c.if-records-ne-RUN_BYTES.true) (not-run-answer _ _ c.if-records-ne-RUN_BYTES.true)
 
-returns-2 : tie.Need-returns-2
+returns-2 : tie.Need-returns-then-screen-gt-LAST
 returns-2 c =
     let n = names-start _ _ _ _ _ in
-    start-refused _ _ _ _ (beyond _ _ _ _ n (omega arith) c.if2.true)
-    (beyond-answer _ _ _ _ n (omega arith) c.if2.true)
+    start-refused _ _ _ _ (beyond _ _ _ _ n (omega arith) c.if-screen-gt-LAST.true)
+    (beyond-answer _ _ _ _ n (omega arith) c.if-screen-gt-LAST.true)
 
-returns-3 : tie.Need-returns-3
+returns-3 : tie.Need-returns
 returns-3 c =
-    start-on _ _ _ _ (names-start _ _ _ _ _) (omega arith) (omega arith) _ _ _ _ c.before.records.given.0
-    c.before.before.whatif-start.ensures
+    start-on _ _ _ _ (names-start _ _ _ _ _) (omega arith) (omega arith) _ _ _ _ c.before.records-1.given.0
+    c.before.before.whatif_start.ensures
 
-pub whatif-screens-start-spec : {M : Type 1} → statement M
-whatif-screens-start-spec =
+pub whatif_screens_start_spec : {M : Type 1} → statement M
+whatif_screens_start_spec =
     tie.close
     (tie.spec returns returns-2 (λ c. search rules) (λ c. search rules) (λ c. search rules) (λ c. search rules)
     (λ c. search rules) (λ c. search rules) (λ c κs. search rules) (λ c. search rules) returns-3)

@@ -13,36 +13,36 @@ use Rattle.capi_screens.proofs.load.any_busy.Reads as reads
 use Rattle.capi_screens.proofs.load.any_busy.Lts as lts
 use Rattle.capi_screens.proofs.load.is_busy.Reads as is-busy-reads
 
-abbrev invariant-loop : tie.invariant-loop
+abbrev invariant-loop : tie.invariant-loop-left
 invariant-loop records left₀ left = (left ≤ 8) × (any_runs 8 (busy records) ≡ any_runs left (busy records))
 
-abbrev decreases-loop : tie.decreases-loop
+abbrev decreases-loop : tie.decreases-loop-left
 decreases-loop records left₀ left = left
 
-loop-holds : tie.Need-loop-init invariant-loop decreases-loop
+loop-holds : tie.Need-loop-left-init invariant-loop decreases-loop
 loop-holds c = (omega arith, refl)
 
-returns : tie.Need-returns invariant-loop decreases-loop
+returns : tie.Need-returns-then-is_busy invariant-loop decreases-loop
 returns c =
     let b = c.before.before.before.before.before.before.args.records.now in
-    let l = c.before.before.before.before.loop in
+    let l = c.before.before.before.before.loop-left in
     any_here (busy b) l.left (omega arith)
-    (sym (busy-part b (983 * (l.left - 1)) _ c.before.is-busy.ensures) ∙ c.if1.true) l.invariant.1
+    (sym (busy-part b (983 * (l.left - 1)) _ c.before.is_busy.ensures) ∙ c.if-is_busy.true) l.invariant.1
 
-loop-again : tie.Need-loop-preserved invariant-loop decreases-loop
+loop-again : tie.Need-loop-left-preserved invariant-loop decreases-loop
 loop-again c =
     let b = c.before.before.before.before.before.before.args.records.now in
-    let l = c.before.before.before.before.loop in (
+    let l = c.before.before.before.before.loop-left in (
       omega arith,
       any-on (busy b) l.left (omega arith)
-          (sym (busy-part b (983 * (l.left - 1)) _ c.before.is-busy.ensures) ∙ c.if1.false) l.invariant.1,
+          (sym (busy-part b (983 * (l.left - 1)) _ c.before.is_busy.ensures) ∙ c.if-is_busy.false) l.invariant.1,
     )
 
-returns-2 : tie.Need-returns-2 invariant-loop decreases-loop
-returns-2 c = any-end _ c.before.loop.left (omega arith) c.before.loop.invariant.1
+returns-2 : tie.Need-returns invariant-loop decreases-loop
+returns-2 c = any-end _ c.before.loop-left.left (omega arith) c.before.loop-left.invariant.1
 
-pub any-busy-spec : {M : Type 1} → statement M
-any-busy-spec =
+pub any_busy_spec : {M : Type 1} → statement M
+any_busy_spec =
     tie.close
     (tie.spec invariant-loop decreases-loop loop-holds (λ c. search rules) (λ c. search rules) (λ c. search rules)
     (λ c. search rules) (λ c. search rules) (λ c. search rules) (λ c κs. search rules) returns (λ c. search rules)

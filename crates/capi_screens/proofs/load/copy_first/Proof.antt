@@ -10,22 +10,22 @@ use Rattle.capi_screens.proofs.load.copy_first.Tie as tie
 use Rattle.capi_screens.proofs.load.copy_first.Reads as reads
 use Rattle.capi_screens.proofs.load.copy_first.Lts as lts
 
-abbrev invariant-loop : tie.invariant-loop
+abbrev invariant-loop : tie.invariant-loop-at
 invariant-loop records₀ at₀ records at =
     (length records ≡ length records₀) × ((983 ≤ at) × ((at ≤ length records) × Copied records₀ records at))
 
-abbrev decreases-loop : tie.decreases-loop
+abbrev decreases-loop : tie.decreases-loop-at
 decreases-loop records₀ at₀ records at = length records - at
 
-loop-holds : tie.Need-loop-init invariant-loop decreases-loop
+loop-holds : tie.Need-loop-at-init invariant-loop decreases-loop
 loop-holds c = (refl, (omega arith, (omega (arith, c.requires), copied-first c.args.records.now)))
 
-loop-less : tie.Need-loop-smaller invariant-loop decreases-loop
+loop-less : tie.Need-loop-at-smaller invariant-loop decreases-loop
 loop-less c = simp length-set (omega arith)
 
-loop-again : tie.Need-loop-preserved invariant-loop decreases-loop
+loop-again : tie.Need-loop-at-preserved invariant-loop decreases-loop
 loop-again c =
-    let l = c.before.before.loop in (
+    let l = c.before.before.loop-at in (
       length-set l.records l.at (get_or l.records (l.at - 983) 0) ∙ l.invariant.0,
       (
         omega (arith, l.invariant.1.0),
@@ -39,13 +39,13 @@ loop-again c =
 
 returns : tie.Need-returns invariant-loop decreases-loop
 returns c =
-    let l = c.before.loop in
+    let l = c.before.loop-at in
     let s = c.before.before in
     copied_all s.args.records.now l.records s.requires (l.invariant.0 ∙ s.requires)
     (λ j h. l.invariant.1.1.1 j (omega (arith, h, l.invariant.0, s.requires)))
 
-pub copy-first-spec : {M : Type 1} → statement M
-copy-first-spec =
+pub copy_first_spec : {M : Type 1} → statement M
+copy_first_spec =
     tie.close
     (tie.spec invariant-loop decreases-loop loop-holds (λ c. search rules) (λ c. search rules) (λ c. search rules)
     (λ c. search rules) loop-less loop-again (λ c. search rules) returns)

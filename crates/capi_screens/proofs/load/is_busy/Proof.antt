@@ -8,14 +8,14 @@ use Rattle.capi_screens.proofs.load.is_busy.Reads as reads
 use Rattle.capi_screens.proofs.load.is_busy.Lts as lts
 use Rattle.records.proofs.bytes.valid_bytes.Reads as valid-bytes-reads
 
-returns : tie.Need-returns
-returns c = not_valid _ _ c.before.valid-bytes.ensures c.if1.true
+returns : tie.Need-returns-then-not-valid_bytes
+returns c = not_valid _ _ c.before.valid_bytes.ensures c.if-not-valid_bytes.true-raw
 
-shared-slice-read-result : tie.Need-shared-slice-read-result
-shared-slice-read-result c = valid-some _ _ c.before.before.valid-bytes.ensures c.before.if1.false
+shared-slice-read-result : tie.Need-bounds-rec-0
+shared-slice-read-result c = valid-some _ _ c.before.before.valid_bytes.ensures c.before.if-not-valid_bytes.false-raw
 
-returns-2 : tie.Need-returns-2
-returns-2 c = valid-runs _ _ c.before.before.valid-bytes.ensures c.before.if1.false
+returns-2 : tie.Need-returns
+returns-2 c = valid-runs _ _ c.before.before.valid_bytes.ensures c.before.if-not-valid_bytes.false-raw
 
-pub is-busy-spec : {M : Type 1} → statement M
-is-busy-spec = tie.close (tie.spec (λ c κs. search rules) returns shared-slice-read-result returns-2)
+pub is_busy_spec : {M : Type 1} → statement M
+is_busy_spec = tie.close (tie.spec (λ c κs. search rules) returns shared-slice-read-result returns-2)

@@ -5,22 +5,22 @@ use borrow.Author.Rules.{rules}
 use Rattle.capi_session.proofs.calls.whatif_advance.Statement.{statement}
 use Rattle.capi_session.proofs.calls.whatif_advance.Tie as tie
 
-returns : tie.Need-returns
+returns : tie.Need-returns-then-not-laid_out
 returns c =
-    advance-not _ _ _ (refused-laid _ _ c.before.laid_out.ensures c.if1.true)
+    advance-not _ _ _ (refused-laid _ _ c.before.laid_out.ensures c.if-not-laid_out.true-raw)
 
-decode-requires : tie.Need-decode-requires
+decode-requires : tie.Need-decode-s-requires
 decode-requires c κs =
-    passed_length _ _ c.before.before.laid_out.ensures c.before.if1.false
+    passed_length _ _ c.before.before.laid_out.ensures c.before.if-not-laid_out.false-raw
 
-store-advanced-requires : tie.Need-store-advanced-requires
+store-advanced-requires : tie.Need-store_advanced-requires
 store-advanced-requires c κs =
     let v = c.before.before.before in
     let i = v.before.before.before in
-    let F = v.advance-step.ensures in
-    record { long = passed_length _ _ i.before.laid_out.ensures i.if1.false; stores = F.stores; room = F.room }
+    let F = v.advance_step-step.ensures in
+    record { long = passed_length _ _ i.before.laid_out.ensures i.if-not-laid_out.false-raw; stores = F.stores; room = F.room }
 
-returns-2 : tie.Need-returns-2
+returns-2 : tie.Need-returns
 returns-2 c =
     let p = c.before.before in
     let v = p.before.before.before.before in
@@ -28,11 +28,11 @@ returns-2 c =
     let i = d.before.before in
     let l = i.before in
     let k = l.before.before.before.before.before.before in
-    advance-made k.before.args.rec.now _ _ _ _ _ _ _ (passed-laid _ _ l.laid_out.ensures i.if1.false)
-    (λ j. omega (arith, k.slice-known.given j)) d.decode.ensures v.advance-step.ensures p.store-advanced.ensures
+    advance-made k.before.args.rec-1.now _ _ _ _ _ _ _ (passed-laid _ _ l.laid_out.ensures i.if-not-laid_out.false-raw)
+    (λ j. omega (arith, k.slice_known-1.given j)) d.decode-s.ensures v.advance_step-step.ensures p.store_advanced.ensures
 
-pub whatif-advance-spec : {M : Type 1} → statement M
-whatif-advance-spec =
+pub whatif_advance_spec : {M : Type 1} → statement M
+whatif_advance_spec =
     tie.close
     (tie.spec (λ c κs. search rules) (λ c. search rules) returns decode-requires (λ c κs. search rules)
     (λ c. search rules) store-advanced-requires (λ c. search rules) returns-2)

@@ -10,27 +10,27 @@ use Rattle.records.proofs.bytes.decode.Reads as decode-reads
 use Rattle.records.proofs.bytes.laid_out.Reads as laid-out-reads
 use Rattle.session.proofs.state.Session.cancel.Reads as cancel-reads
 
-returns : tie.Need-returns
+returns : tie.Need-returns-then-not-laid_out
 returns c =
-    not-laid _ _ (refused-laid _ _ c.before.laid_out.ensures c.if1.true)
+    not-laid _ _ (refused-laid _ _ c.before.laid_out.ensures c.if-not-laid_out.true-raw)
 
-decode-requires : tie.Need-decode-requires
+decode-requires : tie.Need-decode-s-requires
 decode-requires c κs =
-    passed_length _ _ c.before.before.laid_out.ensures c.before.if1.false
+    passed_length _ _ c.before.before.laid_out.ensures c.before.if-not-laid_out.false-raw
 
-store-done-requires : tie.Need-store-done-requires
+store-done-requires : tie.Need-store_done-requires
 store-done-requires c κs =
-    passed_length _ _ c.before.before.before.before.before.laid_out.ensures c.before.before.before.before.if1.false
+    passed_length _ _ c.before.before.before.before.before.laid_out.ensures c.before.before.before.before.if-not-laid_out.false-raw
 
-returns-2 : tie.Need-returns-2
+returns-2 : tie.Need-returns
 returns-2 c =
     laid _ _ (passed-laid _ _ c.before.before.before.before.before.before.before.before.laid_out.ensures
-    c.before.before.before.before.before.before.before.if1.false) _ _ _ _
-    (of-decoded _ _ _ _ _ c.before.before.before.before.before.decode.ensures
-    c.before.before.before.before.cancel.ensures) c.before.before.store-done.ensures
+    c.before.before.before.before.before.before.before.if-not-laid_out.false-raw) _ _ _ _
+    (of-decoded _ _ _ _ _ c.before.before.before.before.before.decode-s.ensures
+    c.before.before.before.before.cancel-out.ensures) c.before.before.store_done.ensures
 
-pub whatif-cancel-spec : {M : Type 1} → statement M
-whatif-cancel-spec =
+pub whatif_cancel_spec : {M : Type 1} → statement M
+whatif_cancel_spec =
     tie.close
     (tie.spec (λ c κs. search rules) (λ c. search rules) returns decode-requires (λ c κs. search rules)
     store-done-requires (λ c. search rules) returns-2)

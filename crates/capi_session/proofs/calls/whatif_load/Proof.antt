@@ -10,29 +10,29 @@ use Rattle.records.proofs.bytes.decode.Reads as decode-reads
 use Rattle.records.proofs.bytes.laid_out.Reads as laid-out-reads
 use Rattle.session.proofs.state.Session.load.Reads as load-reads
 
-returns : tie.Need-returns
+returns : tie.Need-returns-then-not-laid_out
 returns c =
-    load-not _ _ (refused-laid _ _ c.before.laid_out.ensures c.if1.true)
+    load-not _ _ (refused-laid _ _ c.before.laid_out.ensures c.if-not-laid_out.true-raw)
 
-decode-requires : tie.Need-decode-requires
+decode-requires : tie.Need-decode-s-requires
 decode-requires c κs =
-    passed_length _ _ c.before.before.laid_out.ensures c.before.if1.false
+    passed_length _ _ c.before.before.laid_out.ensures c.before.if-not-laid_out.false-raw
 
-store-done-requires : tie.Need-store-done-requires
+store-done-requires : tie.Need-store_done-requires
 store-done-requires c κs =
     let i = c.before.before.before.before.before.before.before.before.before.before in
-    passed_length _ _ i.before.laid_out.ensures i.if1.false
+    passed_length _ _ i.before.laid_out.ensures i.if-not-laid_out.false-raw
 
-returns-2 : tie.Need-returns-2
+returns-2 : tie.Need-returns
 returns-2 c =
     let l = c.before.before.before.before.before.before.before.before in
     let d = l.before.before.before in
     let i = d.before.before in
-    load-laid _ _ (passed-laid _ _ i.before.laid_out.ensures i.if1.false) _ _ _ _ _
-    (load-decoded _ _ _ _ _ _ _ d.decode.ensures l.load.ensures) c.before.before.store-done.ensures
+    load-laid _ _ (passed-laid _ _ i.before.laid_out.ensures i.if-not-laid_out.false-raw) _ _ _ _ _
+    (load-decoded _ _ _ _ _ _ _ d.decode-s.ensures l.load-out.ensures) c.before.before.store_done.ensures
 
-pub whatif-load-spec : {M : Type 1} → statement M
-whatif-load-spec =
+pub whatif_load_spec : {M : Type 1} → statement M
+whatif_load_spec =
     tie.close
     (tie.spec (λ c κs. search rules) (λ c. search rules) returns decode-requires (λ c κs. search rules)
     store-done-requires (λ c. search rules) (λ c. search rules) (λ c. search rules) returns-2)

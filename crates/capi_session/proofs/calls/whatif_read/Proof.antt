@@ -10,22 +10,22 @@ use Rattle.records.proofs.bytes.decode.Reads as decode-reads
 use Rattle.records.proofs.bytes.laid_out.Reads as laid-out-reads
 use Rattle.session.proofs.state.Session.read.Reads as read-reads
 
-returns : tie.Need-returns
+returns : tie.Need-returns-then-not-laid_out
 returns c =
-    read-not _ _ (refused-laid _ _ c.before.laid_out.ensures c.if1.true)
+    read-not _ _ (refused-laid _ _ c.before.laid_out.ensures c.if-not-laid_out.true-raw)
 
-decode-requires : tie.Need-decode-requires
+decode-requires : tie.Need-decode-s-requires
 decode-requires c κs =
-    passed_length _ _ c.before.laid_out.ensures c.if1.false
+    passed_length _ _ c.before.laid_out.ensures c.if-not-laid_out.false-raw
 
-returns-2 : tie.Need-returns-2
+returns-2 : tie.Need-returns
 returns-2 c =
     read-laid _ (passed-laid _ _ c.before.before.before.before.before.before.before.before.before.laid_out.ensures
-    c.before.before.before.before.before.before.before.before.if1.false) _ _ _ _
-    (read-decoded _ _ _ c.before.before.before.before.before.before.before.decode.ensures
-    c.before.before.before.before.before.before.read.ensures) c.tell-read.ensures
+    c.before.before.before.before.before.before.before.before.if-not-laid_out.false-raw) _ _ _ _
+    (read-decoded _ _ _ c.before.before.before.before.before.before.before.decode-s.ensures
+    c.before.before.before.before.before.before.read-answer.ensures) c.tell_read.ensures
 
-pub whatif-read-spec : {M : Type 1} → statement M
-whatif-read-spec =
+pub whatif_read_spec : {M : Type 1} → statement M
+whatif_read_spec =
     tie.close
     (tie.spec (λ c κs. search rules) returns decode-requires (λ c κs. search rules) (λ c κs. search rules) returns-2)

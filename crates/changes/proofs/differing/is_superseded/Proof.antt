@@ -13,18 +13,18 @@ use Rattle.changes.proofs.differing.is_superseded.Reads as reads
 use Rattle.changes.proofs.differing.is_superseded.Lts as lts
 use Rattle.formats.proofs.lists.is_listed.Reads as is-listed-reads
 
-returns : tie.Need-returns
+returns : tie.Need-returns-then-last-v
 returns c =
     let a = c.before.before.before.before.args in
-    last-of-all a.nodes.now a.last.now a.i c.before.before.before.before.requires.places c.if1.true
+    last-of-all a.nodes.now a.last.now a.i c.before.before.before.before.requires.places c.if-last-v.true
 
-returns-2 : tie.Need-returns-2
+returns-2 : tie.Need-returns
 returns-2 c =
     let a = c.before.before.before.before.before.before.args in
-    c.is-listed.ensures ∙ ap (holds (get_or a.nodes.now a.i 0)) (rest_part a.nodes.now (a.i + 1))
+    c.is_listed.ensures ∙ ap (holds (get_or a.nodes.now a.i 0)) (rest_part a.nodes.now (a.i + 1))
 
-pub is-superseded-spec : {M : Type 1} → statement M
-is-superseded-spec =
+pub is_superseded_spec : {M : Type 1} → statement M
+is_superseded_spec =
     tie.close
     (tie.spec (λ c. search rules) (λ c. search rules) (λ c. search rules) (λ c. search rules) (λ c. search rules)
     returns (λ c. search rules) (λ c. search rules) (λ c. search rules) (λ c. search rules) (λ c. search rules)

@@ -12,27 +12,27 @@ use Rattle.changes.proofs.differing.keep.Lts as lts
 use Rattle.changes.proofs.differing.is_superseded.Reads as is-superseded-reads
 use Rattle.changes.proofs.differing.label_at.Reads as label-at-reads
 
-returns : tie.Need-returns
+returns : tie.Need-returns-then-is_superseded
 returns c =
     let a = c.before.before.before.before.before.args in
     keep-later (left_within a.count a.left.now) a.labels.now a.nodes.now (get_or a.nodes.now a.i 0)
-    (get_or a.changes.now a.i 0) a.i _ c.before.is-superseded.ensures c.if1.true
+    (get_or a.changes.now a.i 0) a.i _ c.before.is_superseded.ensures c.if-is_superseded.true
 
-returns-2 : tie.Need-returns-2
+returns-2 : tie.Need-returns-then-changes-i
 returns-2 c =
     let a = c.before.before.before.before.before.before.before.before.before.args in
     let e = c.before.before.before.before in
     keep-own (left_within a.count a.left.now) a.labels.now a.nodes.now (get_or a.nodes.now a.i 0)
-    (get_or a.changes.now a.i 0) a.i _ e.before.is-superseded.ensures e.if1.false _
-    c.before.label_at.ensures c.if2.true
+    (get_or a.changes.now a.i 0) a.i _ e.before.is_superseded.ensures e.if-is_superseded.false _
+    c.before.label_at.ensures c.if-changes-i.true
 
-returns-3 : tie.Need-returns-3
+returns-3 : tie.Need-returns
 returns-3 c =
     let a = c.before.before.before.before.before.before.before.before.before.args in
     let e = c.before.before.before.before in
     keep-new (left_within a.count a.left.now) a.labels.now a.nodes.now (get_or a.nodes.now a.i 0)
-    (get_or a.changes.now a.i 0) a.i _ e.before.is-superseded.ensures e.if1.false _
-    c.before.label_at.ensures c.if2.false _ refl
+    (get_or a.changes.now a.i 0) a.i _ e.before.is_superseded.ensures e.if-is_superseded.false _
+    c.before.label_at.ensures c.if-changes-i.false _ refl
 
 pub keep_spec : {M : Type 1} → statement M
 keep_spec =

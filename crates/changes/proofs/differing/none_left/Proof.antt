@@ -8,5 +8,5 @@ returns : tie.Need-returns
 unfolding padded
 returns c = refl
 
-pub none-left-spec : {M : Type 1} → statement M
-none-left-spec = tie.close (tie.spec returns)
+pub none_left_spec : {M : Type 1} → statement M
+none_left_spec = tie.close (tie.spec returns)

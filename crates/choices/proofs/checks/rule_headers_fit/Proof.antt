@@ -14,45 +14,45 @@ use Rattle.formats.proofs.buffers.headers_fit.Reads as headers-fit-reads
 use Rattle.formats.proofs.buffers.rule_buffers_fit.Reads as rule-buffers-fit-reads
 use Rattle.formats.proofs.bytes.read32.Reads as read32-reads
 
-yes : (c : tie.Else1) → let g = c.before.before.before.before.before.before.args in
+yes : (c : tie.Else-not-headers_fit) → let g = c.before.before.before.before.before.before.args in
     headers_fit 20 g.plan.now g.rules.now ≡ true
-yes c = sym c.before.headers-fit.ensures ∙ not-false _ c.if1.false
+yes c = sym c.before.headers_fit.ensures ∙ not-false _ c.if-not-headers_fit.false-raw
 
-heads : (c : tie.Else1) → let g = c.before.before.before.before.before.before.args in
+heads : (c : tie.Else-not-headers_fit) → let g = c.before.before.before.before.before.before.args in
     Headers 20 g.plan.now g.rules.now
 heads c = headers-are 20 _ _ (yes c)
 
-returns : tie.Need-returns
+returns : tie.Need-returns-then-not-headers_fit
 returns c =
-    sym (headers-no _ _ _ _ _ (sym c.before.headers-fit.ensures ∙ not-true _ c.if1.true))
+    sym (headers-no _ _ _ _ _ (sym c.before.headers_fit.ensures ∙ not-true _ c.if-not-headers_fit.true-raw))
 
-read32-requires : tie.Need-read32-requires
+read32-requires : tie.Need-read32-n-requires
 read32-requires c κs = omega (arith, (heads c).plan-long)
 
-read32-requires-2 : tie.Need-read32-requires-2
+read32-requires-2 : tie.Need-read32-s-requires
 read32-requires-2 c κs = omega (arith, (heads c.before).table-long)
 
-read32-requires-3 : tie.Need-read32-requires-3
+read32-requires-3 : tie.Need-read32-k-requires
 read32-requires-3 c κs = omega (arith, (heads c.before.before).table-long)
 
-rule-buffers-fit-requires : tie.Need-rule-buffers-fit-requires
+rule-buffers-fit-requires : tie.Need-rule_buffers_fit-requires
 rule-buffers-fit-requires c κs =
     let L = (heads c.before.before.before).in-limits in
     record {
-      most = omega (arith, L.most, c.before.before.read32.ensures);
-      few = omega (arith, L.few, c.before.read322.ensures);
-      labels = omega (arith, L.labels_most, c.read323.ensures);
+      most = omega (arith, L.most, c.before.before.read32-n.ensures);
+      few = omega (arith, L.few, c.before.read32-s.ensures);
+      labels = omega (arith, L.labels_most, c.read32-k.ensures);
     }
 
-returns-2 : tie.Need-returns-2
+returns-2 : tie.Need-returns
 returns-2 c =
     let x = c.before in
-    c.rule-buffers-fit.ensures
-    ∙ headed-by _ _ _ _ _ _ _ _ _ x.before.before.read32.ensures x.before.read322.ensures
-    x.read323.ensures refl (yes x.before.before.before)
+    c.rule_buffers_fit.ensures
+    ∙ headed-by _ _ _ _ _ _ _ _ _ x.before.before.read32-n.ensures x.before.read32-s.ensures
+    x.read32-k.ensures refl (yes x.before.before.before)
 
-pub rule-headers-fit-spec : {M : Type 1} → statement M
-rule-headers-fit-spec =
+pub rule_headers_fit_spec : {M : Type 1} → statement M
+rule_headers_fit_spec =
     tie.close
     (tie.spec (λ c κs. search rules) returns read32-requires read32-requires-2 read32-requires-3
     rule-buffers-fit-requires returns-2)

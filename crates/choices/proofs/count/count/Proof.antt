@@ -19,41 +19,41 @@ use Rattle.choices.proofs.count.count_runs.Reads as count-runs-reads
 use Rattle.choices.proofs.count.refused.Reads as refused-reads
 use Rattle.formats.proofs.bytes.read32.Reads as read32-reads
 
-passed : (c : tie.Else1) → let g = c.before.before.before.before.before.before.before.args in
-    first_no (listed_checks g.plan.now g.rules.now (length g.node-table.now) (length g.state-table.now)
+passed : (c : tie.Else-no-ne0) → let g = c.before.before.before.before.before.before.before.args in
+    first_no (listed_checks g.plan.now g.rules.now (length g.node_table.now) (length g.state_table.now)
     g.nodes.now) ≡ 0
-passed c = sym c.before.check-count.ensures ∙ c.if1.false
+passed c = sym c.before.check_count-no.ensures ∙ c.if-no-ne0.false
 
-heads : (c : tie.Else1) → let g = c.before.before.before.before.before.before.before.args in
+heads : (c : tie.Else-no-ne0) → let g = c.before.before.before.before.before.before.before.args in
     Headers 20 g.plan.now g.rules.now
 heads c = (headed-are rule_tables _ _ _ _ (fit-17 _ _ _ _ _ (passed c))).headers
 
-returns : tie.Need-returns
+returns : tie.Need-returns-then-no-ne0
 returns c =
     count-done _ _ _ _ _ _
     (c.refused.ensures
-    ∙ count-refused _ _ _ _ _ _ c.before.before.check-count.ensures c.before.if1.true)
+    ∙ count-refused _ _ _ _ _ _ c.before.before.check_count-no.ensures c.before.if-no-ne0.true)
 
-read32-requires : tie.Need-read32-requires
+read32-requires : tie.Need-read32-n-requires
 read32-requires c κs = omega (arith, (heads c).plan-long)
 
-read32-requires-2 : tie.Need-read32-requires-2
+read32-requires-2 : tie.Need-read32-s-requires
 read32-requires-2 c κs = omega (arith, (heads c.before).table-long)
 
-read32-requires-3 : tie.Need-read32-requires-3
+read32-requires-3 : tie.Need-read32-k-requires
 read32-requires-3 c κs = omega (arith, (heads c.before.before).table-long)
 
-count-runs-requires : tie.Need-count-runs-requires
+count-runs-requires : tie.Need-count_runs-requires
 count-runs-requires c κs =
-    run-args _ _ _ _ _ (passed c.before.before.before) _ _ _ c.before.before.read32.ensures
-    c.before.read322.ensures c.read323.ensures
+    run-args _ _ _ _ _ (passed c.before.before.before) _ _ _ c.before.before.read32-n.ensures
+    c.before.read32-s.ensures c.read32-k.ensures
 
-returns-2 : tie.Need-returns-2
+returns-2 : tie.Need-returns
 returns-2 c =
     let x = c.before in
     count-done _ _ _ _ _ _
-    (count_runs _ _ _ _ _ (passed x.before.before.before) _ _ _ x.before.before.read32.ensures
-    x.before.read322.ensures x.read323.ensures c.count_runs.result c.count_runs.ensures)
+    (count_runs _ _ _ _ _ (passed x.before.before.before) _ _ _ x.before.before.read32-n.ensures
+    x.before.read32-s.ensures x.read32-k.ensures c.count_runs.result c.count_runs.ensures)
 
 pub count_spec : {M : Type 1} → statement M
 count_spec =

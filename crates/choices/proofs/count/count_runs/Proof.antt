@@ -11,97 +11,97 @@ use Rattle.choices.proofs.count.count_runs.Lts as lts
 use Rattle.choices.proofs.count.count_on.Reads as count-on-reads
 
 fit : (s : tie.Start) → let g = s.args in
-    Fit g.n g.s g.k g.plan.now g.rules.now g.node-table.now g.state-table.now g.nodes.now
+    Fit g.n g.s g.k g.plan.now g.rules.now g.node_table.now g.state_table.now g.nodes.now
 fit s = fit-by _ _ _ _ _ _ _ _ s.requires
 
-add-count-on : tie.Need-overflow-add-count-on
+add-count-on : tie.Need-overflow_add-n
 add-count-on c = omega (arith, fit c.before.before.before.before.before)
 
-sub-count-on : tie.Need-overflow-sub-count-on
+sub-count-on : tie.Need-slice_bounds-count_on-count
 sub-count-on c = omega (arith, fit c.before.before.before.before.before)
 
-part-count-on-start : tie.Need-slice-bounds-count-on-start
+part-count-on-start : tie.Need-slice_bounds-count_on-start
 part-count-on-start c = omega (arith, fit c.before.before.before.before.before)
 
-part-count-on-end : tie.Need-slice-bounds-count-on-end
+part-count-on-end : tie.Need-slice_bounds-count_on-end
 part-count-on-end c = omega (arith, fit c.before.before.before.before.before)
 
-add-count-on-2 : tie.Need-overflow-add-count-on-2
+add-count-on-2 : tie.Need-overflow_add-n-2
 add-count-on-2 c = omega (arith, fit c.before.before.before.before.before.before)
 
-sub-count-on-2 : tie.Need-overflow-sub-count-on-2
+sub-count-on-2 : tie.Need-slice_bounds-count_on-count-2
 sub-count-on-2 c = omega (arith, fit c.before.before.before.before.before.before)
 
-part-count-on-start-2 : tie.Need-slice-bounds-count-on-start-2
+part-count-on-start-2 : tie.Need-slice_bounds-count_on-start-2
 part-count-on-start-2 c = omega (arith, fit c.before.before.before.before.before.before)
 
-part-count-on-end-2 : tie.Need-slice-bounds-count-on-end-2
+part-count-on-end-2 : tie.Need-slice_bounds-count_on-end-2
 part-count-on-end-2 c = omega (arith, fit c.before.before.before.before.before.before)
 
-add-count-on-3 : tie.Need-overflow-add-count-on-3
+add-count-on-3 : tie.Need-overflow_add-k
 add-count-on-3 c = omega (arith, fit c.before.before.before.before.before.before.before)
 
-sub-count-on-3 : tie.Need-overflow-sub-count-on-3
+sub-count-on-3 : tie.Need-slice_bounds-count_on-count-3
 sub-count-on-3 c = omega (arith, fit c.before.before.before.before.before.before.before)
 
-part-count-on-start-3 : tie.Need-slice-bounds-count-on-start-3
+part-count-on-start-3 : tie.Need-slice_bounds-count_on-start-3
 part-count-on-start-3 c = omega (arith, fit c.before.before.before.before.before.before.before)
 
-part-count-on-end-3 : tie.Need-slice-bounds-count-on-end-3
+part-count-on-end-3 : tie.Need-slice_bounds-count_on-end-3
 part-count-on-end-3 c = omega (arith, fit c.before.before.before.before.before.before.before)
 
-add-count-on-4 : tie.Need-overflow-add-count-on-4
+add-count-on-4 : tie.Need-overflow_add-k-2
 add-count-on-4 c = omega (arith, fit c.before.before.before.before.before.before.before.before)
 
-add-count-on-5 : tie.Need-overflow-add-count-on-5
+add-count-on-5 : tie.Need-overflow_add-k-3
 add-count-on-5 c = omega (arith, fit c.before.before.before.before.before.before.before.before)
 
-mul-count-on : tie.Need-overflow-mul-count-on
+mul-count-on : tie.Need-overflow_mul-s
 mul-count-on c = omega (arith, fit c.before.before.before.before.before.before.before.before)
 
-mul-count-on-2 : tie.Need-overflow-mul-count-on-2
+mul-count-on-2 : tie.Need-overflow_mul-s-2
 mul-count-on-2 c = omega (arith, fit c.before.before.before.before.before.before.before.before)
 
-add-count-on-6 : tie.Need-overflow-add-count-on-6
+add-count-on-6 : tie.Need-overflow_add-k-4
 add-count-on-6 c = omega (arith, fit c.before.before.before.before.before.before.before.before)
 
-sub-count-on-4 : tie.Need-overflow-sub-count-on-4
+sub-count-on-4 : tie.Need-slice_bounds-count_on-count-4
 sub-count-on-4 c = omega (arith, fit c.before.before.before.before.before.before.before.before)
 
-part-count-on-start-4 : tie.Need-slice-bounds-count-on-start-4
+part-count-on-start-4 : tie.Need-slice_bounds-count_on-start-4
 part-count-on-start-4 c = omega (arith, fit c.before.before.before.before.before.before.before.before)
 
-part-count-on-end-4 : tie.Need-slice-bounds-count-on-end-4
+part-count-on-end-4 : tie.Need-slice_bounds-count_on-end-4
 part-count-on-end-4 c = omega (arith, fit c.before.before.before.before.before.before.before.before)
 
-mul-count-on-3 : tie.Need-overflow-mul-count-on-3
+mul-count-on-3 : tie.Need-overflow_mul-n
 mul-count-on-3 c = omega (arith, fit c.before.before.before.before.before.before.before.before.before)
 
-slice-aggregate-count-on : tie.Need-slice-aggregate-count-on
+slice-aggregate-count-on : tie.Need-slice_bounds-count_on-end-5
 slice-aggregate-count-on c =
     let b5 = c.before.before.before.before.before in
     let b10 = b5.before.before.before.before.before in
     sym (length-take-le _ _ (fit (b10)).lengths.node_table_room)
 
-add-count-on-7 : tie.Need-overflow-add-count-on-7
+add-count-on-7 : tie.Need-overflow_add-s
 add-count-on-7 c =
     let b5 = c.before.before.before.before.before in
     let b10 = b5.before.before.before.before.before in
     omega (arith, fit (b10))
 
-mul-count-on-4 : tie.Need-overflow-mul-count-on-4
+mul-count-on-4 : tie.Need-overflow_mul-n-2
 mul-count-on-4 c =
     let b5 = c.before.before.before.before.before in
     let b10 = b5.before.before.before.before.before in
     omega (arith, fit (b10))
 
-slice-aggregate-count-on-2 : tie.Need-slice-aggregate-count-on-2
+slice-aggregate-count-on-2 : tie.Need-slice_bounds-count_on-end-6
 slice-aggregate-count-on-2 c =
     let b5 = c.before.before.before.before.before in
     let b10 = b5.before.before.before.before.before in
     sym (length-take-le _ _ (fit b10.before).lengths.state_table_room)
 
-count-on-requires : tie.Need-count-on-requires
+count-on-requires : tie.Need-count_on-requires
 count-on-requires c κs =
     let b5 = c.before.before.before.before.before in
     let b10 = b5.before.before.before.before.before in
@@ -111,10 +111,10 @@ returns : tie.Need-returns
 returns c =
     let b5 = c.before.before.before.before.before in
     let b10 = b5.before.before.before.before.before in
-    on-answer _ _ _ _ _ _ _ _ b10.before.before.requires _ c.count-on.ensures
+    on-answer _ _ _ _ _ _ _ _ b10.before.before.requires _ c.count_on.ensures
 
-pub count-runs-spec : {M : Type 1} → statement M
-count-runs-spec =
+pub count_runs_spec : {M : Type 1} → statement M
+count_runs_spec =
     tie.close
     (tie.spec add-count-on sub-count-on part-count-on-start part-count-on-end add-count-on-2 sub-count-on-2
     part-count-on-start-2 part-count-on-end-2 add-count-on-3 sub-count-on-3 part-count-on-start-3 part-count-on-end-3

@@ -9,21 +9,21 @@ use Rattle.choices.proofs.part.label_range.Tie as tie
 use Rattle.choices.proofs.part.label_range.Reads as reads
 use Rattle.choices.proofs.part.label_range.Lts as lts
 
-returns : tie.Need-returns
+returns : tie.Need-returns-then-free
 returns c =
     let g = c.before.args in
-    ap (λ (f : Bool). label_range g.labels.now g.k f g.v) (sym c.if1.true)
+    ap (λ (f : Bool). label_range g.labels.now g.k f g.v) (sym c.if-free.true)
 
-cast-a : tie.Need-overflow-cast-a
-cast-a c = omega (arith, c.shared-slice-known.given c.before.before.args.v)
+cast-a : tie.Need-overflow_cast-a
+cast-a c = omega (arith, c.shared_slice_known-1.given c.before.before.args.v)
 
-add-t9 : tie.Need-overflow-add-t9
-add-t9 c = omega (arith, c.shared-slice-known.given c.before.before.args.v)
+add-t9 : tie.Need-overflow_add-result
+add-t9 c = omega (arith, c.shared_slice_known-1.given c.before.before.args.v)
 
-returns-2 : tie.Need-returns-2
+returns-2 : tie.Need-returns
 returns-2 c =
     let g = c.before.before.args in
-    ap (λ (f : Bool). label_range g.labels.now g.k f g.v) (sym c.before.if1.false)
+    ap (λ (f : Bool). label_range g.labels.now g.k f g.v) (sym c.before.if-free.false)
 
-pub label-range-spec : {M : Type 1} → statement M
-label-range-spec = tie.close (tie.spec returns (λ c. search rules) cast-a add-t9 returns-2)
+pub label_range_spec : {M : Type 1} → statement M
+label_range_spec = tie.close (tie.spec returns (λ c. search rules) cast-a add-t9 returns-2)

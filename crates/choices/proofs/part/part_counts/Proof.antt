@@ -16,45 +16,45 @@ use Rattle.choices.proofs.part.label_range.Reads as label-range-reads
 use Rattle.choices.proofs.part.places_below.Reads as places-below-reads
 use Rattle.choices.proofs.part_steps.root.root_counts.Reads as root-counts-reads
 
-abbrev start : tie.After-label-range → tie.Start
+abbrev start : tie.After-label_range-b → tie.Start
 start a = a.before.before.before.before.before.before.before.before.before
 
-first-is : (a : tie.After-label-range) → let g = (start a).args in
-    a.label-range.result.first ≡ cond g.free 0 (get_or g.labels.now g.v 0)
-first-is a = ap (λ (r : LabelRange). r.first) a.label-range.ensures
+first-is : (a : tie.After-label_range-b) → let g = (start a).args in
+    a.label_range-b.result.first ≡ cond g.free 0 (get_or g.labels.now g.v 0)
+first-is a = ap (λ (r : LabelRange). r.first) a.label_range-b.ensures
 
-end_is : (a : tie.After-label-range) → let g = (start a).args in
-    a.label-range.result.end ≡ cond g.free g.k (get_or g.labels.now g.v 0 + 1)
-end_is a = ap (λ (r : LabelRange). r.end) a.label-range.ensures
+end_is : (a : tie.After-label_range-b) → let g = (start a).args in
+    a.label_range-b.result.end ≡ cond g.free g.k (get_or g.labels.now g.v 0 + 1)
+end_is a = ap (λ (r : LabelRange). r.end) a.label_range-b.ensures
 
-returns : tie.Need-returns
+returns : tie.Need-returns-then-k-b
 returns c =
     let a = c.before.before in
-    no_label _ _ _ _ _ _ _ _ _ _ _ _ _ (start a).requires (start a).args.free _ _ (first-is a) (end_is a) c.if1.true
+    no_label _ _ _ _ _ _ _ _ _ _ _ _ _ (start a).requires (start a).args.free _ _ (first-is a) (end_is a) c.if-k-b.true
 
-returns-2 : tie.Need-returns-2
+returns-2 : tie.Need-returns-then-not-p
 returns-2 c =
     let h = c.before.before in
     let a = c.before.before.before.before.before in
     no-places _ _ _ _ _ _ _ _ _ _ _ _ _ (start a).requires (start a).args.free _ _ (first-is a) (end_is a)
-    h.before.if1.false _ h.places-below.ensures (not-true h.places-below.result.ok c.if2.true)
+    h.before.if-k-b.false _ h.places_below-p.ensures (not-true h.places_below-p.result.ok c.if-not-p.true)
 
-root-counts-requires : tie.Need-root-counts-requires
+root-counts-requires : tie.Need-root_counts-requires
 root-counts-requires c κs =
     let h = c.before.before.before in
     let a = c.before.before.before.before.before.before in
     placed-args _ _ _ _ _ _ _ _ _ _ _ _ _ (start a).requires (start a).args.free _ _ (first-is a) (end_is a)
-    h.before.if1.false _ h.places-below.ensures (not-false h.places-below.result.ok c.before.if2.false)
+    h.before.if-k-b.false _ h.places_below-p.ensures (not-false h.places_below-p.result.ok c.before.if-not-p.false)
 
-returns-3 : tie.Need-returns-3
+returns-3 : tie.Need-returns
 returns-3 c =
     let h = c.before.before.before.before in
     let a = c.before.before.before.before.before.before.before in
     placed-done _ _ _ _ _ _ _ _ _ _ _ _ _ (start a).requires (start a).args.free _ _ (first-is a) (end_is a)
-    h.before.if1.false _ h.places-below.ensures
-    (not-false h.places-below.result.ok c.before.before.if2.false) _ _ c.root-counts.ensures
+    h.before.if-k-b.false _ h.places_below-p.ensures
+    (not-false h.places_below-p.result.ok c.before.before.if-not-p.false) _ _ c.root_counts.ensures
 
-pub part-counts-spec : {M : Type 1} → statement M
-part-counts-spec =
+pub part_counts_spec : {M : Type 1} → statement M
+part_counts_spec =
     tie.close
     (tie.spec (λ c κs. search rules) returns (λ c κs. search rules) returns-2 root-counts-requires returns-3)

@@ -12,22 +12,22 @@ use Rattle.choices.proofs.parts.part_row.Lts as lts
 use Rattle.choices.proofs.part.part_counts.Reads as part-counts-reads
 use Rattle.formats.proofs.lists.is_listed.Reads as is-listed-reads
 
-slice-aggregate-part-counts : tie.Need-slice-aggregate-part-counts
+slice-aggregate-part-counts : tie.Need-slice_bounds-part_counts-end
 slice-aggregate-part-counts c =
     let t = c.before.before.before.before.before.before.before.before.before.before.before in
     sym (length-take-le _ _ (omega (arith, t.requires.next.room)))
 
-part-counts-requires : tie.Need-part-counts-requires
+part-counts-requires : tie.Need-part_counts-requires
 part-counts-requires c κs =
     let t = c.before.before.before.before.before.before.before.before.before.before.before.before in
     row-needs _ _ _ _ _ _ _ _ _ _ _ _ _ t.requires.next _ t.requires
 
 returns : tie.Need-returns
 returns c =
-    by-open _ _ _ _ _ _ _ _ c.before.before.before.is-listed.ensures c.part-counts.ensures
+    by-open _ _ _ _ _ _ _ _ c.before.before.before.is_listed-free.ensures c.part_counts.ensures
 
-pub part-row-spec : {M : Type 1} → statement M
-part-row-spec =
+pub part_row_spec : {M : Type 1} → statement M
+part_row_spec =
     tie.close
     (tie.spec (λ c. search rules) (λ c κs. search rules) (λ c. search rules) slice-aggregate-part-counts
     part-counts-requires returns)

@@ -12,46 +12,46 @@ use Rattle.fewest.proofs.call.check_fewest.Tie as tie
 use Rattle.fewest.proofs.call.check_fewest.Reads as reads
 use Rattle.fewest.proofs.call.check_fewest.Lts as lts
 
-returns : tie.Need-returns
+returns : tie.Need-returns-then-t-ne0
 returns c =
     let g = c.before.before.before.before.args in
-    first-no g.plan.now g.rules.now g.may g.work g.nodes g.labels c.before.check-rule-inputs.result c.before.check-rule-inputs.ensures c.if1.true
+    first-no g.plan.now g.rules.now g.may g.work g.nodes g.labels c.before.check_rule_inputs-t.result c.before.check_rule_inputs-t.ensures c.if-t-ne0.true
 
-read32-requires : tie.Need-read32-requires
+read32-requires : tie.Need-read32-n-requires
 read32-requires c κs =
     let g = c.before.before.before.before.args in
-    omega (arith, (rule-table-passes g.plan.now g.rules.now (sym c.before.check-rule-inputs.ensures ∙ c.if1.false)).0.long)
+    omega (arith, (rule-table-passes g.plan.now g.rules.now (sym c.before.check_rule_inputs-t.ensures ∙ c.if-t-ne0.false)).0.long)
 
-read32-requires-2 : tie.Need-read32-requires-2
+read32-requires-2 : tie.Need-read32-s-requires
 read32-requires-2 c κs =
     let g = c.before.before.before.before.before.args in
-    omega (arith, (rule-table-passes g.plan.now g.rules.now (sym c.before.before.check-rule-inputs.ensures ∙ c.before.if1.false)).1.long)
+    omega (arith, (rule-table-passes g.plan.now g.rules.now (sym c.before.before.check_rule_inputs-t.ensures ∙ c.before.if-t-ne0.false)).1.long)
 
-returns-2 : tie.Need-returns-2
+returns-2 : tie.Need-returns-then-not-may_fits
 returns-2 c =
     let g = c.before.before.before.before.before.before.before.before.args in
-    no-sets g.plan.now g.rules.now g.may g.work g.nodes g.labels (sym c.before.before.before.before.before.check-rule-inputs.ensures ∙ c.before.before.before.before.if1.false) (ap (may_fits g.may) (sym c.before.before.before.read32.ensures) ∙ sym c.before.may-fits.ensures ∙ not-true c.before.may-fits.result c.if2.true)
+    no-sets g.plan.now g.rules.now g.may g.work g.nodes g.labels (sym c.before.before.before.before.before.check_rule_inputs-t.ensures ∙ c.before.before.before.before.if-t-ne0.false) (ap (may_fits g.may) (sym c.before.before.before.read32-n.ensures) ∙ sym c.before.may_fits.ensures ∙ not-true c.before.may_fits.result c.if-not-may_fits.true-raw)
 
-room-fits-requires : tie.Need-room-fits-requires
+room-fits-requires : tie.Need-room_fits-requires
 room-fits-requires c κs =
     let g = c.before.before.before.before.before.before.before.before.args in
-    let f = rule-table-passes g.plan.now g.rules.now (sym c.before.before.before.before.before.check-rule-inputs.ensures ∙ c.before.before.before.before.if1.false) in
-    record { nodes = omega (arith, f.0.most, c.before.before.before.read32.ensures); states = omega (arith, f.1.states_most, c.before.before.read322.ensures) }
+    let f = rule-table-passes g.plan.now g.rules.now (sym c.before.before.before.before.before.check_rule_inputs-t.ensures ∙ c.before.before.before.before.if-t-ne0.false) in
+    record { nodes = omega (arith, f.0.most, c.before.before.before.read32-n.ensures); states = omega (arith, f.1.states_most, c.before.before.read32-s.ensures) }
 
-returns-3 : tie.Need-returns-3
+returns-3 : tie.Need-returns-then-not-room_fits
 returns-3 c =
     let g = c.before.before.before.before.before.before.before.before.before.before.args in
-    no_room g.plan.now g.rules.now g.may g.work g.nodes g.labels (sym c.before.before.before.before.before.before.before.check-rule-inputs.ensures ∙ c.before.before.before.before.before.before.if1.false) (ap (may_fits g.may) (sym c.before.before.before.before.before.read32.ensures) ∙ sym c.before.before.before.may-fits.ensures ∙ not-false c.before.before.before.may-fits.result c.before.before.if2.false)
-    (ap₂ (λ (n s : ℕ). fewest_room n s g.work g.nodes g.labels) (sym c.before.before.before.before.before.read32.ensures) (sym c.before.before.before.before.read322.ensures) ∙ sym c.before.room_fits.ensures ∙ not-true c.before.room_fits.result c.if3.true)
+    no_room g.plan.now g.rules.now g.may g.work g.nodes g.labels (sym c.before.before.before.before.before.before.before.check_rule_inputs-t.ensures ∙ c.before.before.before.before.before.before.if-t-ne0.false) (ap (may_fits g.may) (sym c.before.before.before.before.before.read32-n.ensures) ∙ sym c.before.before.before.may_fits.ensures ∙ not-false c.before.before.before.may_fits.result c.before.before.if-not-may_fits.false-raw)
+    (ap₂ (λ (n s : ℕ). fewest_room n s g.work g.nodes g.labels) (sym c.before.before.before.before.before.read32-n.ensures) (sym c.before.before.before.before.read32-s.ensures) ∙ sym c.before.room_fits.ensures ∙ not-true c.before.room_fits.result c.if-not-room_fits.true-raw)
 
-returns-4 : tie.Need-returns-4
+returns-4 : tie.Need-returns
 returns-4 c =
     let g = c.before.before.before.before.before.before.before.before.before.before.args in
-    all_yes g.plan.now g.rules.now g.may g.work g.nodes g.labels (sym c.before.before.before.before.before.before.before.check-rule-inputs.ensures ∙ c.before.before.before.before.before.before.if1.false) (ap (may_fits g.may) (sym c.before.before.before.before.before.read32.ensures) ∙ sym c.before.before.before.may-fits.ensures ∙ not-false c.before.before.before.may-fits.result c.before.before.if2.false)
-    (ap₂ (λ (n s : ℕ). fewest_room n s g.work g.nodes g.labels) (sym c.before.before.before.before.before.read32.ensures) (sym c.before.before.before.before.read322.ensures) ∙ sym c.before.room_fits.ensures ∙ not-false c.before.room_fits.result c.if3.false)
+    all_yes g.plan.now g.rules.now g.may g.work g.nodes g.labels (sym c.before.before.before.before.before.before.before.check_rule_inputs-t.ensures ∙ c.before.before.before.before.before.before.if-t-ne0.false) (ap (may_fits g.may) (sym c.before.before.before.before.before.read32-n.ensures) ∙ sym c.before.before.before.may_fits.ensures ∙ not-false c.before.before.before.may_fits.result c.before.before.if-not-may_fits.false-raw)
+    (ap₂ (λ (n s : ℕ). fewest_room n s g.work g.nodes g.labels) (sym c.before.before.before.before.before.read32-n.ensures) (sym c.before.before.before.before.read32-s.ensures) ∙ sym c.before.room_fits.ensures ∙ not-false c.before.room_fits.result c.if-not-room_fits.false-raw)
 
-pub check-fewest-spec : {M : Type 1} → statement M
-check-fewest-spec =
+pub check_fewest_spec : {M : Type 1} → statement M
+check_fewest_spec =
     tie.close
     (tie.spec (λ c κs. search rules) returns read32-requires read32-requires-2 (λ c κs. search rules) returns-2
     room-fits-requires returns-3 returns-4)

@@ -8,15 +8,15 @@ use Rattle.fewest.proofs.call.may_fits.Tie as tie
 use Rattle.fewest.proofs.call.may_fits.Reads as reads
 use Rattle.fewest.proofs.call.may_fits.Lts as lts
 
-returns : tie.Need-returns
+returns : tie.Need-returns-then-m-eq0
 returns c =
-    may_none c.before.args.m c.before.args.n c.if1.true
+    may_none c.before.args.m c.before.args.n c.if-m-eq0.true
 
-returns-2 : tie.Need-returns-2
+returns-2 : tie.Need-returns
 returns-2 c =
-    may-some c.before.args.m c.before.args.n c.if1.false
+    may-some c.before.args.m c.before.args.n c.if-m-eq0.false
 
-pub may-fits-spec : {M : Type 1} → statement M
-may-fits-spec =
+pub may_fits_spec : {M : Type 1} → statement M
+may_fits_spec =
     tie.close
     (tie.spec returns returns-2)

@@ -7,16 +7,16 @@ use Rattle.fewest.proofs.call.plan_mark.Tie as tie
 use Rattle.fewest.proofs.call.plan_mark.Reads as reads
 use Rattle.fewest.proofs.call.plan_mark.Lts as lts
 
-root-mark-requires : tie.Need-root-mark-requires
+root-mark-requires : tie.Need-root_mark-requires
 root-mark-requires c κs = run-given c.before.before.before.before.before.before.before.before.before.before.requires c.before.before.before.before.before.before.inner_count.result c.before.before.before.before.before.before.inner_count.ensures.value
 
 returns : tie.Need-returns
 returns c =
-    plan-marked c.before.before.before.before.before.before.before.before.before.before.before.before.before.requires c.before.before.before.before.before.before.before.before.before.inner_count.result c.before.before.before.before.before.before.before.before.before.inner_count.ensures.value c.before.before.before.before.before.before.before.before.before.before.before.before.before.args.work.now c.before.before.root-mark.result
-    c.before.before.root-mark.new.1.1.1.1.1.1.1.0 c.before.before.root-mark.ensures
+    plan-marked c.before.before.before.before.before.before.before.before.before.before.before.before.before.requires c.before.before.before.before.before.before.before.before.before.inner_count.result c.before.before.before.before.before.before.before.before.before.inner_count.ensures.value c.before.before.before.before.before.before.before.before.before.before.before.before.before.args.work-1.now c.before.before.root_mark.result
+    c.before.before.root_mark.new.1.1.1.1.1.1.1.0 c.before.before.root_mark.ensures
 
-pub plan-mark-spec : {M : Type 1} → statement M
-plan-mark-spec =
+pub plan_mark_spec : {M : Type 1} → statement M
+plan_mark_spec =
     tie.close
     (tie.spec (λ c. search rules) (λ c κs. search rules) (λ c. search rules) (λ c. search rules) (λ c. search rules)
     (λ c. search rules) (λ c. search rules) (λ c. search rules) (λ c. search rules) (λ c. search rules)

@@ -9,29 +9,29 @@ use Rattle.fewest.proofs.call.room_fits.Tie as tie
 use Rattle.fewest.proofs.call.room_fits.Reads as reads
 use Rattle.fewest.proofs.call.room_fits.Lts as lts
 
-mul-if1 : tie.Need-overflow-mul-if1
+mul-if1 : tie.Need-overflow_mul-n
 mul-if1 c =
     let g = c.args in
     let p = c.requires in
     let z : g.s + 1 ≤ 17 = omega (arith, p.states) in
     omega (arith, mul-le-mul_right (g.s + 1) p.nodes, z)
 
-returns : tie.Need-returns
+returns : tie.Need-returns-then-work-n
 returns c =
     let g = c.before.args in
-    room-work g.n g.s g.work g.nodes g.labels c.if1.true
+    room-work g.n g.s g.work g.nodes g.labels c.if-work-n.true
 
-returns-2 : tie.Need-returns-2
+returns-2 : tie.Need-returns-then-nodes-lt-CHANGE_LIMIT
 returns-2 c =
     let g = c.before.before.args in
-    room-nodes g.n g.s g.work g.nodes g.labels (omega (arith, c.before.if1.false)) c.if2.true
+    room-nodes g.n g.s g.work g.nodes g.labels (omega (arith, c.before.if-work-n.false)) c.if-nodes-lt-CHANGE_LIMIT.true
 
-returns-3 : tie.Need-returns-3
+returns-3 : tie.Need-returns
 returns-3 c =
     let g = c.before.before.args in
-    room-labels g.n g.s g.work g.nodes g.labels (omega (arith, c.before.if1.false)) (omega (arith, c.if2.false))
+    room-labels g.n g.s g.work g.nodes g.labels (omega (arith, c.before.if-work-n.false)) (omega (arith, c.if-nodes-lt-CHANGE_LIMIT.false))
 
-pub room-fits-spec : {M : Type 1} → statement M
-room-fits-spec =
+pub room_fits_spec : {M : Type 1} → statement M
+room_fits_spec =
     tie.close
     (tie.spec (λ c. search rules) mul-if1 returns returns-2 returns-3)

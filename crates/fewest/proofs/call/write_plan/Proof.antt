@@ -8,18 +8,18 @@ use Rattle.fewest.proofs.call.write_plan.Tie as tie
 use Rattle.fewest.proofs.call.write_plan.Reads as reads
 use Rattle.fewest.proofs.call.write_plan.Lts as lts
 
-write-fewest-requires : tie.Need-write-fewest-requires
+write-fewest-requires : tie.Need-write_fewest-requires
 write-fewest-requires c κs =
     parts-given c.before.before.before.before.before.before.before.before.before.before.before.before.before.before.before.before.requires c.before.before.before.before.before.before.before.before.before.inner_count.result c.before.before.before.before.before.before.before.before.before.inner_count.ensures.value
 
 returns : tie.Need-returns
 returns c =
     let g = c.before.before.before.before.before.before.before.before.before.before.before.before.before.before.before.before.before.before.before.before.before.before.before.args in
-    parts-written c.before.before.before.before.before.before.before.before.before.before.before.before.before.before.before.before.before.before.before.before.before.before.before.requires c.before.before.before.before.before.before.before.before.before.before.before.before.before.before.before.before.inner_count.result c.before.before.before.before.before.before.before.before.before.before.before.before.before.before.before.before.inner_count.ensures.value g.mark g.work.now g.nodes.now g.labels.now
-    c.before.before.before.before.before.before.write-fewest.result c.before.before.before.before.before.before.write-fewest.new.1.1.1.1.1.1.1.1.1.0 c.before.before.before.before.before.before.write-fewest.new.1.1.1.1.1.1.1.1.1.1.0 c.before.before.before.before.before.before.write-fewest.new.1.1.1.1.1.1.1.1.1.1.1.0 c.before.before.before.before.before.before.write-fewest.new.1.1.1.1.1.1.1.1.1.1.1.1.0 c.before.before.before.before.before.before.write-fewest.ensures
+    parts-written c.before.before.before.before.before.before.before.before.before.before.before.before.before.before.before.before.before.before.before.before.before.before.before.requires c.before.before.before.before.before.before.before.before.before.before.before.before.before.before.before.before.inner_count.result c.before.before.before.before.before.before.before.before.before.before.before.before.before.before.before.before.inner_count.ensures.value g.mark g.work-1.now g.nodes-1.now g.labels-1.now
+    c.before.before.before.before.before.before.write_fewest.result c.before.before.before.before.before.before.write_fewest.new.1.1.1.1.1.1.1.1.1.0 c.before.before.before.before.before.before.write_fewest.new.1.1.1.1.1.1.1.1.1.1.0 c.before.before.before.before.before.before.write_fewest.new.1.1.1.1.1.1.1.1.1.1.1.0 c.before.before.before.before.before.before.write_fewest.new.1.1.1.1.1.1.1.1.1.1.1.1.0 c.before.before.before.before.before.before.write_fewest.ensures
 
-pub write-plan-spec : {M : Type 1} → statement M
-write-plan-spec =
+pub write_plan_spec : {M : Type 1} → statement M
+write_plan_spec =
     tie.close
     (tie.spec (λ c. search rules) (λ c κs. search rules) (λ c. search rules) (λ c. search rules) (λ c. search rules)
     (λ c. search rules) (λ c. search rules) (λ c. search rules) (λ c. search rules) (λ c. search rules)

@@ -12,10 +12,10 @@ use Rattle.formats.proofs.rules.rule.Reads as rule-reads
 
 returns : tie.Need-returns
 unfolding inner_cell
-returns c = omega (arith, c.rule.ensures)
+returns c = omega (arith, c.rule-to.ensures)
 
-pub inner-cell-spec : {M : Type 1} → statement M
-inner-cell-spec =
+pub inner_cell_spec : {M : Type 1} → statement M
+inner_cell_spec =
     tie.close
     (tie.spec (λ c. search rules) (λ c. search rules) (λ c. search rules) (λ c. search rules) (λ c. search rules)
     (λ c. search rules) (λ c. search rules) (λ c. search rules) (λ c. search rules) (λ c. search rules)

@@ -11,27 +11,27 @@ use Rattle.fewest.proofs.run.root_mark.Reads as reads
 use Rattle.fewest.proofs.run.root_mark.Lts as lts
 use Rattle.fewest.proofs.run.run_up.Reads as run-up-reads
 
-run-up-requires : tie.Need-run-up-requires
+run-up-requires : tie.Need-run_up-requires
 run-up-requires c κs = (c.before.before.before.before.before.before.before.requires.pass, c.before.before.before.before.before.before.before.requires.room)
 
-sub-x : tie.Need-overflow-sub-x
+sub-x : tie.Need-overflow_sub-x
 sub-x c = omega (arith, some_node c.before.before.before.before.before.before.before.before.before.before.args.kinds.now c.before.before.before.before.before.before.before.before.before.before.requires.pass.postorder)
 
-slice-read-x : tie.Need-slice-read-x
+slice-read-x : tie.Need-bounds-work-kinds
 slice-read-x c = omega (arith, some_node c.before.before.before.before.before.before.before.before.before.before.before.args.kinds.now c.before.before.before.before.before.before.before.before.before.before.before.requires.pass.postorder, c.before.before.before.before.before.before.before.before.before.before.before.requires.room)
 
-shared-slice-read-result : tie.Need-shared-slice-read-result
+shared-slice-read-result : tie.Need-bounds-marks-x
 shared-slice-read-result c =
     let g = c.before.before.before.before.before.before.before.before.before.before.before.before.args in
-    omega (arith, c.before.before.before.before.before.before.before.before.before.before.before.before.requires.marks, mark-in g.kinds.now g.labels.now g.leaves.now g.inner.now g.s g.k c.before.before.before.before.before.before.before.before.before.before.before.before.requires.pass g.work.now c.before.before.before.before.run_Up.new.1.1.1.1.1.1.0 c.before.before.before.before.run_Up.ensures)
+    omega (arith, c.before.before.before.before.before.before.before.before.before.before.before.before.requires.marks, mark-in g.kinds.now g.labels.now g.leaves.now g.inner.now g.s g.k c.before.before.before.before.before.before.before.before.before.before.before.before.requires.pass g.work-1.now c.before.before.before.before.run_Up.new.1.1.1.1.1.1.0 c.before.before.before.before.run_Up.ensures)
 
 returns : tie.Need-returns
 returns c =
     let g = c.before.before.before.before.before.before.before.before.before.before.before.before.args in
-    root-marked g.kinds.now g.labels.now g.leaves.now g.inner.now g.s g.k c.before.before.before.before.before.before.before.before.before.before.before.before.requires.pass g.work.now c.before.before.before.before.run_Up.new.1.1.1.1.1.1.0 c.before.before.before.before.run_Up.ensures g.marks.now
+    root-marked g.kinds.now g.labels.now g.leaves.now g.inner.now g.s g.k c.before.before.before.before.before.before.before.before.before.before.before.before.requires.pass g.work-1.now c.before.before.before.before.run_Up.new.1.1.1.1.1.1.0 c.before.before.before.before.run_Up.ensures g.marks.now
 
-pub root-mark-spec : {M : Type 1} → statement M
-root-mark-spec =
+pub root_mark_spec : {M : Type 1} → statement M
+root_mark_spec =
     tie.close
     (tie.spec run-up-requires sub-x (λ c. search rules) slice-read-x (λ c. search rules) shared-slice-read-result
     (λ c. search rules) returns)

@@ -5,21 +5,21 @@ use borrow.Author.Rules.{rules}
 use Rattle.formats.proofs.branch.branch_shape.Statement.{statement}
 use Rattle.formats.proofs.branch.branch_shape.Tie as tie
 
-returns : tie.Need-returns
-returns c = let a = c.before.before.before.before.args in steps-off a.branch.now a.s a.k (λ e. c.if1.true (omega arith))
+returns : tie.Need-returns-then-read32-ne-BRANCH_HEAD
+returns c = let a = c.before.before.before.before.args in steps-off a.branch.now a.s a.k (λ e. c.if-read32-ne-BRANCH_HEAD.true (omega arith))
 
-returns-2 : tie.Need-returns-2
+returns-2 : tie.Need-returns-then-read32-marks
 returns-2 c =
     let a = c.before.before.before.before.before.before.args in
-    marks-off a.branch.now a.s a.k (omega arith) (λ e. c.if2.true (omega arith))
+    marks-off a.branch.now a.s a.k (omega arith) (λ e. c.if-read32-marks.true (omega arith))
 
-returns-3 : tie.Need-returns-3
+returns-3 : tie.Need-returns
 returns-3 c =
     let a = c.before.before.before.before.before.before.args in
     branch-end a.branch.now a.s a.k _ (omega arith) (omega arith) (omega arith)
 
-pub branch-shape-spec : {M : Type 1} → statement M
-branch-shape-spec =
+pub branch_shape_spec : {M : Type 1} → statement M
+branch_shape_spec =
     tie.close
     (tie.spec (λ c κs. search rules) (λ c. search rules) (λ c κs. search rules) returns (λ c κs. search rules)
     returns-2 (λ c. search rules) returns-3)

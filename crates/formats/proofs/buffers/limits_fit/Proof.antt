@@ -6,17 +6,17 @@ use Rattle.formats.proofs.BufferLaws.{limits-none, limits-many, limits-end}
 use Rattle.formats.proofs.buffers.limits_fit.Statement.{statement}
 use Rattle.formats.proofs.buffers.limits_fit.Tie as tie
 
-returns : tie.Need-returns
-returns c = let g = c.before.args in sym (limits-none g.n g.s g.k c.if1.true)
+returns : tie.Need-returns-then-n-lt1
+returns c = let g = c.before.args in sym (limits-none g.n g.s g.k c.if-n-lt1.true)
 
-returns-2 : tie.Need-returns-2
-returns-2 c = let g = c.before.before.args in sym (limits-many g.n g.s g.k c.if2.true)
+returns-2 : tie.Need-returns-then-n-gt-NODE_LIMIT
+returns-2 c = let g = c.before.before.args in sym (limits-many g.n g.s g.k c.if-n-gt-NODE_LIMIT.true)
 
-returns-3 : tie.Need-returns-3
+returns-3 : tie.Need-returns
 returns-3 c =
     let e = c.before in
     let g = e.before.before.args in
-    c.counts-fit.ensures ∙ sym (limits-end g.n g.s g.k (omega arith) (omega arith))
+    c.counts_fit.ensures ∙ sym (limits-end g.n g.s g.k (omega arith) (omega arith))
 
-pub limits-fit-spec : {M : Type 1} → statement M
-limits-fit-spec = tie.close (tie.spec returns returns-2 (λ c κs. search rules) returns-3)
+pub limits_fit_spec : {M : Type 1} → statement M
+limits_fit_spec = tie.close (tie.spec returns returns-2 (λ c κs. search rules) returns-3)

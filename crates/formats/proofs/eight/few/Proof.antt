@@ -5,11 +5,11 @@ use borrow.Author.Tests.{lt-ltb, le-ltb}
 use Rattle.formats.proofs.eight.few.Statement.{statement}
 use Rattle.formats.proofs.eight.few.Tie as tie
 
-returns : tie.Need-returns
-returns c = sym (ap (λ (b : Bool). cond b c.before.args.trees 16) (lt-ltb _ 16 c.if1.true))
+returns : tie.Need-returns-then-trees-lt16
+returns c = sym (ap (λ (b : Bool). cond b c.before.args.trees 16) (lt-ltb _ 16 c.if-trees-lt16.true))
 
-returns-2 : tie.Need-returns-2
-returns-2 c = sym (ap (λ (b : Bool). cond b c.before.args.trees 16) (le-ltb _ 16 c.if1.false))
+returns-2 : tie.Need-returns
+returns-2 c = sym (ap (λ (b : Bool). cond b c.before.args.trees 16) (le-ltb _ 16 c.if-trees-lt16.false))
 
-pub few-spec : {M : Type 1} → statement M
-few-spec = tie.close (tie.spec returns returns-2)
+pub few_spec : {M : Type 1} → statement M
+few_spec = tie.close (tie.spec returns returns-2)

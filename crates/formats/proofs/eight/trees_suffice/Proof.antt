@@ -10,14 +10,14 @@ use Rattle.formats.proofs.EightKinds.{few-most}
 use Rattle.formats.proofs.eight.trees_suffice.Statement.{statement}
 use Rattle.formats.proofs.eight.trees_suffice.Tie as tie
 
-mul-result : tie.Need-overflow-mul-result
+mul-result : tie.Need-overflow_mul-result
 mul-result c = record { fits = omega (arith, c.few.ensures, few-most c.before.args.trees) }
 
-sub-result : tie.Need-overflow-sub-result
+sub-result : tie.Need-overflow_sub-result
 sub-result c = omega (arith, c.few.ensures, few-most c.before.args.trees)
 
 returns : tie.Need-returns
 returns c = ap (λ (f : ℕ). eqb (bit_and (spare c.before.args.twice f) 9259542123273814144) 0) c.few.ensures
 
-pub trees-suffice-spec : {M : Type 1} → statement M
-trees-suffice-spec = tie.close (tie.spec (λ c. search rules) (λ c κs. search rules) mul-result sub-result returns)
+pub trees_suffice_spec : {M : Type 1} → statement M
+trees_suffice_spec = tie.close (tie.spec (λ c. search rules) (λ c κs. search rules) mul-result sub-result returns)

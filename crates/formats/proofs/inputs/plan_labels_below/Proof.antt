@@ -10,10 +10,10 @@ returns : tie.Need-returns
 returns c =
     let r = c.before.before in
     let a = r.before.before.args in
-    c.all-below.ensures ∙ ap (all_below a.k) (labels-part a.plan.now r.read32.result r.read32.ensures)
+    c.all_below.ensures ∙ ap (all_below a.k) (labels-part a.plan.now r.read32-n.result r.read32-n.ensures)
 
-pub plan-labels-below-spec : {M : Type 1} → statement M
-plan-labels-below-spec =
+pub plan_labels_below_spec : {M : Type 1} → statement M
+plan_labels_below_spec =
     tie.close
     (tie.spec (λ c κs. search rules) (λ c. search rules) (λ c. search rules) (λ c. search rules) (λ c. search rules)
     (λ c. search rules) (λ c κs. search rules) returns)

@@ -9,38 +9,38 @@ use borrow.Author.Rules.{rules}
 use Rattle.formats.proofs.lists.all_distinct.Statement.{statement}
 use Rattle.formats.proofs.lists.all_distinct.Tie as tie
 
-abbrev invariant-loop : tie.invariant-loop
+abbrev invariant-loop : tie.invariant-loop-i
 invariant-loop nodes i₀ i = (i ≤ length nodes) × (distinct (drop i nodes) ≡ distinct nodes)
 
-abbrev decreases-loop : tie.decreases-loop
+abbrev decreases-loop : tie.decreases-loop-i
 decreases-loop nodes i₀ i = length nodes - i
 
-loop-holds : tie.Need-loop-init invariant-loop decreases-loop
+loop-holds : tie.Need-loop-i-init invariant-loop decreases-loop
 loop-holds c = (omega arith, refl)
 
-returns : tie.Need-returns invariant-loop decreases-loop
+returns : tie.Need-returns-then-is_listed invariant-loop decreases-loop
 returns c =
     let l = c.before.before.before.before.before in
-    let h = c.before.is-listed in
+    let h = c.before.is_listed in
     let n = l.before.before.args.nodes.now in
-    let t = c.before.before.before.before.loop-test.true in
-    sym (distinct-no n l.loop.i t h.result h.ensures c.if1.true)
-    ∙ l.loop.invariant.1
+    let t = c.before.before.before.before.loop-i-test.true in
+    sym (distinct-no n l.loop-i.i t h.result h.ensures c.if-is_listed.true)
+    ∙ l.loop-i.invariant.1
 
-loop-again : tie.Need-loop-preserved invariant-loop decreases-loop
+loop-again : tie.Need-loop-i-preserved invariant-loop decreases-loop
 loop-again c =
     let l = c.before.before.before.before.before in
-    let h = c.before.is-listed in
+    let h = c.before.is_listed in
     let n = l.before.before.args.nodes.now in (
       omega arith,
-      sym (distinct-yes n l.loop.i c.before.before.before.before.loop-test.true h.result h.ensures c.if1.false) ∙ l.loop.invariant.1,
+      sym (distinct-yes n l.loop-i.i c.before.before.before.before.loop-i-test.true h.result h.ensures c.if-is_listed.false) ∙ l.loop-i.invariant.1,
     )
 
-returns-2 : tie.Need-returns-2 invariant-loop decreases-loop
-returns-2 c = sym (distinct-end _ _ c.loop-test.false) ∙ c.before.loop.invariant.1
+returns-2 : tie.Need-returns invariant-loop decreases-loop
+returns-2 c = sym (distinct-end _ _ c.loop-i-test.false) ∙ c.before.loop-i.invariant.1
 
-pub all-distinct-spec : {M : Type 1} → statement M
-all-distinct-spec =
+pub all_distinct_spec : {M : Type 1} → statement M
+all_distinct_spec =
     tie.close
     (tie.spec invariant-loop decreases-loop loop-holds (λ c. search rules) (λ c. search rules) (λ c. search rules)
     (λ c. search rules) (λ c. search rules) (λ c. search rules) (λ c. search rules) (λ c κs. search rules) returns

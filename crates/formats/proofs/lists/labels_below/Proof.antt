@@ -6,10 +6,10 @@ use borrow.Author.Rules.{rules}
 use Rattle.formats.proofs.lists.labels_below.Statement.{statement}
 use Rattle.formats.proofs.lists.labels_below.Tie as tie
 
-returns : tie.Need-returns
+returns : tie.Need-returns-then-k-gt255
 returns c =
     let b = c.before in
-    sym (at-all_below b.before.args.k b.before.args.labels.now (λ j h. omega (arith, b.shared-slice-known.given j)))
+    sym (at-all_below b.before.args.k b.before.args.labels.now (λ j h. omega (arith, b.shared_slice_known-1.given j)))
 
-pub labels-below-spec : {M : Type 1} → statement M
-labels-below-spec = tie.close (tie.spec returns (λ c. search rules) (λ c κs. search rules) (λ c. search rules))
+pub labels_below_spec : {M : Type 1} → statement M
+labels_below_spec = tie.close (tie.spec returns (λ c. search rules) (λ c κs. search rules) (λ c. search rules))

@@ -11,29 +11,29 @@ use borrow.Author.Rules.{rules}
 use Rattle.formats.proofs.lists.nodes_below.Statement.{statement}
 use Rattle.formats.proofs.lists.nodes_below.Tie as tie
 
-abbrev invariant-loop : tie.invariant-loop
+abbrev invariant-loop : tie.invariant-loop-i
 invariant-loop nodes n ok₀ i₀ ok i = (i ≤ length nodes) × ((ok && all_below n (drop i nodes)) ≡ all_below n nodes)
 
-abbrev decreases-loop : tie.decreases-loop
+abbrev decreases-loop : tie.decreases-loop-i
 decreases-loop nodes n ok₀ i₀ ok i = length nodes - i
 
-loop-holds : tie.Need-loop-init invariant-loop decreases-loop
+loop-holds : tie.Need-loop-i-init invariant-loop decreases-loop
 loop-holds c = (omega arith, refl)
 
-cast_ok : tie.Need-overflow-cast-ok invariant-loop decreases-loop
-cast_ok c = omega (arith, c.shared-slice-known.given c.before.before.loop.i)
+cast_ok : tie.Need-overflow_cast-ok invariant-loop decreases-loop
+cast_ok c = omega (arith, c.shared_slice_known-1.given c.before.before.loop-i.i)
 
-loop-again : tie.Need-loop-preserved invariant-loop decreases-loop
+loop-again : tie.Need-loop-i-preserved invariant-loop decreases-loop
 loop-again c =
-    let l = c.before.before.loop in
+    let l = c.before.before.loop-i in
     let a = c.before.before.before.args in
-    (omega arith, below-iteration a.nodes.now l.i a.n l.ok c.before.loop-test.true ∙ l.invariant.1)
+    (omega arith, below-iteration a.nodes.now l.i a.n l.ok c.before.loop-i-test.true ∙ l.invariant.1)
 
 returns : tie.Need-returns invariant-loop decreases-loop
-returns c = sym (below_end _ _ _ _ c.loop-test.false) ∙ c.before.loop.invariant.1
+returns c = sym (below_end _ _ _ _ c.loop-i-test.false) ∙ c.before.loop-i.invariant.1
 
-pub nodes-below-spec : {M : Type 1} → statement M
-nodes-below-spec =
+pub nodes_below_spec : {M : Type 1} → statement M
+nodes_below_spec =
     tie.close
     (tie.spec invariant-loop decreases-loop loop-holds (λ c. search rules) (λ c. search rules) cast_ok (λ c. search rules)
     (λ c. search rules) loop-again returns)

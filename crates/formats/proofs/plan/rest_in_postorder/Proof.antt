@@ -8,30 +8,30 @@ use borrow.Author.Rules.{rules}
 use Rattle.formats.proofs.plan.rest_in_postorder.Statement.{statement}
 use Rattle.formats.proofs.plan.rest_in_postorder.Tie as tie
 
-abbrev invariant-loop : tie.invariant-loop
+abbrev invariant-loop : tie.invariant-loop-i
 invariant-loop kinds «from» waiting none trees₀ ok₀ i₀ trees ok i = Counted kinds (is_single (trees_waiting (drop «from» kinds) waiting)) none trees ok i
 
-abbrev decreases-loop : tie.decreases-loop
+abbrev decreases-loop : tie.decreases-loop-i
 decreases-loop kinds «from» waiting none trees₀ ok₀ i₀ trees ok i = length kinds - i
 
-loop-holds : tie.Need-loop-init invariant-loop decreases-loop
+loop-holds : tie.Need-loop-i-init invariant-loop decreases-loop
 loop-holds c = counted_start _ _ _ c.requires.0 c.requires.1
 
-cast-k : tie.Need-overflow-cast-k invariant-loop decreases-loop
-cast-k c = omega (arith, c.shared-slice-known.given c.before.before.loop.i)
+cast-k : tie.Need-overflow_cast-k invariant-loop decreases-loop
+cast-k c = omega (arith, c.shared_slice_known-1.given c.before.before.loop-i.i)
 
-loop-again : tie.Need-loop-preserved invariant-loop decreases-loop
+loop-again : tie.Need-loop-i-preserved invariant-loop decreases-loop
 loop-again c =
-    let l = c.before.before.loop in
-    counted-iteration _ _ _ l.trees l.i l.ok l.invariant c.before.loop-test.true
+    let l = c.before.before.loop-i in
+    counted-iteration _ _ _ l.trees l.i l.ok l.invariant c.before.loop-i-test.true
 
 returns : tie.Need-returns invariant-loop decreases-loop
 returns c =
-    let l = c.before.loop in
-    counted-end _ _ _ l.trees l.i l.ok l.invariant c.loop-test.false
+    let l = c.before.loop-i in
+    counted-end _ _ _ l.trees l.i l.ok l.invariant c.loop-i-test.false
 
-pub rest-in-postorder-spec : {M : Type 1} → statement M
-rest-in-postorder-spec =
+pub rest_in_postorder_spec : {M : Type 1} → statement M
+rest_in_postorder_spec =
     tie.close
     (tie.spec invariant-loop decreases-loop (λ c. search rules) loop-holds (λ c. search rules) cast-k (λ c. search rules)
     (λ c. search rules) (λ c. search rules) (λ c. search rules) (λ c. search rules) loop-again (λ c. search rules)

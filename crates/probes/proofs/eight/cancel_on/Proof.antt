@@ -88,7 +88,7 @@ walks 𝓛 at_mem run = over (λ C Λ fm known κs qs a are. let fit = fitting �
     by ! (exits lends O.the_row 𝓛 Promised κs qs a (record { answer = r; all = ws.0 }) (tt, ws.1) _
     e)))))))))))))
 
-pub cancel-on-spec : {M : Type 1} → stated.statement M
+pub cancel_on_spec : {M : Type 1} → stated.statement M
 unfolding code.routine
-cancel-on-spec 𝓤 𝓛 𝓜 𝓡 = by-walk 𝓛 𝓜 𝓡 (walks 𝓛 𝓜.mem 𝓡.run) code.env #this
+cancel_on_spec 𝓤 𝓛 𝓜 𝓡 = by-walk 𝓛 𝓜 𝓡 (walks 𝓛 𝓜.mem 𝓡.run) code.env #this
     (code.unfolded 𝓤 𝓛.H 𝓜 𝓡) step-def.routine code.calls-screens·in-place·cancel (step_thm.met 𝓤 𝓛 𝓜 𝓡)

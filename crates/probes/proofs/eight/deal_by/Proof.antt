@@ -9,32 +9,32 @@ use Rattle.probes.proofs.eight.deal_by.Tie as tie
 use Rattle.probes.proofs.eight.deal_by.Reads as reads
 use Rattle.probes.proofs.eight.deal_by.Lts as lts
 
-abbrev invariant-loop : tie.invariant-loop
+abbrev invariant-loop : tie.invariant-loop-left
 invariant-loop count first plan rules node_table state_table u₀ at₀ left₀ u at left =
     (dealt_all left (inputs_of plan rules node_table state_table) at u ≡ dealt_all left₀ (inputs_of plan rules node_table state_table) at₀ u₀)
     × (dealt_next left (inputs_of plan rules node_table state_table) at u ≡ dealt_next left₀ (inputs_of plan rules node_table state_table) at₀ u₀)
 
-abbrev decreases-loop : tie.decreases-loop
+abbrev decreases-loop : tie.decreases-loop-left
 decreases-loop count first plan rules node_table state_table u₀ at₀ left₀ u at left = left
 
-loop-holds : tie.Need-loop-init invariant-loop decreases-loop
+loop-holds : tie.Need-loop-left-init invariant-loop decreases-loop
 loop-holds c = (refl, refl)
 
-loop-again : tie.Need-loop-preserved invariant-loop decreases-loop
+loop-again : tie.Need-loop-left-preserved invariant-loop decreases-loop
 loop-again c =
     let d = c.before.before in
-    let l = d.before.before.loop in (
-      dealt-once _ l.u l.at l.left _ _ (omega arith) d.deal-on.ensures c.next_after.ensures ∙ l.invariant.0,
-      next-once _ l.u l.at l.left _ _ (omega arith) d.deal-on.ensures c.next_after.ensures ∙ l.invariant.1,
+    let l = d.before.before.loop-left in (
+      dealt-once _ l.u-1 l.at l.left _ _ (omega arith) d.deal_on-out.ensures c.next_after-at.ensures ∙ l.invariant.0,
+      next-once _ l.u-1 l.at l.left _ _ (omega arith) d.deal_on-out.ensures c.next_after-at.ensures ∙ l.invariant.1,
     )
 
 returns : tie.Need-returns invariant-loop decreases-loop
 returns c =
-    let l = c.before.loop in
-    (all-dealt _ l.u l.at l.left (omega arith) ∙ l.invariant.0, next-dealt _ l.u l.at l.left (omega arith) ∙ l.invariant.1)
+    let l = c.before.loop-left in
+    (all-dealt _ l.u-1 l.at l.left (omega arith) ∙ l.invariant.0, next-dealt _ l.u-1 l.at l.left (omega arith) ∙ l.invariant.1)
 
-pub deal-by-spec : {M : Type 1} → statement M
-deal-by-spec =
+pub deal_by_spec : {M : Type 1} → statement M
+deal_by_spec =
     tie.close
     (tie.spec invariant-loop decreases-loop loop-holds (λ c κs. search rules) (λ c κs. search rules) (λ c. search rules)
     (λ c. search rules) loop-again returns)

@@ -58,7 +58,7 @@ abbrev lends : List (Lending 4)
 lends = records ∷ rest
 
 abbrev Promised : (κs : Lfts 4) (a : Args this.signature κs) → DealtOn → AtExit this.ended κs → Type 0
-Promised κs a r e = ScreenDone a.0 (screens.deal a.1.0 (inputs_of a.1.1.0.now a.1.1.1.0.now a.1.1.1.1.0.now a.1.1.1.1.1.0.now)) (deal_answer r.answer) r.all
+Promised κs a r e = ScreenDone a.0 (screens.deal-answer a.1.0 (inputs_of a.1.1.0.now a.1.1.1.0.now a.1.1.1.1.0.now a.1.1.1.1.1.0.now)) (deal_answer r.answer) r.all
 
 walks : {M : Type 1} {𝓤 : Ura M} (𝓛 : Logic 𝓤) (at_mem : Memory → SProp 𝓤) (run :
     Routine → Fun 𝓤) → Walks 𝓛 (called lends O.the_row 𝓛 Promised) code.function #step (triple_of 𝓛
@@ -93,7 +93,7 @@ walks 𝓛 at_mem run = over (λ C Λ fm known κs qs a are. let fit = fitting �
     keep ! (2 ∷ 0 ∷ 1 ∷ []) $ by ! (exits lends O.the_row 𝓛 Promised κs qs a (record { answer = r; all = ws.0 })
     (tt, ws.1) _ e)))))))))))))))))
 
-pub deal-on-spec : {M : Type 1} → stated.statement M
+pub deal_on_spec : {M : Type 1} → stated.statement M
 unfolding code.routine
-deal-on-spec 𝓤 𝓛 𝓜 𝓡 = by-walk 𝓛 𝓜 𝓡 (walks 𝓛 𝓜.mem 𝓡.run) code.env #this
+deal_on_spec 𝓤 𝓛 𝓜 𝓡 = by-walk 𝓛 𝓜 𝓡 (walks 𝓛 𝓜.mem 𝓡.run) code.env #this
     (code.unfolded 𝓤 𝓛.H 𝓜 𝓡) step-def.routine code.calls-screens·in-place·deal (step_thm.met 𝓤 𝓛 𝓜 𝓡)

@@ -19,15 +19,15 @@ returns c =
     let p = t.before.before in
     let f = p.before in
     let a = f.before.before.before.before.before.before.before.args in
-    eight-answer _ _ _ _ _ _ _ f.loaded.result p.start-on.result p.start-on.ensures q.start-on2.result
-    q.start-on2.ensures d.deal-by.result d.deal-by.ensures.0 d.deal-by.ensures.1 e.cancel-on.result
-    e.cancel-on.ensures o.read-on.result o.read-on.ensures _ _ _ _ t.parts-in.ensures u.parts-in2.ensures
-    m.call-number.ensures c.read-in.ensures
-    ∙ ap (λ (s : Session). eight_in (inputs_of a.plan.now a.rules.now a.node-table.now a.state-table.now) a.nodes.now
-    a.labels.now a.screen a.other a.first a.count s) f.loaded.ensures
+    eight-answer _ _ _ _ _ _ _ f.loaded-one.result p.start_on-started.result p.start_on-started.ensures q.start_on-second.result
+    q.start_on-second.ensures d.deal_by-dealt.result d.deal_by-dealt.ensures.0 d.deal_by-dealt.ensures.1 e.cancel_on-ended.result
+    e.cancel_on-ended.ensures o.read_on-outcome.result o.read_on-outcome.ensures _ _ _ _ t.parts_in-parts.ensures u.parts_in-others.ensures
+    m.call_number-cancel.ensures c.read_in-read.ensures
+    ∙ ap (λ (s : Session). eight_in (inputs_of a.plan.now a.rules.now a.node_table.now a.state_table.now) a.nodes.now
+    a.labels.now a.screen a.other a.first a.count s) f.loaded-one.ensures
 
-pub probe-screens-spec : {M : Type 1} → statement M
-probe-screens-spec =
+pub probe_screens_spec : {M : Type 1} → statement M
+probe_screens_spec =
     tie.close
     (tie.spec (λ c κs. search rules) (λ c κs. search rules) (λ c κs. search rules) (λ c κs. search rules)
     (λ c κs. search rules) (λ c κs. search rules) (λ c κs. search rules) (λ c κs. search rules) (λ c κs. search rules)

@@ -81,7 +81,7 @@ walks 𝓛 at_mem run = over (λ C Λ fm known κs qs a are. let fit = fitting �
     E'.the_plain 𝓛) r _ is $ move ! (2 ∷ []) $ nothing ! $ fjoin ! $ keep ! (2 ∷ 0 ∷ 1 ∷ []) $
     by ! (exits lends E.the_row 𝓛 Promised κs qs a r (tt, ws.1) _ e)))))))))))
 
-pub read-on-spec : {M : Type 1} → stated.statement M
+pub read_on_spec : {M : Type 1} → stated.statement M
 unfolding code.routine
-read-on-spec 𝓤 𝓛 𝓜 𝓡 = by-walk 𝓛 𝓜 𝓡 (walks 𝓛 𝓜.mem 𝓡.run) code.env #this
+read_on_spec 𝓤 𝓛 𝓜 𝓡 = by-walk 𝓛 𝓜 𝓡 (walks 𝓛 𝓜.mem 𝓡.run) code.env #this
     (code.unfolded 𝓤 𝓛.H 𝓜 𝓡) step-def.routine code.calls-screens·in-place·read (step_thm.met 𝓤 𝓛 𝓜 𝓡)

@@ -7,15 +7,15 @@ use Rattle.probes.proofs.layers.probe_part.Tie as tie
 use Rattle.probes.proofs.layers.probe_part.Reads as reads
 use Rattle.probes.proofs.layers.probe_part.Lts as lts
 
-returns : tie.Need-returns
+returns : tie.Need-returns-in-Reached
 returns c =
     let f = c.before.before in
-    part-reached _ _ f.found.given.0.0 f.found.given.1 f.before.before.part.ensures.result
+    part-reached _ _ f.found-1.given.0.0 f.found-1.given.1 f.before.before.part.ensures.result
 
-returns-2 : tie.Need-returns-2
-returns-2 c = part-outside _ _ c.enum_told.given.1 c.before.before.part.ensures.result
+returns-2 : tie.Need-returns-in-OutOfRange
+returns-2 c = part-outside _ _ c.enum_told-1.given.1 c.before.before.part.ensures.result
 
-pub probe-part-spec : {M : Type 1} → statement M
-probe-part-spec =
+pub probe_part_spec : {M : Type 1} → statement M
+probe_part_spec =
     tie.close (tie.spec (λ c κs. search rules) (λ c. search rules) (λ c. search rules) returns (λ c. search rules)
     returns-2)

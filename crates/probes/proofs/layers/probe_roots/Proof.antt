@@ -8,7 +8,7 @@ use Rattle.probes.proofs.layers.probe_roots.Lts as lts
 use Rattle.questions.proofs.roots.roots.Reads as roots-reads
 
 returns : tie.Need-returns
-returns c = roots-probed _ _ c.before.roots.ensures.result
+returns c = roots-probed _ _ c.before.roots-found.ensures.result
 
-pub probe-roots-spec : {M : Type 1} → statement M
-probe-roots-spec = tie.close (tie.spec (λ c κs. search rules) returns)
+pub probe_roots_spec : {M : Type 1} → statement M
+probe_roots_spec = tie.close (tie.spec (λ c κs. search rules) returns)

@@ -53,7 +53,7 @@ abbrev lends : List (Lending 4)
 lends = shared 0 tt u8 ∷ shared 1 tt u8 ∷ shared 2 tt u16 ∷ shared 3 tt u8 ∷ []
 
 abbrev Promised : (κs : Lfts 4) (a : Args this.signature κs) → Advanced → AtExit this.ended κs → Type 0
-Promised κs a r e = CallDone a.0 (calls.advance (inputs_of a.1.0.now a.1.1.0.now a.1.1.1.0.now
+Promised κs a r e = CallDone a.0 (calls.advance-answer (inputs_of a.1.0.now a.1.1.0.now a.1.1.1.0.now
     a.1.1.1.1.0.now)) (advance_answer r.answer) r.session
 
 walks : {M : Type 1} {𝓤 : Ura M} (𝓛 : Logic 𝓤) (at_mem : Memory → SProp 𝓤) (run :
@@ -85,7 +85,7 @@ walks 𝓛 at_mem run = over (λ C Λ fm known κs qs a fit. begun lends O.the_r
     _ whole $ keep ! (1 ∷ 2 ∷ 0 ∷ []) $ by ! (exits lends O.the_row 𝓛 Promised κs qs a (record
     { answer = r; session = ws.0 }) ws.1 _ e))))))))))))))))
 
-pub advance-at-spec : {M : Type 1} → stated.statement M
+pub advance_at_spec : {M : Type 1} → stated.statement M
 unfolding code.routine
-advance-at-spec 𝓤 𝓛 𝓜 𝓡 = by-walk 𝓛 𝓜 𝓡 (walks 𝓛 𝓜.mem 𝓡.run) code.env #this
+advance_at_spec 𝓤 𝓛 𝓜 𝓡 = by-walk 𝓛 𝓜 𝓡 (walks 𝓛 𝓜.mem 𝓡.run) code.env #this
     (code.unfolded 𝓤 𝓛.H 𝓜 𝓡) step-def.routine code.calls-session·in-place·advance (step_thm.met 𝓤 𝓛 𝓜 𝓡)

@@ -51,7 +51,7 @@ abbrev lends : List (Lending 0)
 lends = []
 
 abbrev Promised : (κs : Lfts 0) (a : Args this.signature κs) → Called → AtExit this.ended κs → Type 0
-Promised κs a r e = CallDone a.0 calls.cancel (call_answer r.answer) r.session
+Promised κs a r e = CallDone a.0 calls.cancel-answer (call_answer r.answer) r.session
 
 walks : {M : Type 1} {𝓤 : Ura M} (𝓛 : Logic 𝓤) (at_mem : Memory → SProp 𝓤) (run :
     Routine → Fun 𝓤) → Walks 𝓛 (called lends O.the_row 𝓛 Promised) code.function #step (triple_of 𝓛
@@ -77,7 +77,7 @@ walks 𝓛 at_mem run = over (λ C Λ fm known κs qs a fit. begun lends O.the_r
     _ whole $ keep ! (1 ∷ 2 ∷ 0 ∷ []) $ by ! (exits lends O.the_row 𝓛 Promised κs qs a (record
     { answer = r; session = ws.0 }) ws.1 _ e))))))))))))
 
-pub cancel-at-spec : {M : Type 1} → stated.statement M
+pub cancel_at_spec : {M : Type 1} → stated.statement M
 unfolding code.routine
-cancel-at-spec 𝓤 𝓛 𝓜 𝓡 = by-walk 𝓛 𝓜 𝓡 (walks 𝓛 𝓜.mem 𝓡.run) code.env #this
+cancel_at_spec 𝓤 𝓛 𝓜 𝓡 = by-walk 𝓛 𝓜 𝓡 (walks 𝓛 𝓜.mem 𝓡.run) code.env #this
     (code.unfolded 𝓤 𝓛.H 𝓜 𝓡) step-def.routine code.calls-session·in-place·cancel (step_thm.met 𝓤 𝓛 𝓜 𝓡)

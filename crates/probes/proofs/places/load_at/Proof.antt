@@ -91,7 +91,7 @@ walks 𝓛 at_mem run = over (λ C Λ fm known κs qs a fit. begun lends O.the_r
     _ whole $ keep ! (1 ∷ 2 ∷ 0 ∷ []) $ by ! (exits lends O.the_row 𝓛 Promised κs qs a (record
     { answer = r; session = ws.0 }) ws.1 _ e))))))))))))))))))))
 
-pub load-at-spec : {M : Type 1} → stated.statement M
+pub load_at_spec : {M : Type 1} → stated.statement M
 unfolding code.routine
-load-at-spec 𝓤 𝓛 𝓜 𝓡 = by-walk 𝓛 𝓜 𝓡 (walks 𝓛 𝓜.mem 𝓡.run) code.env #this
+load_at_spec 𝓤 𝓛 𝓜 𝓡 = by-walk 𝓛 𝓜 𝓡 (walks 𝓛 𝓜.mem 𝓡.run) code.env #this
     (code.unfolded 𝓤 𝓛.H 𝓜 𝓡) step-def.routine code.calls-session·in-place·load (step_thm.met 𝓤 𝓛 𝓜 𝓡)

@@ -74,7 +74,7 @@ walks 𝓛 at_mem run = over (λ C Λ fm known κs qs a fit. begun lends E.the_r
     gone ! 0 4 refl refl $ gone ! 2 2 refl refl $ free0 ! $ owned ! E.the_row (Is E.the_row) (EL.makes E.the_type
     E'.the_plain 𝓛) r _ is $ keep ! (1 ∷ 2 ∷ 0 ∷ []) $ by ! (exits lends E.the_row 𝓛 Promised κs qs a r ws.1 _ e))))))))))
 
-pub read-at-spec : {M : Type 1} → stated.statement M
+pub read_at_spec : {M : Type 1} → stated.statement M
 unfolding code.routine
-read-at-spec 𝓤 𝓛 𝓜 𝓡 = by-walk 𝓛 𝓜 𝓡 (walks 𝓛 𝓜.mem 𝓡.run) code.env #this
+read_at_spec 𝓤 𝓛 𝓜 𝓡 = by-walk 𝓛 𝓜 𝓡 (walks 𝓛 𝓜.mem 𝓡.run) code.env #this
     (code.unfolded 𝓤 𝓛.H 𝓜 𝓡) step-def.routine code.calls-session·in-place·read (step_thm.met 𝓤 𝓛 𝓜 𝓡)

@@ -9,28 +9,28 @@ use Rattle.probes.proofs.whole.advance_by.Tie as tie
 use Rattle.probes.proofs.whole.advance_by.Reads as reads
 use Rattle.probes.proofs.whole.advance_by.Lts as lts
 
-abbrev invariant-loop : tie.invariant-loop
+abbrev invariant-loop : tie.invariant-loop-left
 invariant-loop count plan rules node_table state_table u₀ left₀ u left =
     advanced left (inputs_of plan rules node_table state_table) u ≡ advanced left₀ (inputs_of plan rules node_table state_table) u₀
 
-abbrev decreases-loop : tie.decreases-loop
+abbrev decreases-loop : tie.decreases-loop-left
 decreases-loop count plan rules node_table state_table u₀ left₀ u left = left
 
-loop-holds : tie.Need-loop-init invariant-loop decreases-loop
+loop-holds : tie.Need-loop-left-init invariant-loop decreases-loop
 loop-holds c = refl
 
-loop-again : tie.Need-loop-preserved invariant-loop decreases-loop
+loop-again : tie.Need-loop-left-preserved invariant-loop decreases-loop
 loop-again c =
-    let l = c.before.before.before.loop in
-    once_more _ l.u _ l.left l.invariant _ (omega arith) c.before.advance-at.ensures.leaves
+    let l = c.before.before.before.loop-left in
+    once_more _ l.u-1 _ l.left l.invariant _ (omega arith) c.before.advance_at-out.ensures.leaves
 
 returns : tie.Need-returns invariant-loop decreases-loop
 returns c =
-    let l = c.before.loop in
+    let l = c.before.loop-left in
     all_done _ _ _ l.left l.invariant (omega arith)
 
-pub advance-by-spec : {M : Type 1} → statement M
-advance-by-spec =
+pub advance_by_spec : {M : Type 1} → statement M
+advance_by_spec =
     tie.close
     (tie.spec invariant-loop decreases-loop loop-holds (λ c κs. search rules) (λ c. search rules) (λ c. search rules) loop-again
     returns)

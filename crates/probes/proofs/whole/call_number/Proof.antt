@@ -4,13 +4,13 @@ use borrow.Author.Rules.{rules}
 use Rattle.probes.proofs.whole.call_number.Statement.{statement}
 use Rattle.probes.proofs.whole.call_number.Tie as tie
 
-returns : tie.Need-returns
-returns c = number-none _ c.enum_told.given.1
+returns : tie.Need-returns-in-Accepted
+returns c = number-none _ c.enum_told-1.given.1
 
-returns-2 : tie.Need-returns-2
-returns-2 c = number-some _ _ c.before.answer.given.1
+returns-2 : tie.Need-returns-in-Refused
+returns-2 c = number-some _ _ c.before.answer-1.given.1
 
-pub call-number-spec : {M : Type 1} → statement M
-call-number-spec =
+pub call_number_spec : {M : Type 1} → statement M
+call_number_spec =
     tie.close
     (tie.spec (λ c. search rules) returns (λ c. search rules) (λ c. search rules) returns-2)

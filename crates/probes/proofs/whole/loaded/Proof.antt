@@ -12,7 +12,7 @@ returns : tie.Need-returns
 unfolding session_of phase_to idle
 returns c =
     let a = c.before.before.args in
-    c.idle.ensures ∙ ap (λ (l : Last). idle_session Loaded (record { n = a.n; s = a.s; k = a.k }) l) c.before.no_last.ensures
+    c.idle.ensures ∙ ap (λ (l : Last). idle_session Loaded (record { n = a.n; s = a.s; k = a.k }) l) c.before.no_last-last.ensures
 
-pub loaded-spec : {M : Type 1} → statement M
-loaded-spec = tie.close (tie.spec (λ c κs. search rules) (λ c κs. search rules) returns)
+pub loaded_spec : {M : Type 1} → statement M
+loaded_spec = tie.close (tie.spec (λ c κs. search rules) (λ c κs. search rules) returns)

@@ -4,9 +4,9 @@ use borrow.Author.Rules.{rules}
 use Rattle.probes.proofs.whole.probe_life.Statement.{statement}
 use Rattle.probes.proofs.whole.probe_life.Tie as tie
 
-same_length : tie.Need-same-length
+same_length : tie.Need-shape_of-node_table
 same_length c =
-    c.before.before.before.before.before.before.before.before.before.before.before.before.before.before.before.before.node-table.given
+    c.before.before.before.before.before.before.before.before.before.before.before.before.before.before.before.before.node_table-1.given
 
 returns : tie.Need-returns
 returns c =
@@ -17,12 +17,12 @@ returns c =
     let n = p.before.before.before in
     let o = n.before.before.before.before.before.before in
     let f = o.before.before.before in
-    life-answer _ _ _ _ f.fresh.result f.fresh.ensures.0 o.load_at.result _ _ o.load_at.ensures
-    p.start-at.result p.start-at.ensures q.cancel-at.result q.cancel-at.ensures _ _ _ _
-    n.call-number.ensures t.parts-in.ensures k.call-number2.ensures c.question-on.ensures
+    life-answer _ _ _ _ f.fresh-fresh.result f.fresh-fresh.ensures.0 o.load_at-out.result _ _ o.load_at-out.ensures
+    p.start_at-put.result p.start_at-put.ensures q.cancel_at-ended.result q.cancel_at-ended.ensures _ _ _ _
+    n.call_number-load.ensures t.parts_in-parts.ensures k.call_number-cancel.ensures c.question_on-again.ensures
 
-pub probe-life-spec : {M : Type 1} → statement M
-probe-life-spec =
+pub probe_life_spec : {M : Type 1} → statement M
+probe_life_spec =
     tie.close
     (tie.spec (λ c κs. search rules) (λ c κs. search rules) (λ c κs. search rules) (λ c κs. search rules)
     (λ c κs. search rules) (λ c κs. search rules) (λ c κs. search rules) (λ c κs. search rules) same_length

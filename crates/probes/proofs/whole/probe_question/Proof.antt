@@ -11,11 +11,11 @@ returns : tie.Need-returns
 returns c =
     let l = c.before in
     let a = l.before.before.before.before.before.before.before.args in
-    c.question-on.ensures
-    ∙ ap (λ (s : Session). question_in (inputs_of a.plan.now a.rules.now a.node-table.now a.state-table.now) a.nodes.now a.labels.now s)
-    l.loaded.ensures
+    c.question_on.ensures
+    ∙ ap (λ (s : Session). question_in (inputs_of a.plan.now a.rules.now a.node_table.now a.state_table.now) a.nodes.now a.labels.now s)
+    l.loaded-before.ensures
 
-pub probe-question-spec : {M : Type 1} → statement M
-probe-question-spec =
+pub probe_question_spec : {M : Type 1} → statement M
+probe_question_spec =
     tie.close
     (tie.spec (λ c κs. search rules) (λ c κs. search rules) returns)

@@ -13,9 +13,9 @@ returns : tie.Need-returns
 returns c =
     let t = c.before in
     let o = t.before.before in
-    steps-answer _ _ _ _ _ _ o.before.loaded.ensures o.start-at.ensures _ _ _ t.parts-in.ensures c.advance-by.ensures
+    steps-answer _ _ _ _ _ _ o.before.loaded-before.ensures o.start_at-out.ensures _ _ _ t.parts_in-parts.ensures c.advance_by-end.ensures
 
-pub probe-steps-spec : {M : Type 1} → statement M
-probe-steps-spec =
+pub probe_steps_spec : {M : Type 1} → statement M
+probe_steps_spec =
     tie.close
     (tie.spec (λ c κs. search rules) (λ c κs. search rules) (λ c κs. search rules) (λ c κs. search rules) returns)

@@ -10,11 +10,11 @@ returns c =
     let a = c.before.before in
     let t = a.before in
     let o = t.before.before in
-    question-answer _ _ _ _ _ _ refl o.start-at.ensures _ _ _ _ t.parts-in.ensures a.advance-by.ensures
-    c.before.read_at.ensures c.read-in.ensures
+    question-answer _ _ _ _ _ _ refl o.start_at-out.ensures _ _ _ _ t.parts_in.ensures a.advance_by-end.ensures
+    c.before.read_at-outcome.ensures c.read_in.ensures
 
-pub question-on-spec : {M : Type 1} → statement M
-question-on-spec =
+pub question_on_spec : {M : Type 1} → statement M
+question_on_spec =
     tie.close
     (tie.spec (λ c κs. search rules) (λ c κs. search rules) (λ c κs. search rules) (λ c κs. search rules)
     (λ c κs. search rules) returns)

@@ -6,13 +6,13 @@ use Rattle.probes.proofs.whole.read_in.Tie as tie
 use Rattle.probes.proofs.whole.read_in.Reads as reads
 use Rattle.probes.proofs.whole.read_in.Lts as lts
 
-returns : tie.Need-returns
-returns c = read_some _ _ c.before.before.before.answer.given.1
+returns : tie.Need-returns-in-Outcome
+returns c = read_some _ _ c.before.before.before.answer-1.given.1
 
-returns-2 : tie.Need-returns-2
-returns-2 c = read_none _ _ c.before.answer2.given.1
+returns-2 : tie.Need-returns-in-Refused
+returns-2 c = read_none _ _ c.before.answer-in-Refused-1.given.1
 
-pub read-in-spec : {M : Type 1} → statement M
-read-in-spec =
+pub read_in_spec : {M : Type 1} → statement M
+read_in_spec =
     tie.close (tie.spec (λ c. search rules) (λ c. search rules) (λ c. search rules) returns (λ c. search rules)
     returns-2)

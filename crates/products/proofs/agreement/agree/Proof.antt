@@ -15,45 +15,45 @@ use Rattle.products.proofs.agreement.refused.Reads as refused-reads
 use Rattle.formats.proofs.bytes.read32.Reads as read32-reads
 use Rattle.formats.proofs.rules.check_rule_bytes.Reads as check-rule-bytes-reads
 
-first_passes : (e : tie.Else1) → first_no (rule_checks e.before.before.before.before.args.first.now) ≡ 0
-first_passes e = sym e.before.check-rule-bytes.ensures ∙ e.if1.false
+first_passes : (e : tie.Else-n1-ne0) → first_no (rule_checks e.before.before.before.before.args.first.now) ≡ 0
+first_passes e = sym e.before.check_rule_bytes-n1.ensures ∙ e.if-n1-ne0.false
 
-second_passes : (e : tie.Else2)
+second_passes : (e : tie.Else-n2-ne0)
     → first_no (rule_checks e.before.before.before.before.before.before.args.second.now) ≡ 0
-second_passes e = sym e.before.check-rule-bytes2.ensures ∙ e.if2.false
+second_passes e = sym e.before.check_rule_bytes-n2.ensures ∙ e.if-n2-ne0.false
 
-returns : tie.Need-returns
+returns : tie.Need-returns-then-n1-ne0
 returns c =
     let g = c.before.before.before.before.before.args in
-    refused-done g.first.now g.second.now _ c.refused.result c.refused.ensures c.before.if1.true
-    (first-no g.first.now g.second.now _ c.before.before.check-rule-bytes.ensures c.before.if1.true)
+    refused-done g.first.now g.second.now _ c.refused.result c.refused.ensures c.before.if-n1-ne0.true
+    (first-no g.first.now g.second.now _ c.before.before.check_rule_bytes-n1.ensures c.before.if-n1-ne0.true)
 
-returns-2 : tie.Need-returns-2
+returns-2 : tie.Need-returns-then-n2-ne0
 returns-2 c =
     let g = c.before.before.before.before.before.before.before.args in
-    refused-done g.first.now g.second.now _ c.refused2.result c.refused2.ensures c.before.if2.true
+    refused-done g.first.now g.second.now _ c.refused-then-n2-ne0.result c.refused-then-n2-ne0.ensures c.before.if-n2-ne0.true
     (second-no g.first.now g.second.now (first_passes c.before.before.before) _
-    c.before.before.check-rule-bytes2.ensures c.before.if2.true)
+    c.before.before.check_rule_bytes-n2.ensures c.before.if-n2-ne0.true)
 
-read32-requires : tie.Need-read32-requires
+read32-requires : tie.Need-read32-k-requires
 read32-requires c κs = omega (arith, (rules-pass _ (first_passes c.before.before)).long)
 
-read32-requires-2 : tie.Need-read32-requires-2
+read32-requires-2 : tie.Need-read32-requires
 read32-requires-2 c κs = omega (arith, (rules-pass _ (second_passes c.before)).long)
 
-returns-3 : tie.Need-returns-3
+returns-3 : tie.Need-returns-then-read32-k
 returns-3 c =
     let g = c.before.before.before.before.before.before.before.before.before.before.args in
-    refused-done g.first.now g.second.now 23 c.refused3.result c.refused3.ensures (λ z. omega arith)
+    refused-done g.first.now g.second.now 23 c.refused-then-read32-k.result c.refused-then-read32-k.ensures (λ z. omega arith)
     (labels-no g.first.now g.second.now (first_passes c.before.before.before.before.before.before)
     (second_passes c.before.before.before.before)
-    (λ e. c.before.if3.true (c.before.before.read322.ensures ∙ sym e ∙ sym
-    c.before.before.before.read32.ensures)))
+    (λ e. c.before.if-read32-k.true (c.before.before.read32.ensures ∙ sym e ∙ sym
+    c.before.before.before.read32-k.ensures)))
 
-read32-requires-3 : tie.Need-read32-requires-3
+read32-requires-3 : tie.Need-read32-requires-2
 read32-requires-3 c κs = omega (arith, (rules-pass _ (first_passes c.before.before.before.before.before)).long)
 
-read32-requires-4 : tie.Need-read32-requires-4
+read32-requires-4 : tie.Need-read32-requires-3
 read32-requires-4 c κs = omega (arith, (rules-pass _ (second_passes c.before.before.before.before)).long)
 
 answered-requires : tie.Need-answered-requires
@@ -61,21 +61,21 @@ answered-requires c κs =
     let g = c.before.before.before.before.before.before.before.before.before.before.before.args in
     two-tables g.first.now g.second.now _ _ _ (first_passes
     c.before.before.before.before.before.before.before) (second_passes
-    c.before.before.before.before.before) c.before.read323.ensures c.read324.ensures
-    c.before.before.before.before.read32.ensures (sym
-    c.before.before.if3.false ∙ c.before.before.before.read322.ensures)
+    c.before.before.before.before.before) c.before.read32-2.ensures c.read32-3.ensures
+    c.before.before.before.before.read32-k.ensures (sym
+    c.before.before.if-read32-k.false ∙ c.before.before.before.read32.ensures)
 
-returns-4 : tie.Need-returns-4
+returns-4 : tie.Need-returns
 returns-4 c =
     let g = c.before.before.before.before.before.before.before.before.before.before.before.before.args in
     answered-done g.first.now g.second.now (first_passes
     c.before.before.before.before.before.before.before.before) (second_passes
     c.before.before.before.before.before.before) c.answered.result
-    (sym c.before.before.before.before.before.read32.ensures ∙ sym
-    c.before.before.before.if3.false ∙ c.before.before.before.before.read322.ensures) c.answered.ensures
+    (sym c.before.before.before.before.before.read32-k.ensures ∙ sym
+    c.before.before.before.if-read32-k.false ∙ c.before.before.before.before.read32.ensures) c.answered.ensures
 
-pub agree-spec : {M : Type 1} → statement M
-agree-spec =
+pub agree_spec : {M : Type 1} → statement M
+agree_spec =
     tie.close
     (tie.spec (λ c κs. tt) (λ c κs. tt) returns (λ c κs. tt) (λ c κs. tt) returns-2 read32-requires read32-requires-2
     (λ c κs. tt) returns-3 read32-requires-3 read32-requires-4 answered-requires returns-4)

@@ -17,33 +17,33 @@ use Rattle.products.proofs.agreement.reachable.first_differing.Reads as first-di
 use Rattle.products.proofs.agreement.reachable.over_leaves.Reads as over-leaves-reads
 use Rattle.products.proofs.agreement.reachable.searched.Reads as searched-reads
 
-over-leaves-requires : tie.Need-over-leaves-requires
+over-leaves-requires : tie.Need-over_leaves-l-requires
 over-leaves-requires c κs =
     let v = c.before.before.before in
     let u = v.before in
     let s = u.before.before.before in
     let g = s.args in
     let e = c.before.before in
-    leaf-args-at g.first.now g.second.now g.s1 g.s2 g.k s.requires _ _ e.empty-search.result
+    leaf-args-at g.first.now g.second.now g.s1 g.s2 g.k s.requires _ _ e.empty_search-e.result
     (leaves-first g.first.now g.second.now g.s1 g.s2 g.k s.requires)
     (leaves-second g.first.now g.second.now g.s1 g.s2 g.k s.requires)
-    e.empty-search.ensures
+    e.empty_search-e.ensures
 
-searched-requires : tie.Need-searched-requires
+searched-requires : tie.Need-searched-t-requires
 searched-requires c κs =
     let v = c.before.before.before.before.before.before.before.before in
     let u = v.before in
     let s = u.before.before.before in
     let g = s.args in
     let l = c.before.before.before.before in
-    whole-args-at g.first.now g.second.now g.s1 g.s2 g.k s.requires _ _ _ _ l.over-leaves.result
+    whole-args-at g.first.now g.second.now g.s1 g.s2 g.k s.requires _ _ _ _ l.over_leaves-l.result
     (inner_first g.first.now g.second.now g.s1 g.s2 g.k s.requires u.inner_count.result u.inner_count.ensures.value)
-    (inner-second g.first.now g.second.now g.s1 g.s2 g.k s.requires v.inner-count2.result v.inner-count2.ensures.value)
+    (inner-second g.first.now g.second.now g.s1 g.s2 g.k s.requires v.inner_count-2.result v.inner_count-2.ensures.value)
     (marks-first g.first.now g.second.now g.s1 g.s2 g.k s.requires u.inner_count.result u.inner_count.ensures.value)
-    (marks-second g.first.now g.second.now g.s1 g.s2 g.k s.requires v.inner-count2.result v.inner-count2.ensures.value)
-    l.over-leaves.ensures.fits
+    (marks-second g.first.now g.second.now g.s1 g.s2 g.k s.requires v.inner_count-2.result v.inner_count-2.ensures.value)
+    l.over_leaves-l.ensures.fits
 
-sub-first-differing : tie.Need-overflow-sub-first-differing
+sub-first-differing : tie.Need-slice_bounds-first_differing-count
 sub-first-differing c =
     let v = c.before.before.before.before.before.before.before.before.before in
     let u = v.before in
@@ -51,7 +51,7 @@ sub-first-differing c =
     let g = s.args in
     omega (arith, s.requires.first_exact, u.inner_count.ensures.value)
 
-part-first-differing-start : tie.Need-slice-bounds-first-differing-start
+part-first-differing-start : tie.Need-slice_bounds-first_differing-start
 part-first-differing-start c =
     let v = c.before.before.before.before.before.before.before.before.before in
     let u = v.before in
@@ -59,33 +59,33 @@ part-first-differing-start c =
     let g = s.args in
     omega (arith, s.requires.first_exact, u.inner_count.ensures.value)
 
-sub-first-differing-2 : tie.Need-overflow-sub-first-differing-2
+sub-first-differing-2 : tie.Need-slice_bounds-first_differing-count-2
 sub-first-differing-2 c =
     let v = c.before.before.before.before.before.before.before.before.before.before in
     let u = v.before in
     let s = u.before.before.before in
     let g = s.args in
-    omega (arith, s.requires.second_exact, v.inner-count2.ensures.value)
+    omega (arith, s.requires.second_exact, v.inner_count-2.ensures.value)
 
-part-first-differing-start-2 : tie.Need-slice-bounds-first-differing-start-2
+part-first-differing-start-2 : tie.Need-slice_bounds-first_differing-start-2
 part-first-differing-start-2 c =
     let v = c.before.before.before.before.before.before.before.before.before.before in
     let u = v.before in
     let s = u.before.before.before in
     let g = s.args in
-    omega (arith, s.requires.second_exact, v.inner-count2.ensures.value)
+    omega (arith, s.requires.second_exact, v.inner_count-2.ensures.value)
 
-first-differing-requires : tie.Need-first-differing-requires
+first-differing-requires : tie.Need-first_differing-n-requires
 first-differing-requires c κs =
     let v = c.before.before.before.before.before.before.before.before.before.before.before in
     let u = v.before in
     let s = u.before.before.before in
     let g = s.args in
     let t = c.before.before in
-    mark-args-at g.first.now g.second.now g.s1 g.s2 g.k s.requires _ _ t.searched.result
+    mark-args-at g.first.now g.second.now g.s1 g.s2 g.k s.requires _ _ t.searched-t.result
     (marks-first g.first.now g.second.now g.s1 g.s2 g.k s.requires u.inner_count.result u.inner_count.ensures.value)
-    (marks-second g.first.now g.second.now g.s1 g.s2 g.k s.requires v.inner-count2.result v.inner-count2.ensures.value)
-    t.searched.ensures.fits
+    (marks-second g.first.now g.second.now g.s1 g.s2 g.k s.requires v.inner_count-2.result v.inner_count-2.ensures.value)
+    t.searched-t.ensures.fits
 
 cut-requires : tie.Need-cut-requires
 cut-requires c κs =
@@ -94,10 +94,10 @@ cut-requires c κs =
     let s = u.before.before.before in
     let g = s.args in
     let t = c.before.before.before in
-    cut-args-at g.first.now g.second.now g.s1 g.s2 g.k s.requires _ _ t.searched.result c.first-differing.result
+    cut-args-at g.first.now g.second.now g.s1 g.s2 g.k s.requires _ _ t.searched-t.result c.first_differing-n.result
     (marks-first g.first.now g.second.now g.s1 g.s2 g.k s.requires u.inner_count.result u.inner_count.ensures.value)
-    (marks-second g.first.now g.second.now g.s1 g.s2 g.k s.requires v.inner-count2.result v.inner-count2.ensures.value)
-    t.searched.ensures.fits c.first-differing.ensures
+    (marks-second g.first.now g.second.now g.s1 g.s2 g.k s.requires v.inner_count-2.result v.inner_count-2.ensures.value)
+    t.searched-t.ensures.fits c.first_differing-n.ensures
 
 returns : tie.Need-returns
 returns c =
@@ -112,17 +112,17 @@ returns c =
     c.cut.ensures
     ∙ ap (reply_of 0)
     (answered-at g.first.now g.second.now g.s1 g.s2 g.k s.requires _ _ _ _ _ _ _
-    l.over-leaves.result t.searched.result n.first-differing.result
+    l.over_leaves-l.result t.searched-t.result n.first_differing-n.result
     (leaves-first g.first.now g.second.now g.s1 g.s2 g.k s.requires)
     (leaves-second g.first.now g.second.now g.s1 g.s2 g.k s.requires)
     (inner_first g.first.now g.second.now g.s1 g.s2 g.k s.requires u.inner_count.result u.inner_count.ensures.value)
-    (inner-second g.first.now g.second.now g.s1 g.s2 g.k s.requires v.inner-count2.result v.inner-count2.ensures.value)
+    (inner-second g.first.now g.second.now g.s1 g.s2 g.k s.requires v.inner_count-2.result v.inner_count-2.ensures.value)
     (marks-first g.first.now g.second.now g.s1 g.s2 g.k s.requires u.inner_count.result u.inner_count.ensures.value)
-    (marks-second g.first.now g.second.now g.s1 g.s2 g.k s.requires v.inner-count2.result v.inner-count2.ensures.value)
-    e.empty-search.ensures l.over-leaves.ensures t.searched.ensures n.first-differing.ensures)
+    (marks-second g.first.now g.second.now g.s1 g.s2 g.k s.requires v.inner_count-2.result v.inner_count-2.ensures.value)
+    e.empty_search-e.ensures l.over_leaves-l.ensures t.searched-t.ensures n.first_differing-n.ensures)
 
-pub answered-spec : {M : Type 1} → statement M
-answered-spec =
+pub answered_spec : {M : Type 1} → statement M
+answered_spec =
     tie.close
     (tie.spec (λ c. search rules) (λ c κs. search rules) (λ c. search rules) (λ c κs. search rules)
     (λ c. search rules) (λ c κs. search rules) (λ c. search rules) (λ c. search rules) (λ c. search rules)

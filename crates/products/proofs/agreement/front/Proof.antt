@@ -8,33 +8,33 @@ use Rattle.products.proofs.agreement.front.Tie as tie
 use Rattle.products.proofs.agreement.front.Reads as reads
 use Rattle.products.proofs.agreement.front.Lts as lts
 
-abbrev invariant-loop : tie.invariant-loop
+abbrev invariant-loop : tie.invariant-loop-i
 invariant-loop n a r₀ i₀ r i = FrontLoop a n r i
 
-abbrev decreases-loop : tie.decreases-loop
+abbrev decreases-loop : tie.decreases-loop-i
 decreases-loop n a r₀ i₀ r i = n - i
 
-loop-holds : tie.Need-loop-init invariant-loop decreases-loop
+loop-holds : tie.Need-loop-i-init invariant-loop decreases-loop
 loop-holds c = front-start c.args.t1 c.args.n c.requires
 
-array-read-r : tie.Need-array-read-r invariant-loop decreases-loop
-array-read-r c = omega (arith, c.before.loop.invariant.args.long, c.before.loop.invariant.args.few, c.loop-test.true)
+array-read-r : tie.Need-bounds-a-i invariant-loop decreases-loop
+array-read-r c = omega (arith, c.before.loop-i.invariant.args.long, c.before.loop-i.invariant.args.few, c.loop-i-test.true)
 
-array-write-r : tie.Need-array-write-r invariant-loop decreases-loop
-array-write-r c = omega (arith, c.before.loop.invariant.front.long, c.before.loop.invariant.args.few, c.loop-test.true)
+array-write-r : tie.Need-bounds-r-i invariant-loop decreases-loop
+array-write-r c = omega (arith, c.before.loop-i.invariant.front.long, c.before.loop-i.invariant.args.few, c.loop-i-test.true)
 
-loop-again : tie.Need-loop-preserved invariant-loop decreases-loop
+loop-again : tie.Need-loop-i-preserved invariant-loop decreases-loop
 loop-again c =
-    let l = c.before.loop in
-    front-next c.before.before.args.t1 c.before.before.args.n l.r l.i l.invariant c.loop-test.true
+    let l = c.before.loop-i in
+    front-next c.before.before.args.t1 c.before.before.args.n l.r l.i l.invariant c.loop-i-test.true
 
 returns : tie.Need-returns invariant-loop decreases-loop
 returns c =
-    let l = c.before.loop in
-    front-done c.before.before.args.t1 c.before.before.args.n l.r l.i l.invariant c.loop-test.false
+    let l = c.before.loop-i in
+    front-done c.before.before.args.t1 c.before.before.args.n l.r l.i l.invariant c.loop-i-test.false
 
-pub front-spec : {M : Type 1} → statement M
-front-spec =
+pub front_spec : {M : Type 1} → statement M
+front_spec =
     tie.close
     (tie.spec invariant-loop decreases-loop loop-holds array-read-r array-write-r (λ c. search rules) (λ c. search rules) loop-again
     returns)

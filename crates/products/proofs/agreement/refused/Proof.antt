@@ -10,5 +10,5 @@ use Rattle.products.proofs.agreement.refused.Lts as lts
 returns : tie.Need-returns
 returns c = refusal-reply c.args.number
 
-pub refused-spec : {M : Type 1} → statement M
-refused-spec = tie.close (tie.spec returns)
+pub refused_spec : {M : Type 1} → statement M
+refused_spec = tie.close (tie.spec returns)

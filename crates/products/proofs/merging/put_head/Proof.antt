@@ -21,14 +21,14 @@ returns c =
     let s = x22 in
     let g = s.args in
     head-written g.s g.k
-    x20.inner_count.result g.out.now x18.put32.new.0 x14.put322.new.0
-    x10.put323.new.0
-    x6.put324.new.0 x2.put325.new.0 s.requires
+    x20.inner_count.result g.out-1.now x18.put32.new.0 x14.put32-2.new.0
+    x10.put32-3.new.0
+    x6.put32-4.new.0 x2.put32-5.new.0 s.requires
     x20.inner_count.ensures.value
-    x18.put32.ensures x14.put322.ensures x10.put323.ensures x6.put324.ensures x2.put325.ensures
+    x18.put32.ensures x14.put32-2.ensures x10.put32-3.ensures x6.put32-4.ensures x2.put32-5.ensures
 
-pub put-head-spec : {M : Type 1} → statement M
-put-head-spec =
+pub put_head_spec : {M : Type 1} → statement M
+put_head_spec =
     tie.close
     (tie.spec (λ c. search rules) (λ c κs. search rules) (λ c. search rules) (λ c κs. search rules)
     (λ c κs. search rules) (λ c κs. search rules) (λ c. search rules) (λ c κs. search rules) (λ c κs. search rules)

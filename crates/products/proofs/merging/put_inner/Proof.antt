@@ -10,61 +10,61 @@ use Rattle.products.proofs.merging.put_inner.Reads as reads
 use Rattle.products.proofs.merging.put_inner.Lts as lts
 use Rattle.products.proofs.merging.put_nth_row.Reads as put-nth-row-reads
 
-abbrev invariant-loop : tie.invariant-loop
+abbrev invariant-loop : tie.invariant-loop-r
 invariant-loop first second s1 s2 k out₀ at s rows r₀ out r = InnerLoop first second s1 s2 k at s rows out₀ out r
 
-abbrev decreases-loop : tie.decreases-loop
+abbrev decreases-loop : tie.decreases-loop-r
 decreases-loop first second s1 s2 k out₀ at s rows r₀ out r = rows - r
 
-mul-s : tie.Need-overflow-mul-s invariant-loop decreases-loop
+mul-s : tie.Need-overflow_mul-s invariant-loop decreases-loop
 mul-s c = omega (arith, (inner-products _ _ _ _ _ _ _ c.before.before.before.requires).0)
 
-mul-rows : tie.Need-overflow-mul-rows invariant-loop decreases-loop
+mul-rows : tie.Need-overflow_mul-rows invariant-loop decreases-loop
 mul-rows c = omega (arith, (inner-products _ _ _ _ _ _ _ c.before.before.before.requires).1)
 
-loop-holds : tie.Need-loop-init invariant-loop decreases-loop
+loop-holds : tie.Need-loop-r-init invariant-loop decreases-loop
 loop-holds c = inner_start _ _ _ _ _ _ _ c.before.before.before.requires
 
-mul-put-nth-row : tie.Need-overflow-mul-put-nth-row invariant-loop decreases-loop
+mul-put-nth-row : tie.Need-overflow_mul-r invariant-loop decreases-loop
 mul-put-nth-row c =
-    omega (arith, (inner-places _ _ _ _ _ _ _ _ _ _ _ c.before.before.loop.invariant c.before.loop-test.true).0)
+    omega (arith, (inner-places _ _ _ _ _ _ _ _ _ _ _ c.before.before.loop-r.invariant c.before.loop-r-test.true).0)
 
-add-put-nth-row : tie.Need-overflow-add-put-nth-row invariant-loop decreases-loop
+add-put-nth-row : tie.Need-overflow_add-at invariant-loop decreases-loop
 add-put-nth-row c =
-    omega (arith, (inner-places _ _ _ _ _ _ _ _ _ _ _ c.before.before.loop.invariant c.before.loop-test.true).1)
+    omega (arith, (inner-places _ _ _ _ _ _ _ _ _ _ _ c.before.before.loop-r.invariant c.before.loop-r-test.true).1)
 
-put-nth-row-requires : tie.Need-put-nth-row-requires invariant-loop decreases-loop
+put-nth-row-requires : tie.Need-put_nth_row-requires invariant-loop decreases-loop
 put-nth-row-requires c κs =
-    inner-call _ _ _ _ _ _ _ _ _ _ _ c.before.before.loop.invariant c.before.loop-test.true
+    inner-call _ _ _ _ _ _ _ _ _ _ _ c.before.before.loop-r.invariant c.before.loop-r-test.true
 
-add_r : tie.Need-overflow-add-r invariant-loop decreases-loop
+add_r : tie.Need-overflow_add-r invariant-loop decreases-loop
 add_r c =
-    let l = c.before.before.before.before.before.loop in
+    let l = c.before.before.before.before.before.loop-r in
     omega (
       arith,
-      c.before.before.before.before.loop-test.true,
+      c.before.before.before.before.loop-r-test.true,
       l.invariant.count,
       (inner-products _
           _ _ _ _ _ _ l.invariant.args).1,
     )
 
-loop-less : tie.Need-loop-smaller invariant-loop decreases-loop
-loop-less c = omega (arith, c.before.before.before.before.loop-test.true)
+loop-less : tie.Need-loop-r-smaller invariant-loop decreases-loop
+loop-less c = omega (arith, c.before.before.before.before.loop-r-test.true)
 
-loop-again : tie.Need-loop-preserved invariant-loop decreases-loop
+loop-again : tie.Need-loop-r-preserved invariant-loop decreases-loop
 loop-again c =
     inner-next _ _ _ _ _ _ _ _ _ _ _
-    c.before.before.before.before.before.loop.invariant c.before.before.before.before.loop-test.true _
-    c.before.before.put-nth-row.ensures
+    c.before.before.before.before.before.loop-r.invariant c.before.before.before.before.loop-r-test.true _
+    c.before.before.put_nth_row.ensures
 
-same_length : tie.Need-same-length invariant-loop decreases-loop
-same_length c = c.before.loop.invariant.fill.long
+same_length : tie.Need-shape_of-out invariant-loop decreases-loop
+same_length c = c.before.loop-r.invariant.fill.long
 
 returns : tie.Need-returns invariant-loop decreases-loop
-returns c = inner-done _ _ _ _ _ _ _ _ _ _ _ c.before.loop.invariant c.loop-test.false
+returns c = inner-done _ _ _ _ _ _ _ _ _ _ _ c.before.loop-r.invariant c.loop-r-test.false
 
-pub put-inner-spec : {M : Type 1} → statement M
-put-inner-spec =
+pub put_inner_spec : {M : Type 1} → statement M
+put_inner_spec =
     tie.close
     (tie.spec invariant-loop decreases-loop mul-s mul-rows loop-holds mul-put-nth-row add-put-nth-row put-nth-row-requires add_r
     loop-less loop-again same_length returns)

@@ -27,22 +27,22 @@ module _ (s : tie.Start) where
   two-end : let g = s.args in second_row g.s2 g.k g.r + g.s2 ≤ length g.second.now
   two-end = let g = s.args in second-end g.first.now g.second.now g.s1 g.s2 g.k g.r s.pre.inner s.pre.inside
 
-put-row-requires : tie.Need-put-row-requires
+put-row-requires : tie.Need-put_row-requires
 put-row-requires c κs =
     let s = c.before.before.before.before.before.before in
     let g = s.args in
     nth-row g.first.now g.second.now g.s1 g.s2 g.k g.r s.requires.inner s.requires.inside g.at
-    g.out.now s.requires.room
+    g.out-1.now s.requires.room
 
 returns : tie.Need-returns
 returns c =
     let s = c.before.before.before.before.before.before.before.before.before in
     let g = s.args in
-    c.before.before.put-row.ensures ∙ ap (λ (x : List ℕ). written g.at x g.out.now) (nth-is g.first.now
+    c.before.before.put_row.ensures ∙ ap (λ (x : List ℕ). written g.at x g.out-1.now) (nth-is g.first.now
     g.second.now g.s1 g.s2 g.k g.r s.requires.inner s.requires.inside)
 
-pub put-nth-row-spec : {M : Type 1} → statement M
-put-nth-row-spec =
+pub put_nth_row_spec : {M : Type 1} → statement M
+put_nth_row_spec =
     tie.close
     (tie.spec (λ c. search rules) (λ c. search rules) (λ c. search rules)
     (λ c. let s = c.before.before.before in omega (arith, (small s).0))

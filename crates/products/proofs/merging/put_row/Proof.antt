@@ -12,66 +12,66 @@ use Rattle.products.proofs.merging.put_row.Reads as reads
 use Rattle.products.proofs.merging.put_row.Lts as lts
 use Rattle.products.proofs.merging.put_run.Reads as put-run-reads
 
-abbrev invariant-loop : tie.invariant-loop
+abbrev invariant-loop : tie.invariant-loop-p
 invariant-loop first second s2 out₀ at p₀ out p = RowArgs first second s2 at out₀ × Fill at (length first * s2)
     (row_cell first second s2) out₀ out (p * s2) × (p ≤ length first)
 
-abbrev decreases-loop : tie.decreases-loop
+abbrev decreases-loop : tie.decreases-loop-p
 decreases-loop first second s2 out₀ at p₀ out p = length first - p
 
-loop-holds : tie.Need-loop-init invariant-loop decreases-loop
+loop-holds : tie.Need-loop-p-init invariant-loop decreases-loop
 loop-holds c =
     let s = c.before.before.before in
     (s.requires, row-start _ _ _ _ _ s.requires, omega arith)
 
-cast-x : tie.Need-overflow-cast-x invariant-loop decreases-loop
-cast-x c = omega (arith, c.shared-slice-known3.given c.before.before.loop.p)
+cast-x : tie.Need-overflow_cast-x invariant-loop decreases-loop
+cast-x c = omega (arith, c.shared_slice_known-in-loop-p-1.given c.before.before.loop-p.p)
 
-mul-put-run : tie.Need-overflow-mul-put-run invariant-loop decreases-loop
+mul-put-run : tie.Need-overflow_mul-x invariant-loop decreases-loop
 mul-put-run c =
-    let l = c.before.before.loop in
-    omega (arith, (row-places _ _ _ _ _ _ _ l.invariant.0 l.invariant.1 c.before.loop-test.true).0)
+    let l = c.before.before.loop-p in
+    omega (arith, (row-places _ _ _ _ _ _ _ l.invariant.0 l.invariant.1 c.before.loop-p-test.true).0)
 
-mul-put-run-2 : tie.Need-overflow-mul-put-run-2 invariant-loop decreases-loop
+mul-put-run-2 : tie.Need-overflow_mul-p invariant-loop decreases-loop
 mul-put-run-2 c =
-    let l = c.before.before.before.loop in
-    omega (arith, (row-places _ _ _ _ _ _ _ l.invariant.0 l.invariant.1 c.before.before.loop-test.true).1)
+    let l = c.before.before.before.loop-p in
+    omega (arith, (row-places _ _ _ _ _ _ _ l.invariant.0 l.invariant.1 c.before.before.loop-p-test.true).1)
 
-add-put-run : tie.Need-overflow-add-put-run invariant-loop decreases-loop
+add-put-run : tie.Need-overflow_add-at invariant-loop decreases-loop
 add-put-run c =
-    let l = c.before.before.before.loop in
-    omega (arith, (row-places _ _ _ _ _ _ _ l.invariant.0 l.invariant.1 c.before.before.loop-test.true).2)
+    let l = c.before.before.before.loop-p in
+    omega (arith, (row-places _ _ _ _ _ _ _ l.invariant.0 l.invariant.1 c.before.before.loop-p-test.true).2)
 
-put-run-requires : tie.Need-put-run-requires invariant-loop decreases-loop
+put-run-requires : tie.Need-put_run-requires invariant-loop decreases-loop
 put-run-requires c κs =
-    let l = c.before.before.before.loop in
-    row-call _ _ _ _ _ _ _ l.invariant.0 l.invariant.1 c.before.before.loop-test.true
+    let l = c.before.before.before.loop-p in
+    row-call _ _ _ _ _ _ _ l.invariant.0 l.invariant.1 c.before.before.loop-p-test.true
 
-loop-less : tie.Need-loop-smaller invariant-loop decreases-loop
-loop-less c = omega (arith, c.before.before.before.before.before.loop-test.true)
+loop-less : tie.Need-loop-p-smaller invariant-loop decreases-loop
+loop-less c = omega (arith, c.before.before.before.before.before.loop-p-test.true)
 
-loop-again : tie.Need-loop-preserved invariant-loop decreases-loop
+loop-again : tie.Need-loop-p-preserved invariant-loop decreases-loop
 loop-again c =
-    let l = c.before.before.before.before.before.before.loop in (
+    let l = c.before.before.before.before.before.before.loop-p in (
       l.invariant.0,
       row_next _ _ _ _ _ _ _ l.invariant.0
-          l.invariant.1 c.before.before.before.before.before.loop-test.true _
-          c.before.before.put-run.ensures,
-      omega (arith, c.before.before.before.before.before.loop-test.true),
+          l.invariant.1 c.before.before.before.before.before.loop-p-test.true _
+          c.before.before.put_run.ensures,
+      omega (arith, c.before.before.before.before.before.loop-p-test.true),
     )
 
-same_length : tie.Need-same-length invariant-loop decreases-loop
-same_length c = c.before.loop.invariant.1.long
+same_length : tie.Need-shape_of-out invariant-loop decreases-loop
+same_length c = c.before.loop-p.invariant.1.long
 
 returns : tie.Need-returns invariant-loop decreases-loop
 returns c =
     let g = c.before.before.before.before.before.args in
-    let l = c.before.loop in
-    row_done g.first.now g.second.now g.s2 g.at g.out.now l.out l.p l.invariant.1 l.invariant.2
-    c.loop-test.false
+    let l = c.before.loop-p in
+    row_done g.first.now g.second.now g.s2 g.at g.out-1.now l.out-1 l.p l.invariant.1 l.invariant.2
+    c.loop-p-test.false
 
-pub put-row-spec : {M : Type 1} → statement M
-put-row-spec =
+pub put_row_spec : {M : Type 1} → statement M
+put_row_spec =
     tie.close
     (tie.spec invariant-loop decreases-loop loop-holds (λ c. search rules) cast-x mul-put-run mul-put-run-2 add-put-run
     put-run-requires (λ c. search rules) loop-less loop-again same_length returns)

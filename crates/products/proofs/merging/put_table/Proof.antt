@@ -14,28 +14,28 @@ use Rattle.products.proofs.merging.put_inner.Reads as put-inner-reads
 use Rattle.products.proofs.merging.put_leaves.Reads as put-leaves-reads
 use Rattle.products.proofs.merging.put_marks.Reads as put-marks-reads
 
-put-leaves-requires : tie.Need-put-leaves-requires
+put-leaves-requires : tie.Need-put_leaves-requires
 put-leaves-requires c κs =
     let s = c.before.before.before.before.before.before.before.before.before.before.before.before.before in
     let T = s.requires.tables in
-    let o = s.args.out.now in
+    let o = s.args.out-1.now in
     leaves-args _ _ _ _ _ _ s.requires _ _ _ (leaves-first _ _ _ _ _ T) (leaves-second _ _ _ _ _ T)
-    (length-1 _ _ _ _ _ _ s.requires _ o o o 0 c.before.before.before.before.before.put-head.ensures)
+    (length-1 _ _ _ _ _ _ s.requires _ o o o 0 c.before.before.before.before.before.put_head.ensures)
 
-put-inner-requires : tie.Need-put-inner-requires
+put-inner-requires : tie.Need-put_inner-requires
 put-inner-requires c κs =
     let x5 = c.before.before.before.before.before in
     let x11 = x5.before.before.before.before.before.before in
     let x14 = x11.before.before.before in
     let s = x14.before.before.before.before.before in
     let T = s.requires.tables in
-    let o = s.args.out.now in
+    let o = s.args.out-1.now in
     inner-args _ _ _ _ _ _ s.requires _ _ _ (inner_first _ _ _ _ _ T _ x14.before.inner_count.ensures.value)
-    (inner-second _ _ _ _ _ T _ x14.inner-count2.ensures.value)
-    (length-2 _ _ _ _ _ _ s.requires _ _ o o 0 x11.put-head.ensures _ _ (leaves-first _ _ _ _ _ T)
-    (leaves-second _ _ _ _ _ T) x5.put-leaves.ensures)
+    (inner-second _ _ _ _ _ T _ x14.inner_count-2.ensures.value)
+    (length-2 _ _ _ _ _ _ s.requires _ _ o o 0 x11.put_head.ensures _ _ (leaves-first _ _ _ _ _ T)
+    (leaves-second _ _ _ _ _ T) x5.put_leaves.ensures)
 
-put-marks-requires : tie.Need-put-marks-requires
+put-marks-requires : tie.Need-put_marks-requires
 put-marks-requires c κs =
     let x5 = c.before.before.before.before.before in
     let x11 = x5.before.before.before.before.before.before in
@@ -44,12 +44,12 @@ put-marks-requires c κs =
     let s = x19.before.before.before.before.before.before in
     let T = s.requires.tables in
     let m = x19.before.before.inner_count.ensures.value in
-    let n = x19.before.inner-count2.ensures.value in
-    marks-args _ _ _ _ _ _ s.requires _ _ x19.inner-count3.result _ (marks-first _ _ _ _ _ T _ m)
-    (marks-second _ _ _ _ _ T _ n) x19.inner-count3.ensures.value
-    (length-3 _ _ _ _ _ _ s.requires _ _ _ s.args.out.now 0 x17.put-head.ensures _ _ (leaves-first _ _ _ _ _ T)
-    (leaves-second _ _ _ _ _ T) x11.put-leaves.ensures _ _ (inner_first _ _ _ _ _ T _ m)
-    (inner-second _ _ _ _ _ T _ n) x5.put-inner.ensures)
+    let n = x19.before.inner_count-2.ensures.value in
+    marks-args _ _ _ _ _ _ s.requires _ _ x19.inner_count-3.result _ (marks-first _ _ _ _ _ T _ m)
+    (marks-second _ _ _ _ _ T _ n) x19.inner_count-3.ensures.value
+    (length-3 _ _ _ _ _ _ s.requires _ _ _ s.args.out-1.now 0 x17.put_head.ensures _ _ (leaves-first _ _ _ _ _ T)
+    (leaves-second _ _ _ _ _ T) x11.put_leaves.ensures _ _ (inner_first _ _ _ _ _ T _ m)
+    (inner-second _ _ _ _ _ T _ n) x5.put_inner.ensures)
 
 returns : tie.Need-returns
 returns c =
@@ -61,15 +61,15 @@ returns c =
     let s = x22.before.before.before.before.before.before in
     let T = s.requires.tables in
     let m = x22.before.before.inner_count.ensures.value in
-    let n = x22.before.inner-count2.ensures.value in
-    table-written _ _ _ _ _ _ s.requires _ _ _ _ x22.inner-count3.result x20.put-head.ensures _ _
-    (leaves-first _ _ _ _ _ T) (leaves-second _ _ _ _ _ T) x14.put-leaves.ensures _ _
-    (inner_first _ _ _ _ _ T _ m) (inner-second _ _ _ _ _ T _ n) x8.put-inner.ensures _ _
-    (marks-first _ _ _ _ _ T _ m) (marks-second _ _ _ _ _ T _ n) x22.inner-count3.ensures.value
-    x2.put-marks.ensures
+    let n = x22.before.inner_count-2.ensures.value in
+    table-written _ _ _ _ _ _ s.requires _ _ _ _ x22.inner_count-3.result x20.put_head.ensures _ _
+    (leaves-first _ _ _ _ _ T) (leaves-second _ _ _ _ _ T) x14.put_leaves.ensures _ _
+    (inner_first _ _ _ _ _ T _ m) (inner-second _ _ _ _ _ T _ n) x8.put_inner.ensures _ _
+    (marks-first _ _ _ _ _ T _ m) (marks-second _ _ _ _ _ T _ n) x22.inner_count-3.ensures.value
+    x2.put_marks.ensures
 
-pub put-table-spec : {M : Type 1} → statement M
-put-table-spec =
+pub put_table_spec : {M : Type 1} → statement M
+put_table_spec =
     tie.close
     (tie.spec (λ c. search rules) (λ c. search rules) (λ c κs. search rules) (λ c. search rules)
     (λ c κs. search rules) (λ c. search rules) (λ c κs. search rules) (λ c. search rules) (λ c κs. search rules)

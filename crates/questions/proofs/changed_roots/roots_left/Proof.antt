@@ -22,28 +22,28 @@ handed n plan b vs bs r R D F =
     (left-taken (take (12 + n - 12) (drop 12 plan)) vs bs r D
     ∙ ap (λ (ls : List ℕ). given_differing ls vs bs) (run-part plan 12 n)) F
 
-slice-aggregate-roots : tie.Need-slice-aggregate-roots
+slice-aggregate-roots : tie.Need-slice_bounds-roots-end
 slice-aggregate-roots c =
     let a = c.before.before.before.before.before.before.before.before in
-    sym (length-take-le (a.args.n * 4) a.args.node-table.now a.requires.numbers)
+    sym (length-take-le (a.args.n * 4) a.args.node_table.now a.requires.numbers)
 
-array-share-prefix-kept : tie.Need-array-share-prefix-kept
-array-share-prefix-kept c = left-wide _ _ _ _ c.before.before.differing.ensures
+array-share-prefix-kept : tie.Need-slice_bounds-kept-end
+array-share-prefix-kept c = left-wide _ _ _ _ c.before.before.differing-left.ensures
 
-slice-aggregate-roots-2 : tie.Need-slice-aggregate-roots-2
+slice-aggregate-roots-2 : tie.Need-slice_bounds-roots-end-2
 slice-aggregate-roots-2 c =
-    let r = c.before.before.before.differing in
+    let r = c.before.before.before.differing-left in
     sym (length-take-le r.result.count r.result.nodes (left-wide _ _ _ _ r.ensures))
 
 returns : tie.Need-returns
 returns c =
     let a = c.before.before.before.before.before.before.before.before.before.before.args in
-    let r = c.before.before.before.before.differing in
-    handed a.n a.plan.now (take (a.n * 4) a.node-table.now) a.nodes.now a.labels.now r.result
+    let r = c.before.before.before.before.differing-left in
+    handed a.n a.plan.now (take (a.n * 4) a.node_table.now) a.nodes.now a.labels.now r.result
     c.roots.result r.ensures c.roots.ensures
 
-pub roots-left-spec : {M : Type 1} → statement M
-roots-left-spec =
+pub roots_left_spec : {M : Type 1} → statement M
+roots_left_spec =
     tie.close
     (tie.spec (λ c. search rules) (λ c. search rules) (λ c. search rules) (λ c. search rules) (λ c κs. search rules)
     (λ c. search rules) slice-aggregate-roots array-share-prefix-kept slice-aggregate-roots-2 (λ c κs. search rules)

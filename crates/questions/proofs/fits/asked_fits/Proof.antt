@@ -4,31 +4,31 @@ use Rattle.questions.proofs.PartFits.{roots-short, roots-many, root-outside, lis
 use Rattle.questions.proofs.fits.asked_fits.Statement.{statement}
 use Rattle.questions.proofs.fits.asked_fits.Tie as tie
 
-returns : tie.Need-returns
-returns c = sym (roots-short _ _ _ _ _ c.if1.true)
+returns : tie.Need-returns-then-roots-i
+returns c = sym (roots-short _ _ _ _ _ c.if-roots-i.true)
 
-returns-2 : tie.Need-returns-2
-returns-2 c = sym (roots-many _ _ _ _ _ c.before.if1.false c.if2.true)
+returns-2 : tie.Need-returns-then-roots-gt-NODE_LIMIT
+returns-2 c = sym (roots-many _ _ _ _ _ c.before.if-roots-i.false c.if-roots-gt-NODE_LIMIT.true)
 
-cast-if3 : tie.Need-overflow-cast-if3
-cast-if3 c = omega (arith, c.shared-slice-known.given (length c.before.before.before.args.states.now))
+cast-if3 : tie.Need-overflow_cast-roots
+cast-if3 c = omega (arith, c.shared_slice_known-1.given (length c.before.before.before.args.states.now))
 
-returns-3 : tie.Need-returns-3
+returns-3 : tie.Need-returns-then-n-roots
 returns-3 c =
     let b = c.before.before in
-    sym (root-outside _ _ _ _ _ b.before.if1.false b.if2.false c.if3.true)
+    sym (root-outside _ _ _ _ _ b.before.if-roots-i.false b.if-roots-gt-NODE_LIMIT.false c.if-n-roots.true)
 
-returns-4 : tie.Need-returns-4
+returns-4 : tie.Need-returns-then-nodes-labels
 returns-4 c =
     let b = c.before.before.before in
-    sym (lists-apart _ _ _ _ _ b.before.if1.false b.if2.false c.before.if3.false c.if4.true)
+    sym (lists-apart _ _ _ _ _ b.before.if-roots-i.false b.if-roots-gt-NODE_LIMIT.false c.before.if-n-roots.false c.if-nodes-labels.true)
 
-returns-5 : tie.Need-returns-5
+returns-5 : tie.Need-returns
 returns-5 c =
     let b = c.before.before.before in
-    sym (asked-end _ _ _ _ _ b.before.if1.false b.if2.false c.before.if3.false c.if4.false)
+    sym (asked-end _ _ _ _ _ b.before.if-roots-i.false b.if-roots-gt-NODE_LIMIT.false c.before.if-n-roots.false c.if-nodes-labels.false)
 
-pub asked-fits-spec : {M : Type 1} → statement M
-asked-fits-spec =
+pub asked_fits_spec : {M : Type 1} → statement M
+asked_fits_spec =
     tie.close
     (tie.spec returns returns-2 (λ c. search rules) (λ c. search rules) cast-if3 returns-3 returns-4 returns-5)

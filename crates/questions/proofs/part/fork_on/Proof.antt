@@ -10,40 +10,40 @@ use Rattle.questions.proofs.part.fork_on.Tie as tie
 abbrev view : tie.Start → View
 view s =
     let g = s.args in
-    path_view g.n g.s g.k g.labels.now g.inner.now g.node-table.now g.state-table.now
+    path_view g.n g.s g.k g.labels.now g.inner.now g.node_table.now g.state_table.now
 
-add-to : tie.Need-overflow-add-to
+add-to : tie.Need-overflow_add-to
 add-to c =
     let k = c.before.before.before.before in
-    omega (arith, c.depth-at.ensures, k.shared-slice-known3.given (k.before.before.before.args.v * 4 + 2))
+    omega (arith, c.depth_at-to.ensures, k.shared_slice_known-3-1.given (k.before.before.before.args.v * 4 + 2))
 
-side-on-requires : tie.Need-side-on-requires
+side-on-requires : tie.Need-side_on-left-requires
 side-on-requires c κs =
     let s = c.before.before.before.before.before.before.before.before.before in
-    side-args _ _ _ _ _ _ _ _ _ _ c.before.last_below.result s.requires.path
+    side-args _ _ _ _ _ _ _ _ _ _ c.before.last_below-i.result s.requires.path
     (omega (arith, s.requires.left, s.requires.at)) s.requires.same
-    c.before.last_below.ensures
+    c.before.last_below-i.ensures
 
-side-on-requires-2 : tie.Need-side-on-requires-2
+side-on-requires-2 : tie.Need-side_on-right-requires
 side-on-requires-2 c κs =
     let j = c.before in
     let s = j.before.before.before.before.before.before.before.before.before in
-    side-args _ _ _ _ _ _ _ _ _ _ j.last-below2.result s.requires.path (omega (arith, s.requires.at)) s.requires.same
-    j.last-below2.ensures
+    side-args _ _ _ _ _ _ _ _ _ _ j.last_below-j.result s.requires.path (omega (arith, s.requires.at)) s.requires.same
+    j.last_below-j.ensures
 
-join-on-requires : tie.Need-join-on-requires
+join-on-requires : tie.Need-join_on-requires
 join-on-requires c κs =
     let s = c.before.before.before.before.before.before.before.before.before.before.before in
     let m = s.requires.path.most in
     let k = c.before.before.before.before.before.before.before.before in
-    let d : (v : ℕ) → depth_cell s.args.node-table.now v ≤ 65535 =
-    λ v. omega (arith, k.shared-slice-known3.given (v * 4 + 2)) in
+    let d : (v : ℕ) → depth_cell s.args.node_table.now v ≤ 65535 =
+    λ v. omega (arith, k.shared_slice_known-3-1.given (v * 4 + 2)) in
     record {
       few = s.requires.path.few;
       labels = s.requires.path.labels;
       room = s.requires.path.inner_room;
-      left_few = side-few (view s) _ _ _ _ c.before.side-on.result m d c.before.side-on.ensures;
-      right_few = side-few (view s) _ _ _ _ c.side-on2.result m d c.side-on2.ensures;
+      left_few = side-few (view s) _ _ _ _ c.before.side_on-left.result m d c.before.side_on-left.ensures;
+      right_few = side-few (view s) _ _ _ _ c.side_on-right.result m d c.side_on-right.ensures;
     }
 
 returns : tie.Need-returns
@@ -54,14 +54,14 @@ returns c =
     let i = j.before in
     let s = i.before.before.before.before.before.before.before.before in
     let g = s.args in
-    fork-answer (view s) g.earlier.now g.states.now g.v g.l g.a i.last_below.result
-    j.last-below2.result
-    (i.before.depth-at.result + 1) s.requires.same (ap (λ (d : ℕ). d + 1) i.before.depth-at.ensures)
-    i.last_below.ensures j.last-below2.ensures l.side-on.result r.side-on2.result c.join-on.result
-    l.side-on.ensures r.side-on2.ensures c.join-on.ensures
+    fork-answer (view s) g.earlier.now g.states.now g.v g.l g.a i.last_below-i.result
+    j.last_below-j.result
+    (i.before.depth_at-to.result + 1) s.requires.same (ap (λ (d : ℕ). d + 1) i.before.depth_at-to.ensures)
+    i.last_below-i.ensures j.last_below-j.ensures l.side_on-left.result r.side_on-right.result c.join_on.result
+    l.side_on-left.ensures r.side_on-right.ensures c.join_on.ensures
 
-pub fork-on-spec : {M : Type 1} → statement M
-fork-on-spec =
+pub fork_on_spec : {M : Type 1} → statement M
+fork_on_spec =
     tie.close
     (tie.spec (λ c κs. search rules) add-to (λ c κs. search rules) (λ c. search rules) (λ c κs. search rules)
     side-on-requires (λ c. search rules) side-on-requires-2 join-on-requires returns)

@@ -17,24 +17,24 @@ same-join : (X : View) (a : ℕ) (x y l r : Option Reached) → l ≡ x → r �
     → climbed_of (join_on X a x y) ≡ climbed_of (join_on X a l r)
 same-join X a x y l r e f = ap₂ (λ (i j : Option Reached). climbed_of (join_on X a i j)) (sym e) (sym f)
 
-left_is : (l : tie.After-left) → reached_in l.before.before.before.args.left
-    ≡ some l.left.given.0.0
-left_is l = ap reached_in l.left.given.1
+left_is : (l : tie.In-Reached-2) → reached_in l.before.before.before.args.left-1
+    ≡ some l.left-1.given.0.0
+left_is l = ap reached_in l.left-1.given.1
 
-right_is : (r : tie.After-right) → reached_in r.before.before.before.before.before.before.args.right
-    ≡ some r.right.given.0.0
-right_is r = ap reached_in r.right.given.1
+right_is : (r : tie.In-Reached-right-2) → reached_in r.before.before.before.before.before.before.args.right-1
+    ≡ some r.right-1.given.0.0
+right_is r = ap reached_in r.right-1.given.1
 
-left_few : (l : tie.After-left)
-    → Few l.before.before.before.args.s l.left.given.0.0
+left_few : (l : tie.In-Reached-2)
+    → Few l.before.before.before.args.s l.left-1.given.0.0
 left_few l = l.before.before.before.requires.left_few _ (left_is l)
 
-right_few : (r : tie.After-right)
+right_few : (r : tie.In-Reached-right-2)
     → Few r.before.before.before.before.before.before.args.s
-    r.right.given.0.0
+    r.right-1.given.0.0
 right_few r = r.before.before.before.before.before.before.requires.right_few _ (right_is r)
 
-rule-on-requires : tie.Need-rule-on-requires
+rule-on-requires : tie.Need-rule_on-r-requires
 rule-on-requires c κs =
     let r = c.before.before.before in
     let l = r.before.before.before in
@@ -47,52 +47,52 @@ rule-on-requires c κs =
       room = s.requires.room;
     }
 
-returns : tie.Need-returns
+returns : tie.Need-returns-then-s-r
 returns c =
     let r = c.before in
     let q = r.before.before.before.before in
     let l = q.before.before.before in
     let s = l.before.before.before in
-    join-lost (view s) s.args.a _ _ r.rule-on.result r.rule-on.ensures c.if1.true
+    join-lost (view s) s.args.a _ _ r.rule_on-r.result r.rule_on-r.ensures c.if-s-r.true
     ∙ same-join (view s) s.args.a _ _ _ _ (left_is l) (right_is q)
 
-add-t16 : tie.Need-overflow-add-t16
+add-t16 : tie.Need-overflow_add-result
 add-t16 c =
     let e = c.before.before in
     let r = e.before.before.before.before.before in
     omega (arith, left_few r.before.before.before, right_few r)
 
-add-t17 : tie.Need-overflow-add-t17
+add-t17 : tie.Need-overflow_add-result-in-Reached-right
 add-t17 c =
     let e = c.before.before.before.before in
     let r = e.before.before.before.before.before in
     omega (arith, left_few r.before.before.before, right_few r)
 
-returns-2 : tie.Need-returns-2
+returns-2 : tie.Need-returns-else-s-r
 returns-2 c =
     let e = c.before.before.before.before in
     let r = e.before in
     let q = r.before.before.before.before in
     let l = q.before.before.before in
     let s = l.before.before.before in
-    join-made (view s) s.args.a _ _ r.rule-on.result r.rule-on.ensures e.if1.false
+    join-made (view s) s.args.a _ _ r.rule_on-r.result r.rule_on-r.ensures e.if-s-r.false
     ∙ same-join (view s) s.args.a _ _ _ _ (left_is l) (right_is q)
 
-returns-3 : tie.Need-returns-3
+returns-3 : tie.Need-returns-in-OutOfRange-right
 returns-3 c =
     let l = c.before.before.before in
     let s = l.before.before.before in
     join-right (view s) s.args.a _
-    ∙ same-join (view s) s.args.a _ _ _ _ (left_is l) (ap reached_in c.enum_told.given.1)
+    ∙ same-join (view s) s.args.a _ _ _ _ (left_is l) (ap reached_in c.enum_told-1.given.1)
 
-returns-4 : tie.Need-returns-4
+returns-4 : tie.Need-returns-in-OutOfRange
 returns-4 c =
     let s = c.before.before.before in
-    join-left (view s) s.args.a (reached_in s.args.right)
-    ∙ same-join (view s) s.args.a _ _ _ _ (ap reached_in c.enum-told2.given.1) refl
+    join-left (view s) s.args.a (reached_in s.args.right-1)
+    ∙ same-join (view s) s.args.a _ _ _ _ (ap reached_in c.enum_told-in-OutOfRange-1.given.1) refl
 
-pub join-on-spec : {M : Type 1} → statement M
-join-on-spec =
+pub join_on_spec : {M : Type 1} → statement M
+join_on_spec =
     tie.close
     (tie.spec (λ c. search rules) (λ c. search rules) (λ c. search rules) (λ c. search rules) rule-on-requires returns
     (λ c. search rules) add-t16 add-t17 (λ c. search rules) (λ c. search rules) returns-2 returns-3 returns-4)

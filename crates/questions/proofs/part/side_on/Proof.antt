@@ -10,73 +10,73 @@ use Rattle.questions.proofs.part.side_on.Tie as tie
 abbrev view : tie.Start → View
 view s =
     let g = s.args in
-    path_view g.n g.s g.k g.labels.now g.inner.now g.node-table.now g.state-table.now
+    path_view g.n g.s g.k g.labels.now g.inner.now g.node_table.now g.state_table.now
 
-run-on-requires : tie.Need-run-on-requires
+run-on-requires : tie.Need-run_on-requires
 run-on-requires c κs =
     let s = c.before.before.before.before.before.before.before in
     let g = s.args in
     record {
       few = s.requires.path.few;
-      at = state-place g.n g.s g.c (length g.state-table.now) s.requires.at s.requires.path.state_table_room;
+      at = state-place g.n g.s g.c (length g.state_table.now) s.requires.at s.requires.path.state_table_room;
     }
 
-returns : tie.Need-returns
+returns : tie.Need-returns-then-own-eq0
 returns c =
     let r = c.before in
     let s = r.before.before.before.before.before.before.before.before in
     let g = s.args in
-    c.handled-state.ensures
+    c.handled_state.ensures
     ∙ ap climbed_of (side-run (view s) g.to g.c g.earlier.now g.states.now g.own g.other
-    r.run_on.result r.run_on.ensures r.before.if1.true)
+    r.run_on.result r.run_on.ensures r.before.if-own-eq0.true)
 
-cast-q : tie.Need-overflow-cast-q
+cast-q : tie.Need-overflow_cast-q
 cast-q c =
     let g = c.before.before.before.before.before.before.before.before.args in
-    omega (arith, c.shared-slice-known7.given (g.own - 1))
+    omega (arith, c.shared_slice_known-7-1.given (g.own - 1))
 
-returns-2 : tie.Need-returns-2
+returns-2 : tie.Need-returns-then-other-ne0
 returns-2 c =
     let e = c.before.before.before in
     let s = e.before.before.before.before.before.before.before in
     let g = s.args in
-    c.handled-state2.ensures
+    c.handled_state-then-other-ne0.ensures
     ∙ ap climbed_of (side-own (view s) g.to g.c g.earlier.now g.states.now g.own g.other
-    e.if1.false c.before.if2.true)
+    e.if-own-eq0.false c.before.if-other-ne0.true)
 
-returns-3 : tie.Need-returns-3
+returns-3 : tie.Need-returns-then-s-q
 returns-3 c =
     let e = c.before.before.before in
     let s = e.before.before.before.before.before.before.before in
     let g = s.args in
     side-lost (view s) g.to g.c g.earlier.now g.states.now g.own g.other
-    e.if1.false c.before.if2.false c.if3.true
+    e.if-own-eq0.false c.before.if-other-ne0.false c.if-s-q.true
 
-cast-climb-state : tie.Need-overflow-cast-climb-state
+cast-climb-state : tie.Need-overflow_cast-earlier
 cast-climb-state c =
     let g = c.before.before.before.before.before.before.before.before.before.before.before.args in
-    omega (arith, c.shared-slice-known8.given (g.own - 1))
+    omega (arith, c.shared_slice_known-8-1.given (g.own - 1))
 
-climb-state-requires : tie.Need-climb-state-requires
+climb-state-requires : tie.Need-climb_state-requires
 climb-state-requires c κs =
     let e = c.before.before.before.before in
     let s = e.before.before.before.before.before.before.before in
     let g = s.args in
-    let z : ¬ (g.own ≡ 0) = e.if1.false in
+    let z : ¬ (g.own ≡ 0) = e.if-own-eq0.false in
     let h : g.own ≡ g.own - 1 + 1 = omega arith in
-    record { path = s.requires.path; at = s.requires.inside (g.own - 1) h; state = c.before.if3.false }
+    record { path = s.requires.path; at = s.requires.inside (g.own - 1) h; state = c.before.if-s-q.false }
 
-returns-4 : tie.Need-returns-4
+returns-4 : tie.Need-returns
 returns-4 c =
     let e = c.before.before.before.before.before in
     let s = e.before.before.before.before.before.before.before in
     let g = s.args in
-    c.climb-state.ensures
+    c.climb_state.ensures
     ∙ ap climbed_of (side-climb (view s) g.to g.c g.earlier.now g.states.now g.own g.other
-    e.if1.false c.before.before.before.if2.false c.before.before.if3.false)
+    e.if-own-eq0.false c.before.before.before.if-other-ne0.false c.before.before.if-s-q.false)
 
-pub side-on-spec : {M : Type 1} → statement M
-side-on-spec =
+pub side_on_spec : {M : Type 1} → statement M
+side_on_spec =
     tie.close
     (tie.spec run-on-requires (λ c κs. search rules) returns (λ c. search rules) (λ c. search rules) cast-q
     (λ c κs. search rules) returns-2 returns-3 (λ c. search rules) (λ c. search rules) (λ c. search rules)

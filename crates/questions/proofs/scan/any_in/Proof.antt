@@ -5,34 +5,34 @@ use Rattle.questions.proofs.ScanLaws.{any_step, any-end}
 use Rattle.questions.proofs.scan.any_in.Statement.{statement}
 use Rattle.questions.proofs.scan.any_in.Tie as tie
 
-abbrev invariant-loop : tie.invariant-loop
+abbrev invariant-loop : tie.invariant-loop-i
 invariant-loop list c z any₀ i₀ any i = (i ≤ length list) × ((any || any_in c z (drop i list)) ≡ any_in c z list)
 
-abbrev decreases-loop : tie.decreases-loop
+abbrev decreases-loop : tie.decreases-loop-i
 decreases-loop list c z any₀ i₀ any i = length list - i
 
-loop-holds : tie.Need-loop-init invariant-loop decreases-loop
+loop-holds : tie.Need-loop-i-init invariant-loop decreases-loop
 loop-holds c = (omega arith, refl)
 
-loop-again : tie.Need-loop-preserved invariant-loop decreases-loop
+loop-again : tie.Need-loop-i-preserved invariant-loop decreases-loop
 loop-again c =
     let a = c.before.before.before in
     let g = a.before.before.args in (
-      omega (arith, c.before.before.loop-test.true),
-      ap (λ (b : Bool). a.loop.any || b || any_in g.c g.z (drop (a.loop.i + 1) g.list.now))
-          c.is-in-run.ensures
-          ∙ any_step g.c g.z a.loop.any g.list.now a.loop.i c.before.before.loop-test.true
-          ∙ a.loop.invariant.1,
+      omega (arith, c.before.before.loop-i-test.true),
+      ap (λ (b : Bool). a.loop-i.any || b || any_in g.c g.z (drop (a.loop-i.i + 1) g.list.now))
+          c.is_in_run-any.ensures
+          ∙ any_step g.c g.z a.loop-i.any g.list.now a.loop-i.i c.before.before.loop-i-test.true
+          ∙ a.loop-i.invariant.1,
     )
 
 returns : tie.Need-returns invariant-loop decreases-loop
 returns c =
     let a = c.before in
     let g = a.before.before.args in
-    sym (any-end g.c g.z a.loop.any g.list.now a.loop.i c.loop-test.false) ∙ a.loop.invariant.1
+    sym (any-end g.c g.z a.loop-i.any g.list.now a.loop-i.i c.loop-i-test.false) ∙ a.loop-i.invariant.1
 
-pub any-in-spec : {M : Type 1} → statement M
-any-in-spec =
+pub any_in_spec : {M : Type 1} → statement M
+any_in_spec =
     tie.close
     (tie.spec invariant-loop decreases-loop loop-holds (λ c. search rules) (λ c. search rules) (λ c κs. search rules)
     (λ c. search rules) (λ c. search rules) loop-again returns)

@@ -7,10 +7,10 @@ use Rattle.questions.proofs.scan.is_in_run.Tie as tie
 returns : tie.Need-returns
 returns c =
     let g = c.before.before.args in
-    covers-by-distance g.c g.z g.e c.wrapping-sub-u16.result c.before.first-in-run.result
-    c.before.before.requires c.before.first-in-run.ensures c.wrapping-sub-u16.ensures (omega arith)
+    covers-by-distance g.c g.z g.e c.wrapping_sub_u16-distance.result c.before.first_in_run-first.result
+    c.before.before.requires c.before.first_in_run-first.ensures c.wrapping_sub_u16-distance.ensures (omega arith)
     (omega arith)
 
-pub is-in-run-spec : {M : Type 1} → statement M
-is-in-run-spec =
+pub is_in_run_spec : {M : Type 1} → statement M
+is_in_run_spec =
     tie.close (tie.spec (λ c κs. search rules) (λ c κs. search rules) (λ c. search rules) returns)

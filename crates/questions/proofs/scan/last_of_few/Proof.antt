@@ -5,44 +5,44 @@ use Rattle.questions.proofs.ScanLaws.{whole, last-hit, last-miss}
 use Rattle.questions.proofs.scan.last_of_few.Statement.{statement}
 use Rattle.questions.proofs.scan.last_of_few.Tie as tie
 
-abbrev invariant-loop : tie.invariant-loop
+abbrev invariant-loop : tie.invariant-loop-i
 invariant-loop list c z i₀ i = Shortened c z list i
 
-abbrev decreases-loop : tie.decreases-loop
+abbrev decreases-loop : tie.decreases-loop-i
 decreases-loop list c z i₀ i = i
 
-loop-holds : tie.Need-loop-init invariant-loop decreases-loop
+loop-holds : tie.Need-loop-i-init invariant-loop decreases-loop
 loop-holds c = whole c.before.args.c c.before.args.z c.before.args.list.now
 
-returns : tie.Need-returns invariant-loop decreases-loop
+returns : tie.Need-returns-then-is_in_run invariant-loop decreases-loop
 returns c =
     let a = c.before.before.before.before in
     let g = a.before.before.args in
-    last-hit g.c g.z g.list.now a.loop.i (omega (arith, c.before.before.before.loop-test.true))
-    a.loop.invariant.within (sym c.before.is-in-run.ensures ∙ c.if1.true) ∙ a.loop.invariant.place
+    last-hit g.c g.z g.list.now a.loop-i.i (omega (arith, c.before.before.before.loop-i-test.true))
+    a.loop-i.invariant.within (sym c.before.is_in_run.ensures ∙ c.if-is_in_run.true) ∙ a.loop-i.invariant.place
 
-loop-again : tie.Need-loop-preserved invariant-loop decreases-loop
+loop-again : tie.Need-loop-i-preserved invariant-loop decreases-loop
 loop-again c =
     let a = c.before.before.before.before in
     let g = a.before.before.args in
     record {
-      within = omega (arith, a.loop.invariant.within);
+      within = omega (arith, a.loop-i.invariant.within);
       place =
-          last-miss g.c g.z g.list.now a.loop.i
-          (omega (arith, c.before.before.before.loop-test.true))
-          a.loop.invariant.within (sym c.before.is-in-run.ensures ∙ c.if1.false) ∙ a.loop.invariant.place;
+          last-miss g.c g.z g.list.now a.loop-i.i
+          (omega (arith, c.before.before.before.loop-i-test.true))
+          a.loop-i.invariant.within (sym c.before.is_in_run.ensures ∙ c.if-is_in_run.false) ∙ a.loop-i.invariant.place;
     }
 
-returns-2 : tie.Need-returns-2 invariant-loop decreases-loop
+returns-2 : tie.Need-returns invariant-loop decreases-loop
 unfolding last_from
 returns-2 c =
     let a = c.before in
     let g = a.before.before.args in
-    let z : a.loop.i ≡ 0 = omega (arith, c.loop-test.false) in
-    ap (λ (n : ℕ). last_in g.c g.z (take n g.list.now)) (sym z) ∙ a.loop.invariant.place
+    let z : a.loop-i.i ≡ 0 = omega (arith, c.loop-i-test.false) in
+    ap (λ (n : ℕ). last_in g.c g.z (take n g.list.now)) (sym z) ∙ a.loop-i.invariant.place
 
-pub last-of-few-spec : {M : Type 1} → statement M
-last-of-few-spec =
+pub last_of_few_spec : {M : Type 1} → statement M
+last_of_few_spec =
     tie.close
     (tie.spec invariant-loop decreases-loop loop-holds (λ c. search rules) (λ c. search rules) (λ c. search rules)
     (λ c κs. search rules) returns (λ c. search rules) (λ c. search rules) loop-again returns-2)

@@ -5,30 +5,30 @@ use Rattle.questions.proofs.ScanLaws.{whole, last-cut}
 use Rattle.questions.proofs.scan.without_eights.Statement.{statement}
 use Rattle.questions.proofs.scan.without_eights.Tie as tie
 
-abbrev invariant-loop : tie.invariant-loop
+abbrev invariant-loop : tie.invariant-loop-i
 invariant-loop list c z i₀ i = Shortened c z list i
 
-abbrev decreases-loop : tie.decreases-loop
+abbrev decreases-loop : tie.decreases-loop-i
 decreases-loop list c z i₀ i = i
 
-loop-holds : tie.Need-loop-init invariant-loop decreases-loop
+loop-holds : tie.Need-loop-i-init invariant-loop decreases-loop
 loop-holds c = whole c.before.args.c c.before.args.z c.before.args.list.now
 
-loop-again : tie.Need-loop-preserved invariant-loop decreases-loop
+loop-again : tie.Need-loop-i-preserved invariant-loop decreases-loop
 loop-again c =
     let a = c.before.before.before.before in
     let g = a.before.before.args in
-    let i = a.loop.i in
-    let e : i - 8 + (i - (i - 8)) ≡ i = omega (arith, c.before.before.before.loop-test.true) in
+    let i = a.loop-i.i in
+    let e : i - 8 + (i - (i - 8)) ≡ i = omega (arith, c.before.before.before.loop-i-test.true) in
     record {
-      within = omega (arith, a.loop.invariant.within);
+      within = omega (arith, a.loop-i.invariant.within);
       place =
-          last-cut g.c g.z g.list.now (i - 8) (i - (i - 8)) (sym c.before.any-in.ensures ∙ c.if1.false)
-          ∙ ap (λ (n : ℕ). last_in g.c g.z (take n g.list.now)) e ∙ a.loop.invariant.place;
+          last-cut g.c g.z g.list.now (i - 8) (i - (i - 8)) (sym c.before.any_in.ensures ∙ c.if-any_in.false)
+          ∙ ap (λ (n : ℕ). last_in g.c g.z (take n g.list.now)) e ∙ a.loop-i.invariant.place;
     }
 
-pub without-eights-spec : {M : Type 1} → statement M
-without-eights-spec =
+pub without_eights_spec : {M : Type 1} → statement M
+without_eights_spec =
     tie.close
     (tie.spec invariant-loop decreases-loop loop-holds (λ c. search rules) (λ c. search rules) (λ c. search rules)
     (λ c. search rules) (λ c κs. search rules) (λ c. search rules) (λ c. search rules) loop-again

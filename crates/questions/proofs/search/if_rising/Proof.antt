@@ -5,25 +5,25 @@ use Rattle.questions.proofs.MeetCases.{rising-outside, rising-flat, rising-up}
 use Rattle.questions.proofs.search.if_rising.Statement.{statement}
 use Rattle.questions.proofs.search.if_rising.Tie as tie
 
-returns : tie.Need-returns
+returns : tie.Need-returns-then-n-u
 returns c =
     let a = c.before.before.args in
-    rising-outside (cell_forest a.n a.node-table.now) a.v a.u c.if1.true
+    rising-outside (cell_forest a.n a.node_table.now) a.v a.u c.if-n-u.true
 
-returns-2 : tie.Need-returns-2
+returns-2 : tie.Need-returns-then-depth_at
 returns-2 c =
     let d = c.before.before in
     let a = d.before.before.before.args in
-    rising-flat (cell_forest a.n a.node-table.now) a.v a.u d.before.if1.false
-    (omega (arith, c.before.depth-at2.ensures, d.depth-at.ensures, c.if2.true))
+    rising-flat (cell_forest a.n a.node_table.now) a.v a.u d.before.if-n-u.false
+    (omega (arith, c.before.depth_at-2.ensures, d.depth_at.ensures, c.if-depth_at.true))
 
-returns-3 : tie.Need-returns-3
+returns-3 : tie.Need-returns
 returns-3 c =
     let d = c.before.before in
     let a = d.before.before.before.args in
-    rising-up (cell_forest a.n a.node-table.now) a.v a.u d.before.if1.false
-    (omega (arith, c.before.depth-at2.ensures, d.depth-at.ensures, c.if2.false))
+    rising-up (cell_forest a.n a.node_table.now) a.v a.u d.before.if-n-u.false
+    (omega (arith, c.before.depth_at-2.ensures, d.depth_at.ensures, c.if-depth_at.false))
 
-pub if-rising-spec : {M : Type 1} → statement M
-if-rising-spec =
+pub if_rising_spec : {M : Type 1} → statement M
+if_rising_spec =
     tie.close (tie.spec returns (λ c κs. search rules) (λ c κs. search rules) returns-2 returns-3)

@@ -11,11 +11,11 @@ returns c =
     let r₂ = r₃.before.before.before.before in
     let r₁ = r₂.before.before.before.before in
     let s = r₁.before.before.before.before in
-    record-read s.args.bytes.now _ _ _ _ _ c.decode-head.ensures
-    r₁.get-numbers.ensures r₂.copy-bytes.ensures r₃.get-numbers2.ensures r₄.copy-bytes2.ensures
+    record-read s.args.bytes.now _ _ _ _ _ c.decode_head-head.ensures
+    r₁.get_numbers.ensures r₂.copy_bytes.ensures r₃.get_numbers-2.ensures r₄.copy_bytes-2.ensures
 
-pub decode-spec : {M : Type 1} → statement M
-decode-spec =
+pub decode_spec : {M : Type 1} → statement M
+decode_spec =
     tie.close
     (tie.spec (λ c. search rules) (λ c. search rules) (λ c. search rules) (λ c. search rules) (λ c κs. search rules)
     (λ c. search rules) (λ c. search rules) (λ c. search rules) (λ c. search rules) (λ c κs. search rules)

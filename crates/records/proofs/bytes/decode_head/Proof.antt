@@ -10,12 +10,12 @@ returns c =
     let m = d.before in
     let p = m.before.before.before.before.before in
     let n = p.before.before.before.before in
-    head_read n.before.before.args.bytes.now p.phase-at.result n.number16.result m.number32.result
-    d.number322.result c.decode-last.result p.phase-at.ensures n.number16.ensures m.number32.ensures
-    d.number322.ensures c.decode-last.ensures
+    head_read n.before.before.args.bytes.now p.phase_at.result n.number16.result m.number32.result
+    d.number32-2.result c.decode_last.result p.phase_at.ensures n.number16.ensures m.number32.ensures
+    d.number32-2.ensures c.decode_last.ensures
 
-pub decode-head-spec : {M : Type 1} → statement M
-decode-head-spec =
+pub decode_head_spec : {M : Type 1} → statement M
+decode_head_spec =
     tie.close
     (tie.spec (λ c κs. search rules) (λ c. search rules) (λ c. search rules) (λ c. search rules)
     (λ c κs. search rules) (λ c. search rules) (λ c. search rules) (λ c. search rules) (λ c. search rules)

@@ -8,11 +8,11 @@ returns : tie.Need-returns
 returns c =
     let d = c.before in
     let n = d.before in
-    last-read n.before.before.before.before.before.args.bytes.now n.number32.result d.number322.result
-    n.number32.ensures d.number322.ensures
+    last-read n.before.before.before.before.before.args.bytes.now n.number32.result d.number32-2.result
+    n.number32.ensures d.number32-2.ensures
 
-pub decode-last-spec : {M : Type 1} → statement M
-decode-last-spec =
+pub decode_last_spec : {M : Type 1} → statement M
+decode_last_spec =
     tie.close
     (tie.spec (λ c. search rules) (λ c. search rules) (λ c. search rules) (λ c κs. search rules)
     (λ c κs. search rules) (λ c. search rules) returns)

@@ -9,26 +9,26 @@ use borrow.Author.Rules.{rules}
 use Rattle.records.proofs.bytes.encode_step.Statement.{statement}
 use Rattle.records.proofs.bytes.encode_step.Tie as tie
 
-returns : tie.Need-returns
-returns c = step_other c.before.before.args.out.now _ c.if1.true
+returns : tie.Need-returns-then-out-ne-RECORD_BYTES
+returns c = step_other c.before.before.args.out-1.now _ c.if-out-ne-RECORD_BYTES.true
 
-slice-aggregate-put-head : tie.Need-slice-aggregate-put-head
-slice-aggregate-put-head c = sym (length-take-le 13 c.before.before.before.args.out.now (omega arith))
+slice-aggregate-put-head : tie.Need-slice_bounds-put_head-end-2
+slice-aggregate-put-head c = sym (length-take-le 13 c.before.before.before.args.out-1.now (omega arith))
 
-put-head-requires : tie.Need-put-head-requires
-put-head-requires c κs = length-take-le 13 c.before.before.before.args.out.now (omega arith)
+put-head-requires : tie.Need-put_head-requires
+put-head-requires c κs = length-take-le 13 c.before.before.before.args.out-1.now (omega arith)
 
-returns-2 : tie.Need-returns-2
+returns-2 : tie.Need-returns
 returns-2 c =
     let p₃ = c.before.before in
     let p₂ = p₃.before.before.before.before in
     let p₁ = p₂.before.before.before.before in
     let a = p₁.before.before.before.before in
-    step-done a.args.out.now a.args.h a.args.at a.args.state _ _ _ (omega arith)
-    p₁.put-head.ensures p₂.put-state.ensures p₃.put_last.ensures
+    step-done a.args.out-1.now a.args.h a.args.at a.args.state _ _ _ (omega arith)
+    p₁.put_head.ensures p₂.put_state.ensures p₃.put_last.ensures
 
-pub encode-step-spec : {M : Type 1} → statement M
-encode-step-spec =
+pub encode_step_spec : {M : Type 1} → statement M
+encode_step_spec =
     tie.close
     (tie.spec returns (λ c. search rules) slice-aggregate-put-head put-head-requires (λ c. search rules)
     (λ c. search rules) (λ c. search rules) (λ c κs. search rules) (λ c. search rules) (λ c. search rules)

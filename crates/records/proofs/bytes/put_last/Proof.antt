@@ -6,7 +6,7 @@ use borrow.Author.Rules.{rules}
 use Rattle.records.proofs.bytes.put_last.Statement.{statement}
 use Rattle.records.proofs.bytes.put_last.Tie as tie
 
-same_length : tie.Need-same-length
+same_length : tie.Need-shape_of-out
 same_length c = simp length-set
 
 returns : tie.Need-returns
@@ -14,10 +14,10 @@ returns c =
     let y = c.before.before.before.before.before.before.before.before.before.before.before.before in
     let f = y.before in
     let s = f.before.before.before in
-    last_written s.args.out.now s.args.h _ _ s.requires f.yes-byte.ensures y.yes-byte2.ensures
+    last_written s.args.out.now s.args.h _ _ s.requires f.yes_byte.ensures y.yes_byte-2.ensures
 
-pub put-last-spec : {M : Type 1} → statement M
-put-last-spec =
+pub put_last_spec : {M : Type 1} → statement M
+put_last_spec =
     tie.close
     (tie.spec (λ c κs. search rules) (λ c. search rules) (λ c. simp length-set (omega arith)) (λ c κs. search rules)
     (λ c. simp length-set (omega arith)) (λ c. simp length-set (omega arith)) (λ c. search rules)

@@ -8,21 +8,21 @@ use Rattle.records.proofs.bytes.decode.Reads as decode-reads
 use Rattle.records.proofs.bytes.laid_out.Reads as laid-out-reads
 use Rattle.session.proofs.state.Session.valid.Reads as valid-reads
 
-returns : tie.Need-returns
-returns c = valid-not c.before.before.before.args.bytes.now _ c.before.laid_out.ensures c.if1.true
+returns : tie.Need-returns-then-not-laid_out
+returns c = valid-not c.before.before.before.args.bytes.now _ c.before.laid_out.ensures c.if-not-laid_out.true-raw
 
 decode-requires : tie.Need-decode-requires
 decode-requires c κs =
-    valid-laid c.before.before.before.args.bytes.now _ c.before.laid_out.ensures c.if1.false
+    valid-laid c.before.before.before.args.bytes.now _ c.before.laid_out.ensures c.if-not-laid_out.false-raw
 
-returns-2 : tie.Need-returns-2
+returns-2 : tie.Need-returns
 returns-2 c =
     let d = c.before in
     let i = d.before in
     let l = i.before in
-    valid-test l.before.before.args.bytes.now _ _ _ l.laid_out.ensures i.if1.false d.decode.ensures
+    valid-test l.before.before.args.bytes.now _ _ _ l.laid_out.ensures i.if-not-laid_out.false-raw d.decode.ensures
     c.valid.ensures
 
-pub valid-bytes-spec : {M : Type 1} → statement M
-valid-bytes-spec =
+pub valid_bytes_spec : {M : Type 1} → statement M
+valid_bytes_spec =
     tie.close (tie.spec (λ c κs. search rules) returns decode-requires (λ c κs. search rules) returns-2)

@@ -12,20 +12,20 @@ use Rattle.records.proofs.numbers.get_numbers.Reads as reads
 use Rattle.records.proofs.numbers.get_numbers.Lts as lts
 use Rattle.records.proofs.numbers.number16.Reads as number16-reads
 
-abbrev invariant-loop : tie.invariant-loop
+abbrev invariant-loop : tie.invariant-loop-i
 invariant-loop bytes out₀ i₀ out i =
     (i ≤ length out₀) × (length out ≡ length out₀) × (out ≡ numbers16 (take (2 * i) bytes) ++ drop i out₀)
 
-abbrev decreases-loop : tie.decreases-loop
+abbrev decreases-loop : tie.decreases-loop-i
 decreases-loop bytes out₀ i₀ out i = length out₀ - i
 
-loop-holds : tie.Need-loop-init invariant-loop decreases-loop
+loop-holds : tie.Need-loop-i-init invariant-loop decreases-loop
 unfolding numbers16
 loop-holds c = (search rules, refl, refl)
 
-loop-again : tie.Need-loop-preserved invariant-loop decreases-loop
+loop-again : tie.Need-loop-i-preserved invariant-loop decreases-loop
 loop-again c =
-    let l = c.before.before.loop in
+    let l = c.before.before.loop-i in
     let a = c.before.before.before.before.before.args in (
       search rules,
       simp length-set (omega arith),
@@ -35,12 +35,12 @@ loop-again c =
 
 returns : tie.Need-returns invariant-loop decreases-loop
 returns c =
-    let l = c.before.loop in
+    let l = c.before.loop-i in
     let a = c.before.before.before.before.args in
     get-end a.bytes.now a.out.now l.out l.i (omega arith) (omega arith) l.invariant.2
 
-pub get-numbers-spec : {M : Type 1} → statement M
-get-numbers-spec =
+pub get_numbers_spec : {M : Type 1} → statement M
+get_numbers_spec =
     tie.close
     (tie.spec invariant-loop decreases-loop loop-holds (λ c. search rules) (λ c κs. search rules) (λ c. search rules)
     (λ c. search rules) (λ c. search rules) (λ c. search rules) loop-again (λ c. search rules) returns)

@@ -7,12 +7,12 @@ use Rattle.records.proofs.numbers.number32.Reads as reads
 use Rattle.records.proofs.numbers.number32.Lts as lts
 use Rattle.formats.proofs.bytes.read32.Reads as read32-reads
 
-cast-result : tie.Need-overflow-cast-result
+cast-result : tie.Need-overflow_cast-result
 cast-result c =
     let b = c.before.before in
-    let g = c.before.shared-slice-known.given in
+    let g = c.before.shared_slice_known-1.given in
     let i = b.args.at in
     record { fits = omega (arith, g i, g (i + 1), g (i + 2), g (i + 3)) }
 
-pub number32-spec : {M : Type 1} → statement M
-number32-spec = tie.close (tie.spec (λ c κs. search rules) cast-result (λ c. search rules))
+pub number32_spec : {M : Type 1} → statement M
+number32_spec = tie.close (tie.spec (λ c κs. search rules) cast-result (λ c. search rules))

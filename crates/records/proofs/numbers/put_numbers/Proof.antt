@@ -11,28 +11,28 @@ use Rattle.records.proofs.numbers.put_numbers.Tie as tie
 use Rattle.records.proofs.numbers.put_numbers.Reads as reads
 use Rattle.records.proofs.numbers.put_numbers.Lts as lts
 
-abbrev invariant-loop : tie.invariant-loop
+abbrev invariant-loop : tie.invariant-loop-i
 invariant-loop numbers out₀ i₀ out i =
     (i ≤ length numbers) × (length out ≡ length out₀) × (out ≡ bytes16 (take i numbers) ++ drop (2 * i) out₀)
 
-abbrev decreases-loop : tie.decreases-loop
+abbrev decreases-loop : tie.decreases-loop-i
 decreases-loop numbers out₀ i₀ out i = length numbers - i
 
-loop-holds : tie.Need-loop-init invariant-loop decreases-loop
+loop-holds : tie.Need-loop-i-init invariant-loop decreases-loop
 unfolding bytes16
 loop-holds c = (search rules, refl, refl)
 
-cast-out-2 : tie.Need-overflow-cast-out-2 invariant-loop decreases-loop
-cast-out-2 c = record { fits = omega (arith, c.shared-slice-known2.given c.before.before.before.loop.i) }
+cast-out-2 : tie.Need-overflow_cast-out-in-loop-i invariant-loop decreases-loop
+cast-out-2 c = record { fits = omega (arith, c.shared_slice_known-in-loop-i-1.given c.before.before.before.loop-i.i) }
 
-slice-write-out-2 : tie.Need-slice-write-out-2 invariant-loop decreases-loop
+slice-write-out-2 : tie.Need-bounds-out-i-in-loop-i invariant-loop decreases-loop
 slice-write-out-2 c = simp length-set (omega arith)
 
-loop-again : tie.Need-loop-preserved invariant-loop decreases-loop
+loop-again : tie.Need-loop-i-preserved invariant-loop decreases-loop
 loop-again c =
-    let l = c.before.before.before.loop in
+    let l = c.before.before.before.loop-i in
     let a = c.before.before.before.before.args in
-    let x : get_or a.numbers.now l.i 0 < 65536 = omega (arith, c.shared-slice-known2.given l.i) in (
+    let x : get_or a.numbers.now l.i 0 < 65536 = omega (arith, c.shared_slice_known-in-loop-i-1.given l.i) in (
       search rules,
       simp length-set (omega arith),
       put-iteration a.numbers.now a.out.now l.out l.i _ _ (omega arith) (omega arith) refl (omega arith)
@@ -41,12 +41,12 @@ loop-again c =
 
 returns : tie.Need-returns invariant-loop decreases-loop
 returns c =
-    let l = c.before.loop in
+    let l = c.before.loop-i in
     let a = c.before.before.args in
     put-end a.numbers.now a.out.now l.out l.i (omega arith) (omega arith) l.invariant.2
 
-pub put-numbers-spec : {M : Type 1} → statement M
-put-numbers-spec =
+pub put_numbers_spec : {M : Type 1} → statement M
+put_numbers_spec =
     tie.close
     (tie.spec invariant-loop decreases-loop loop-holds (λ c. search rules) (λ c. search rules) (λ c. search rules)
     (λ c. search rules) (λ c. search rules) (λ c. search rules) (λ c. search rules) cast-out-2 (λ c. search rules)

@@ -9,21 +9,21 @@ use Rattle.runs.proofs.fresh.run_passed.Reads as reads
 use Rattle.runs.proofs.fresh.run_passed.Lts as lts
 use Rattle.runs.proofs.pass.pass.Reads as pass-reads
 
-pass-requires : tie.Need-pass-requires
+pass-requires : tie.Need-pass-q-requires
 pass-requires c κs = parts-args c.before.before.before.before.before.before.before.before.requires
 
-shared-slice-read-t31 : tie.Need-shared-slice-read-t31
+shared-slice-read-t31 : tie.Need-bounds-rules-marks
 shared-slice-read-t31 c =
     let p = c.before.before.before.before.before.before.before.before.before.before.requires in
-    omega (arith, root_in p c.before.pass.ensures, p.rules_length)
+    omega (arith, root_in p c.before.pass-q.ensures, p.rules_length)
 
 returns : tie.Need-returns
 returns c =
     let p = c.before.before.before.before.before.before.before.before.before.before.requires in
-    result-is p c.before.pass.ensures
+    result-is p c.before.pass-q.ensures
 
-pub run-passed-spec : {M : Type 1} → statement M
-run-passed-spec =
+pub run_passed_spec : {M : Type 1} → statement M
+run_passed_spec =
     tie.close
     (tie.spec (λ c. search rules) (λ c. search rules) (λ c. search rules) (λ c. search rules) (λ c. search rules)
     (λ c. search rules) (λ c. search rules) (λ c. search rules) (λ c. search rules) (λ c. search rules)

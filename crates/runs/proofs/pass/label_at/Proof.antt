@@ -5,11 +5,11 @@ use Rattle.runs.proofs.ChangeLaws.{marked-none, marked-label}
 use Rattle.runs.proofs.pass.label_at.Statement.{statement}
 use Rattle.runs.proofs.pass.label_at.Tie as tie
 
-returns : tie.Need-returns
-returns c = sym (marked-none _ _ c.before.if1.true)
+returns : tie.Need-returns-then-mark
+returns c = sym (marked-none _ _ c.before.if-mark.true)
 
-returns-2 : tie.Need-returns-2
-returns-2 c = sym (marked-label _ _ c.if1.false)
+returns-2 : tie.Need-returns
+returns-2 c = sym (marked-label _ _ c.if-mark.false)
 
-pub label-at-spec : {M : Type 1} → statement M
-label-at-spec = tie.close (tie.spec (λ c. search rules) (λ c. search rules) returns returns-2)
+pub label_at_spec : {M : Type 1} → statement M
+label_at_spec = tie.close (tie.spec (λ c. search rules) (λ c. search rules) returns returns-2)

@@ -17,31 +17,31 @@ use borrow.Author.Rules.{rules}
 use Rattle.runs.proofs.pass.pass_in.Statement.{statement}
 use Rattle.runs.proofs.pass.pass_in.Tie as tie
 
-abbrev invariant-loop : tie.invariant-loop
+abbrev invariant-loop : tie.invariant-loop-v
 invariant-loop states₀ kinds labels nodes news leaves inner s k n turn₀ v₀ states turn v =
     (n ≡ length kinds) × (v ≤ n) × Stacked kinds s states (trees v turn.count turn.last)
     × (length states ≡ length states₀)
     × (read_on s k leaves inner kinds (changed labels nodes news) states (trees v turn.count turn.last)
     ≡ reads s k leaves inner kinds (changed labels nodes news) [])
 
-abbrev decreases-loop : tie.decreases-loop
+abbrev decreases-loop : tie.decreases-loop-v
 decreases-loop states₀ kinds labels nodes news leaves inner s k n turn₀ v₀ states turn v = n - v
 
 -- ---- at the loop's head
 
-abbrev entered : tie.At-loop invariant-loop decreases-loop → tie.Start invariant-loop decreases-loop
+abbrev entered : tie.At-loop-v invariant-loop decreases-loop → tie.Start invariant-loop decreases-loop
 entered l = l.before.before.before.before.before.before.before.before
 
 -- the labels as changed
-abbrev labelled : tie.At-loop invariant-loop decreases-loop → List ℕ
+abbrev labelled : tie.At-loop-v invariant-loop decreases-loop → List ℕ
 labelled l = changed (entered l).args.labels.now (entered l).args.nodes.now (entered l).args.news.now
 
-labelled-length : (l : tie.At-loop invariant-loop decreases-loop) → length (labelled l) ≡ length (entered l).args.kinds.now
+labelled-length : (l : tie.At-loop-v invariant-loop decreases-loop) → length (labelled l) ≡ length (entered l).args.kinds.now
 labelled-length l =
     let s = entered l in
     changed-length s.args.labels.now s.args.nodes.now s.args.news.now ∙ s.pre.0.labelled
 
-labels_in : (l : tie.At-loop invariant-loop decreases-loop) (v : ℕ) → v < length (entered l).args.labels.now
+labels_in : (l : tie.At-loop-v invariant-loop decreases-loop) (v : ℕ) → v < length (entered l).args.labels.now
     → get_or (labelled l) v 0 < (entered l).args.k
 labels_in l v h =
     let s = entered l in
@@ -52,15 +52,15 @@ labels_in l v h =
     (label_below s.args.k (get_or ls v 0) vs bs v (s.pre.0.labels_below v) s.pre.0.changes_below)
 
 -- the marks say what the labels as changed are
-marks-are : (l : tie.At-loop invariant-loop decreases-loop) {to : ℕ} {marks : List ℕ}
-    → Marks (entered l).args.nodes.now (entered l).args.news.now l.loop.v to marks
-    → to ≤ length (entered l).args.kinds.now → (u : ℕ) → u < to - l.loop.v
-    → marked (get_or (entered l).args.labels.now (l.loop.v + u) 0) (get_or marks u 0)
-    ≡ get_or (labelled l) (l.loop.v + u) 0
+marks-are : (l : tie.At-loop-v invariant-loop decreases-loop) {to : ℕ} {marks : List ℕ}
+    → Marks (entered l).args.nodes.now (entered l).args.news.now l.loop-v.v to marks
+    → to ≤ length (entered l).args.kinds.now → (u : ℕ) → u < to - l.loop-v.v
+    → marked (get_or (entered l).args.labels.now (l.loop-v.v + u) 0) (get_or marks u 0)
+    ≡ get_or (labelled l) (l.loop-v.v + u) 0
 marks-are l {marks = marks} m h u b =
     let s = entered l in
     let ls = s.args.labels.now in
-    let v = l.loop.v in
+    let v = l.loop-v.v in
     let e : u ≡ v + u - v = omega arith in
     ap (λ (i : ℕ). marked (get_or ls (v + u) 0) (get_or marks i 0)) e
     ∙ m.at (get_or ls (v + u) 0) (v + u) (omega arith) (omega arith)
@@ -68,7 +68,7 @@ marks-are l {marks = marks} m h u b =
 
 -- ---- the needs
 
-loop-holds : tie.Need-loop-init invariant-loop decreases-loop
+loop-holds : tie.Need-loop-v-init invariant-loop decreases-loop
 loop-holds c =
     let s = c.before.before.before.before.before.before.before in (
       refl,
@@ -76,18 +76,18 @@ loop-holds c =
       pass-start s.requires.1 s.requires.0.postorder,
       refl,
       ap (reads s.args.s s.args.k s.args.leaves.now s.args.inner.now s.args.kinds.now
-          (changed s.args.labels.now s.args.nodes.now s.args.news.now)) (no-trees s.args.states.now),
+          (changed s.args.labels.now s.args.nodes.now s.args.news.now)) (no-trees s.args.states-1.now),
     )
 
-span-end-requires : tie.Need-span-end-requires invariant-loop decreases-loop
-span-end-requires c κs = omega (arith, c.loop-test.true, c.before.loop.invariant.0)
+span-end-requires : tie.Need-span_end-to-requires invariant-loop decreases-loop
+span-end-requires c κs = omega (arith, c.loop-v-test.true, c.before.loop-v.invariant.0)
 
-slice-aggregate-mark-in : tie.Need-slice-aggregate-mark-in invariant-loop decreases-loop
-slice-aggregate-mark-in c = sym c.before.unmarked.ensures.size
+slice-aggregate-mark-in : tie.Need-slice_bounds-mark_in-end invariant-loop decreases-loop
+slice-aggregate-mark-in c = sym c.before.unmarked-marks.ensures.size
 
-mark-in-requires : tie.Need-mark-in-requires invariant-loop decreases-loop
+mark-in-requires : tie.Need-mark_in-requires invariant-loop decreases-loop
 mark-in-requires c κs =
-    let e = c.before.before.span-end.ensures in
+    let e = c.before.before.span_end-to.ensures in
     let p = (entered c.before.before.before.before).pre.0 in (
       record {
         rising = omega (arith, e.rising);
@@ -95,21 +95,21 @@ mark-in-requires c κs =
         paired = omega (arith, p.paired);
         labels_below = λ j. omega (arith, p.changes_below j, p.letters);
       },
-      c.before.unmarked.ensures,
+      c.before.unmarked-marks.ensures,
     )
 
-slice-aggregate-turns : tie.Need-slice-aggregate-turns invariant-loop decreases-loop
-slice-aggregate-turns c = sym c.before.before.before.before.before.mark-in.ensures.size
+slice-aggregate-turns : tie.Need-slice_bounds-turns-end invariant-loop decreases-loop
+slice-aggregate-turns c = sym c.before.before.before.before.before.mark_in.ensures.size
 
-turns-requires : tie.Need-turns-requires invariant-loop decreases-loop
+turns-requires : tie.Need-turns-turn-requires invariant-loop decreases-loop
 turns-requires c κs =
     let l = c.before.before.before.before.before.before.before.before.before.before in
-    let e = c.before.before.before.before.before.before.before.before.span-end.ensures in
-    let m = c.before.before.before.before.before.mark-in.ensures in
+    let e = c.before.before.before.before.before.before.before.before.span_end-to.ensures in
+    let m = c.before.before.before.before.before.mark_in.ensures in
     let p = (entered l).requires.0 in
     let ks = (entered l).args.kinds.now in
     let ls = (entered l).args.labels.now in
-    let v = l.loop.v in
+    let v = l.loop-v.v in
     rw (rest_part ks v, rest_part ls v) (
       record {
         most = omega (arith, length-drop v ks, p.most);
@@ -117,7 +117,7 @@ turns-requires c κs =
         leaf_below = p.leaf_below;
         inner_count = p.inner_count;
         inner_below = p.inner_below;
-        states = p.states;
+        states = p.states-1;
         letters = p.letters;
       },
       record {
@@ -130,47 +130,47 @@ turns-requires c κs =
         room = omega (arith, e.few, m.size);
         stop = m.stop;
       },
-      part-stacked (omega (arith, l.loop.invariant.0, l.loop.invariant.1)) l.loop.invariant.2,
+      part-stacked (omega (arith, l.loop-v.invariant.0, l.loop-v.invariant.1)) l.loop-v.invariant.2,
     )
 
-loop-less : tie.Need-loop-smaller invariant-loop decreases-loop
+loop-less : tie.Need-loop-v-smaller invariant-loop decreases-loop
 loop-less c =
-    let e = c.before.before.before.before.before.before.before.before.before.before.before.span-end.ensures in
+    let e = c.before.before.before.before.before.before.before.before.before.before.before.span_end-to.ensures in
     omega (arith, e.rising, e.inside)
 
-loop-again : tie.Need-loop-preserved invariant-loop decreases-loop
+loop-again : tie.Need-loop-v-preserved invariant-loop decreases-loop
 loop-again c =
     let l = c.before.before.before.before.before.before.before.before.before.before.before.before.before in
-    let f = c.before.before.before.before.before.before.before.before.before.before.before.span-end in
-    let m = c.before.before.before.before.before.before.before.before.mark-in.ensures in
-    let d = c.before.before.turns.ensures in
+    let f = c.before.before.before.before.before.before.before.before.before.before.before.span_end-to in
+    let m = c.before.before.before.before.before.before.before.before.mark_in.ensures in
+    let d = c.before.before.turns-turn.ensures in
     let e = f.ensures in
     let to = f.result in
     let ks = (entered l).args.kinds.now in
     let ls = (entered l).args.labels.now in
-    let v = l.loop.v in
+    let v = l.loop-v.v in
     let up : v ≤ to = omega (arith, e.rising) in (
       refl,
       e.inside,
       part-done ks ls v to up e.inside (rest_part ks v) (rest_part ls v) d,
-      d.size ∙ l.loop.invariant.3,
+      d.size ∙ l.loop-v.invariant.3,
       part_same ks ls v to up e.inside (rest_part ks v) (rest_part ls v) d (labelled l) (labelled-length l)
           (marks-are l m e.inside)
-          ∙ l.loop.invariant.4,
+          ∙ l.loop-v.invariant.4,
     )
 
-same_length : tie.Need-same-length invariant-loop decreases-loop
-same_length c = c.before.loop.invariant.3
+same_length : tie.Need-shape_of-states invariant-loop decreases-loop
+same_length c = c.before.loop-v.invariant.3
 
 returns : tie.Need-returns invariant-loop decreases-loop
 returns c =
     let l = c.before in
     let s = entered l in
-    pass-end (labelled l) s.args.leaves.now s.args.inner.now s.args.k l.loop.invariant.2 l.loop.invariant.4
-    (omega (arith, l.loop.invariant.0, c.loop-test.false)) (labelled-length l) s.pre.0.postorder
+    pass-end (labelled l) s.args.leaves.now s.args.inner.now s.args.k l.loop-v.invariant.2 l.loop-v.invariant.4
+    (omega (arith, l.loop-v.invariant.0, c.loop-v-test.false)) (labelled-length l) s.pre.0.postorder
 
-pub pass-in-spec : {M : Type 1} → statement M
-pass-in-spec =
+pub pass_in_spec : {M : Type 1} → statement M
+pass_in_spec =
     tie.close
     (tie.spec invariant-loop decreases-loop loop-holds span-end-requires (λ c κs. search rules) slice-aggregate-mark-in
     mark-in-requires (λ c. search rules) (λ c. search rules) (λ c. search rules) (λ c. search rules) (λ c. search rules)

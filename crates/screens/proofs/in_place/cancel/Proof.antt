@@ -100,7 +100,7 @@ walks 𝓛 at_mem run = over (λ C Λ fm known κs qs a ok. let room = ok.0 in l
     move ! (2 ∷ 3 ∷ []) $ free1 ! $ move ! (0 ∷ 1 ∷ []) $ free1 ! $ free0 ! $ move ! (3 ∷ []) $ drop ! $ nothing ! $
     owned ! D.the_row (Is D.the_row) (EL.makes D.the_type D'.the_plain 𝓛) (Refused 25) _ refused-is-25 $
     keep ! (2 ∷ 3 ∷ 4 ∷ 5 ∷ 1 ∷ 0 ∷ []) $ by ! (exits lends D.the_row 𝓛 Promised κs qs a (Refused 25) a.0.now
-    tt _ room fits refl (beyond-told a.0.now (screens.cancel_on a.1.0) a.1.0 calls.cancel (names-cancel
+    tt _ room fits refl (beyond-told a.0.now (screens.cancel_on a.1.0) a.1.0 calls.cancel-out (names-cancel
     a.0.now a.1.0) eight (ltb→lt 7 a.1.0 beyond)))) (λ below. let inside = nltb→le 7 a.1.0 below in
     move ! (20 ∷ 21 ∷ 22 ∷ []) $ opens_slice ! tt T.the_row a.0.now a.0.ref_ptr.0 a.0.ref_ptr.1 $
     sets ! (bin ! (of-local ! 18 refl) (lit ! tt) (scaled a.1.0 inside)) (store ! 12 refl
@@ -112,7 +112,7 @@ walks 𝓛 at_mem run = over (λ C Λ fm known κs qs a ok. let room = ok.0 in l
     ((LL.lawful T.the_type T'.the_laws 𝓛).typed (at a.0.now a.1.0) _ g).0) $
     sets ! (of_opd ! (of-local ! 8 refl)) (init ! 18 refl ((LL.lawful T.the_type T'.the_laws 𝓛).typed (at a.0.now a.1.0) _ g).0) $ move ! (1 ∷ 26 ∷ 27 ∷ []) $ calls-with ! fm step.ended (step.clauses 𝓛 at_mem run)
     known (κs.1, qs.1, tt, (at a.0.now a.1.0, a.1.1), (vals (at a.0.now a.1.0), (passed lends D.the_row κs a).1.1))
-    tt (λ r ws. CallDone (at a.0.now a.1.0) calls.cancel (call_answer r.answer) r.session) (λ r ws.
+    tt (λ r ws. CallDone (at a.0.now a.1.0) calls.cancel-out (call_answer r.answer) r.session) (λ r ws.
     refl) (LL.val O.the_type O'.the_laws) (spelled O.the_type O'.the_laws) refl (and_then ! (of-local ! 18 refl)
     (no_more !)) (λ r ws e is. let owed = LL.owed O.the_type O'.the_laws r (LL.vals O.the_type O'.the_laws r) is in
     fsplit ! $ drop ! $ lands-in ! (init ! 17 refl ((LL.lawful O.the_type O'.the_laws 𝓛).typed r _ is).0) $
@@ -130,10 +130,10 @@ walks 𝓛 at_mem run = over (λ C Λ fm known κs qs a ok. let room = ok.0 in l
     closes_slice ! tt T.the_row a.0.now (set a.0.now a.1.0 r.session) (length-set a.0.now a.1.0 r.session) a.0.ref_ptr.0 a.0.ref_ptr.1 $ returns ! (look ! 23 refl) $ gone ! 23 23 refl refl $
     gone ! 21 21 refl refl $ gone ! 19 19 refl refl $ gone ! 17 17 refl refl $ gone ! 15 15 refl refl $
     gone ! 13 13 refl refl $ gone ! 11 11 refl refl $ gone ! 9 9 refl refl $ gone ! 7 7 refl refl $
-    gone ! 5 5 refl refl $ free0 ! $ owned ! D.the_row (Is D.the_row) (EL.makes D.the_type D'.the_plain 𝓛) r.answer _ owed.0 $ keep ! (1 ∷ 2 ∷ 3 ∷ 5 ∷ 4 ∷ 0 ∷ []) $ by ! (exits lends D.the_row 𝓛 Promised κs qs a r.answer (set a.0.now a.1.0 r.session) ws.1 _ room fits (length-set a.0.now a.1.0 r.session) (to-screen a.0.now (screens.cancel_on a.1.0) a.1.0 calls.cancel (names-cancel a.0.now
+    gone ! 5 5 refl refl $ free0 ! $ owned ! D.the_row (Is D.the_row) (EL.makes D.the_type D'.the_plain 𝓛) r.answer _ owed.0 $ keep ! (1 ∷ 2 ∷ 3 ∷ 5 ∷ 4 ∷ 0 ∷ []) $ by ! (exits lends D.the_row 𝓛 Promised κs qs a r.answer (set a.0.now a.1.0 r.session) ws.1 _ room fits (length-set a.0.now a.1.0 r.session) (to-screen a.0.now (screens.cancel_on a.1.0) a.1.0 calls.cancel-out (names-cancel a.0.now
     a.1.0) _ r.session eight inside e)))))))))))))))))
 
-pub cancel-spec : {M : Type 1} → stated.statement M
+pub cancel_spec : {M : Type 1} → stated.statement M
 unfolding code.routine
-cancel-spec 𝓤 𝓛 𝓜 𝓡 = by-walk 𝓛 𝓜 𝓡 (walks 𝓛 𝓜.mem 𝓡.run) code.env #this
+cancel_spec 𝓤 𝓛 𝓜 𝓡 = by-walk 𝓛 𝓜 𝓡 (walks 𝓛 𝓜.mem 𝓡.run) code.env #this
     (code.unfolded 𝓤 𝓛.H 𝓜 𝓡) step-def.routine code.calls-session::state::Session::cancel (step_thm.met 𝓤 𝓛 𝓜 𝓡)

@@ -347,7 +347,7 @@ module _ {M : Type 1} {𝓤 : Ura M} (𝓛 : Logic 𝓤) (at_mem : Memory → SP
         (init ! 50 refl ((LL.lawful T.the_type T'.the_laws 𝓛).typed (at a.0.now f) _ g).0) $
         move ! (1 ∷ 68 ∷ 69 ∷ []) $ calls-with ! fm step.ended (step.clauses 𝓛 at_mem run) known
         (κs.1, qs.1, tt, (at a.0.now f, a.1.1), (vals (at a.0.now f), (passed lends D.the_row κs a).1.1))
-        tt (λ r ws. CallDone (at a.0.now f) (calls.advance (inputs_of a.1.1.0.now a.1.1.1.0.now
+        tt (λ r ws. CallDone (at a.0.now f) (calls.advance-out (inputs_of a.1.1.0.now a.1.1.1.0.now
         a.1.1.1.1.0.now a.1.1.1.1.1.0.now)) (advance_answer r.answer) r.session) (λ r ws.
         refl) (LL.val O.the_type O'.the_laws) (spelled O.the_type O'.the_laws) refl (and_then ! (of-local ! 50 refl)
         (and_then ! (of-local ! 60 refl) (and_then ! (of-local ! 58 refl) (and_then ! (of-local ! 56 refl) (and_then !
@@ -384,9 +384,9 @@ module _ {M : Type 1} {𝓤 : Ura M} (𝓛 : Logic 𝓤) (at_mem : Memory → SP
         _ _ r.session eight first_in is_found inside says_so
         e))))))))))))))))))))))))))))))))))))))))))))))))))))))
 
-pub deal-spec : {M : Type 1} → stated.statement M
+pub deal_spec : {M : Type 1} → stated.statement M
 unfolding code.routine tables_of
-deal-spec 𝓤 𝓛 𝓜 𝓡 = let 𝓣 = tables_of 𝓤 𝓛.H 𝓜 (tables 𝓤 𝓛.H 𝓜 𝓡 code.env) in entered 𝓤 𝓛.H
+deal_spec 𝓤 𝓛 𝓜 𝓡 = let 𝓣 = tables_of 𝓤 𝓛.H 𝓜 (tables 𝓤 𝓛.H 𝓜 𝓡 code.env) in entered 𝓤 𝓛.H
     (triple_of 𝓛 this.signature (this.spec 𝓛 𝓜.mem 𝓡.run)) (tables 𝓤 𝓛.H 𝓜 𝓡 code.env).C (tables
     𝓤 𝓛.H 𝓜 𝓡 code.env).Λ #this code.function (code.unfolded 𝓤 𝓛.H 𝓜 𝓡) ((called lends D.the_row 𝓛 Promised
     ).met (WpFn 𝓤 𝓛.H 𝓣.C 𝓣.Λ code.function) (WpFn-mono 𝓤 𝓛.H 𝓛.laws 𝓣 code.function) (λ κs qs a ok. walk 𝓛 𝓜.mem 𝓡.run κs qs a ok.1 𝓣.C 𝓣.Λ (fm_of 𝓤 𝓛.H 𝓛.laws 𝓣) (cited 𝓤 𝓛.H (Tell 𝓛 𝓜.mem

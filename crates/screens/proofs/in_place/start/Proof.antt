@@ -114,7 +114,7 @@ walks 𝓛 at_mem run = over (λ C Λ fm known κs qs a ok. let room = ok.0 in l
     D.the_type D'.the_plain 𝓛) (Refused 25) _ refused-is-25 $ keep ! (2 ∷ 3 ∷ 4 ∷ 5 ∷ 1 ∷ 0 ∷ []) $
     by ! (exits lends D.the_row 𝓛 Promised κs qs a (Refused 25) a.0.now
     (tt, (tt, (tt, (tt, (tt, (tt, tt)))))) _ room fits refl (beyond-told a.0.now (screens.start_on a.1.0
-    (inputs_of a.1.1.0.now a.1.1.1.0.now a.1.1.1.1.0.now a.1.1.1.1.1.0.now) a.1.1.1.1.1.1.0.now a.1.1.1.1.1.1.1.0.now) a.1.0 (calls.start (inputs_of a.1.1.0.now a.1.1.1.0.now a.1.1.1.1.0.now a.1.1.1.1.1.0.now) a.1.1.1.1.1.1.0.now a.1.1.1.1.1.1.1.0.now) (names-start a.0.now a.1.0 (inputs_of a.1.1.0.now a.1.1.1.0.now
+    (inputs_of a.1.1.0.now a.1.1.1.0.now a.1.1.1.1.0.now a.1.1.1.1.1.0.now) a.1.1.1.1.1.1.0.now a.1.1.1.1.1.1.1.0.now) a.1.0 (calls.start-out (inputs_of a.1.1.0.now a.1.1.1.0.now a.1.1.1.1.0.now a.1.1.1.1.1.0.now) a.1.1.1.1.1.1.0.now a.1.1.1.1.1.1.1.0.now) (names-start a.0.now a.1.0 (inputs_of a.1.1.0.now a.1.1.1.0.now
     a.1.1.1.1.0.now a.1.1.1.1.1.0.now) a.1.1.1.1.1.1.0.now a.1.1.1.1.1.1.1.0.now) eight (ltb→lt 7 a.1.0 beyond)))) (λ below. let inside = nltb→le 7 a.1.0 below in move ! (32 ∷ 33 ∷
     34 ∷ []) $ opens_slice ! tt T.the_row a.0.now a.0.ref_ptr.0 a.0.ref_ptr.1 $
     sets ! (bin ! (of-local ! 30 refl) (lit ! tt) (scaled a.1.0 inside)) (store ! 12 refl
@@ -126,7 +126,7 @@ walks 𝓛 at_mem run = over (λ C Λ fm known κs qs a ok. let room = ok.0 in l
     ((LL.lawful T.the_type T'.the_laws 𝓛).typed (at a.0.now a.1.0) _ g).0) $
     sets ! (of_opd ! (of-local ! 8 refl)) (init ! 18 refl ((LL.lawful T.the_type T'.the_laws 𝓛).typed (at a.0.now a.1.0) _ g).0) $ move ! (1 ∷ 38 ∷ 39 ∷ []) $ calls-with ! fm step.ended (step.clauses 𝓛 at_mem run)
     known (κs.1, qs.1, tt, (at a.0.now a.1.0, a.1.1), (vals (at a.0.now a.1.0), (passed lends D.the_row κs a).1.1))
-    tt (λ r ws. CallDone (at a.0.now a.1.0) (calls.start (inputs_of a.1.1.0.now a.1.1.1.0.now
+    tt (λ r ws. CallDone (at a.0.now a.1.0) (calls.start-out (inputs_of a.1.1.0.now a.1.1.1.0.now
     a.1.1.1.1.0.now a.1.1.1.1.1.0.now) a.1.1.1.1.1.1.0.now a.1.1.1.1.1.1.1.0.now) (start_answer r.answer) r.session) (λ r ws. refl) (LL.val O.the_type O'.the_laws) (spelled O.the_type
     O'.the_laws) refl (and_then ! (of-local ! 18 refl) (and_then ! (of-local ! 30 refl) (and_then ! (of-local ! 28
     refl) (and_then ! (of-local ! 26 refl) (and_then ! (of-local ! 24 refl) (and_then ! (of-local ! 22 refl) (and_then
@@ -151,7 +151,7 @@ walks 𝓛 at_mem run = over (λ C Λ fm known κs qs a ok. let room = ok.0 in l
     owned ! D.the_row (Is D.the_row) (EL.makes D.the_type D'.the_plain 𝓛) r.answer _ owed.0 $
     keep ! (1 ∷ 2 ∷ 3 ∷ 5 ∷ 4 ∷ 0 ∷ []) $ by ! (exits lends D.the_row 𝓛 Promised κs qs a r.answer (set a.0.now a.1.0 r.session) ws.1 _ room fits (length-set a.0.now a.1.0 r.session) (to-screen
     a.0.now (screens.start_on a.1.0 (inputs_of a.1.1.0.now a.1.1.1.0.now a.1.1.1.1.0.now a.1.1.1.1.1.0.now) a.1.1.1.1.1.1.0.now a.1.1.1.1.1.1.1.0.now) a.1.0
-    (calls.start (inputs_of a.1.1.0.now a.1.1.1.0.now a.1.1.1.1.0.now a.1.1.1.1.1.0.now) a.1.1.1.1.1.1.0.now a.1.1.1.1.1.1.1.0.now) (names-start a.0.now a.1.0
+    (calls.start-out (inputs_of a.1.1.0.now a.1.1.1.0.now a.1.1.1.1.0.now a.1.1.1.1.1.0.now) a.1.1.1.1.1.1.0.now a.1.1.1.1.1.1.1.0.now) (names-start a.0.now a.1.0
     (inputs_of a.1.1.0.now a.1.1.1.0.now a.1.1.1.1.0.now a.1.1.1.1.1.0.now) a.1.1.1.1.1.1.0.now a.1.1.1.1.1.1.1.0.now) _ r.session eight inside e)))))))))))))))))))))))
 
 pub start_spec : {M : Type 1} → stated.statement M

@@ -4,18 +4,18 @@ use borrow.Author.Rules.{rules}
 use Rattle.session.proofs.advance.handled.Statement.{statement}
 use Rattle.session.proofs.advance.handled.Tie as tie
 
-returns : tie.Need-returns
+returns : tie.Need-returns-then-h
 returns c =
     let o = c.before in
     let m = o.before in
     let e = m.before.before.before in
-    handled-last _ _ _ _ _ _ e.if1.true _ _ c.stepped.ensures m.is-marked.ensures o.answer-of.ensures
+    handled-last _ _ _ _ _ _ e.if-h.true _ _ c.stepped-head.ensures m.is_marked-yes.ensures o.answer_of-last.ensures
 
-returns-2 : tie.Need-returns-2
-returns-2 c = handled-more _ _ _ _ _ _ c.before.before.if1.false c.stepped2.ensures
+returns-2 : tie.Need-returns
+returns-2 c = handled-more _ _ _ _ _ _ c.before.before.if-h.false c.stepped-head-2.ensures
 
-pub handled-spec : {M : Type 1} → statement M
-handled-spec =
+pub handled_spec : {M : Type 1} → statement M
+handled_spec =
     tie.close
     (tie.spec (λ c. search rules) (λ c. search rules) (λ c. search rules) (λ c κs. search rules)
     (λ c κs. search rules) (λ c κs. search rules) returns (λ c κs. search rules) returns-2)

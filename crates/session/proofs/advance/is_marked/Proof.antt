@@ -10,8 +10,8 @@ returns c =
     mark-at a.rules.now a.s a.k _ a.q c.before.inner_count.ensures.value
     c.before.before.before.requires.state
 
-pub is-marked-spec : {M : Type 1} → statement M
-is-marked-spec =
+pub is_marked_spec : {M : Type 1} → statement M
+is_marked_spec =
     tie.close
     (tie.spec (λ c. search rules) (λ c κs. search rules) (λ c. search rules) (λ c. search rules) (λ c. search rules)
     returns)

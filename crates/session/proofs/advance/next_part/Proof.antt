@@ -5,25 +5,25 @@ use borrow.Author.Rules.{rules}
 use Rattle.session.proofs.advance.next_part.Statement.{statement}
 use Rattle.session.proofs.advance.next_part.Tie as tie
 
-abbrev of : tie.After-struct-known6 → tie.Start
+abbrev of : tie.After-struct_known-6-1 → tie.Start
 of a = a.before.before.before.before.before.before.before.before.before.before.before.before.before.before
 
-slice-aggregate-part : tie.Need-slice-aggregate-part
+slice-aggregate-part : tie.Need-slice_bounds-part-end
 slice-aggregate-part c =
     let a = of c.before in
     sym (length-take-le a.args.h.parts a.args.roots.now a.pre.few_parts)
 
-slice-aggregate-part-2 : tie.Need-slice-aggregate-part-2
+slice-aggregate-part-2 : tie.Need-slice_bounds-part-end-2
 slice-aggregate-part-2 c =
     let a = of c.before.before in
     sym (length-take-le a.args.h.handled a.args.states.now a.pre.few_handled)
 
-slice-aggregate-part-3 : tie.Need-slice-aggregate-part-3
+slice-aggregate-part-3 : tie.Need-slice_bounds-part-end-3
 slice-aggregate-part-3 c =
     let a = of c.before.before.before in
     sym (length-take-le a.args.h.m a.args.nodes.now a.pre.few)
 
-slice-aggregate-part-4 : tie.Need-slice-aggregate-part-4
+slice-aggregate-part-4 : tie.Need-slice_bounds-part-end-4
 slice-aggregate-part-4 c =
     let a = of c.before.before.before.before in
     sym (length-take-le a.args.h.m a.args.labels.now a.pre.few_labels)
@@ -31,8 +31,8 @@ slice-aggregate-part-4 c =
 returns : tie.Need-returns
 returns c = (c.part.ensures.result, c.part.ensures.passed_most)
 
-pub next-part-spec : {M : Type 1} → statement M
-next-part-spec =
+pub next_part_spec : {M : Type 1} → statement M
+next_part_spec =
     tie.close
     (tie.spec (λ c. search rules) (λ c. search rules) (λ c. search rules) (λ c. search rules) (λ c. search rules)
     (λ c. search rules) slice-aggregate-part slice-aggregate-part-2 slice-aggregate-part-3 slice-aggregate-part-4

@@ -22,39 +22,39 @@ of a =
     let b = (at a).args in whole b.h b.nodes.now b.labels.now b.roots.now b.states.now
 
 abbrev lent : tie.After-allowed → Inputs
-lent a = let b = (at a).args in inputs_of b.plan.now b.rules.now b.node-table.now b.state-table.now
+lent a = let b = (at a).args in inputs_of b.plan.now b.rules.now b.node_table.now b.state_table.now
 
 may : (a : tie.After-allowed) → a.allowed.result ≡ (valid (of a) && is_running (phase_of (of a).head.phase))
-may a = allowed-by is_running (of a) _ _ a.before.may-advance.ensures a.allowed.ensures
+may a = allowed-by is_running (of a) _ _ a.before.may_advance-may.ensures a.allowed.ensures
 
-returns : tie.Need-returns
+returns : tie.Need-returns-then-not-allowed
 returns c =
     let i = c.before in
     let m = i.before in
-    refused-found (of m) (advance (lent m)) 1 _ c.refused-step.ensures
-    (advance-1 (of m) (at m).requires (lent m) _ (may m) i.if1.true)
+    refused-found (of m) (advance (lent m)) 1 _ c.refused_step.ensures
+    (advance-1 (of m) (at m).requires (lent m) _ (may m) i.if-not-allowed.true-raw)
 
-rule-buffers-fit-requires : tie.Need-rule-buffers-fit-requires
+rule-buffers-fit-requires : tie.Need-rule_buffers_fit-requires
 rule-buffers-fit-requires c κs =
     let e = c.before.before.before in
     let m = e.before in
-    advance-limits (of m) (at m).requires (lent m) _ (may m) e.if1.false
+    advance-limits (of m) (at m).requires (lent m) _ (may m) e.if-not-allowed.false-raw
 
-returns-2 : tie.Need-returns-2
+returns-2 : tie.Need-returns-then-not-rule_buffers_fit
 returns-2 c =
     let i = c.before in
     let k = i.before in
     let e = k.before.before.before.before in
     let m = e.before in
-    refused-found (of m) (advance (lent m)) 17 _ c.refused-step2.ensures
-    (advance-17 (of m) (at m).requires (lent m) _ (may m) e.if1.false _ k.rule-buffers-fit.ensures i.if2.true)
+    refused-found (of m) (advance (lent m)) 17 _ c.refused_step-then-not-rule_buffers_fit.ensures
+    (advance-17 (of m) (at m).requires (lent m) _ (may m) e.if-not-allowed.false-raw _ k.rule_buffers_fit.ensures i.if-not-rule_buffers_fit.true-raw)
 
-next-part-requires : tie.Need-next-part-requires
+next-part-requires : tie.Need-next_part-requires
 next-part-requires c κs =
     let k = c.before.before.before.before.before in
     let e = k.before.before.before.before in
     let m = e.before in
-    next-args (of m) (at m).requires (lent m) _ (may m) e.if1.false
+    next-args (of m) (at m).requires (lent m) _ (may m) e.if-not-allowed.false-raw
 
 handled-requires : tie.Need-handled-requires
 handled-requires c κs =
@@ -64,11 +64,11 @@ handled-requires c κs =
     let k = t.before in
     let e = k.before.before.before.before in
     let m = e.before in
-    handle-args (of m) (at m).requires (lent m) _ (may m) e.if1.false _ k.rule-buffers-fit.ensures t.if2.false _
-    p.next-part.ensures.0 p.next-part.ensures.1 f.found.given.0.0.state f.found.given.0.0.links
-    f.found.given.0.0.passed f.found.given.1
+    handle-args (of m) (at m).requires (lent m) _ (may m) e.if-not-allowed.false-raw _ k.rule_buffers_fit.ensures t.if-not-rule_buffers_fit.false-raw _
+    p.next_part.ensures.0 p.next_part.ensures.1 f.found-1.given.0.0.state f.found-1.given.0.0.links
+    f.found-1.given.0.0.passed f.found-1.given.1
 
-returns-3 : tie.Need-returns-3
+returns-3 : tie.Need-returns-in-Reached
 returns-3 c =
     let f = c.before.before in
     let p = f.before.before in
@@ -76,11 +76,11 @@ returns-3 c =
     let k = t.before in
     let e = k.before.before.before.before in
     let m = e.before in
-    step-found (of m) (at m).requires (lent m) _ (may m) e.if1.false _ k.rule-buffers-fit.ensures t.if2.false _
-    p.next-part.ensures.0 p.next-part.ensures.1 f.found.given.0.0.state f.found.given.0.0.links
-    f.found.given.0.0.passed f.found.given.1 _ c.handled.ensures
+    step-found (of m) (at m).requires (lent m) _ (may m) e.if-not-allowed.false-raw _ k.rule_buffers_fit.ensures t.if-not-rule_buffers_fit.false-raw _
+    p.next_part.ensures.0 p.next_part.ensures.1 f.found-1.given.0.0.state f.found-1.given.0.0.links
+    f.found-1.given.0.0.passed f.found-1.given.1 _ c.handled.ensures
 
-returns-4 : tie.Need-returns-4
+returns-4 : tie.Need-returns-in-OutOfRange
 returns-4 c =
     let i = c.before in
     let p = i.before.before in
@@ -88,12 +88,12 @@ returns-4 c =
     let k = t.before in
     let e = k.before.before.before.before in
     let m = e.before in
-    refused-found (of m) (advance (lent m)) 18 _ c.refused-step3.ensures
-    (advance-18 (of m) (at m).requires (lent m) _ (may m) e.if1.false _ k.rule-buffers-fit.ensures t.if2.false _
-    p.next-part.ensures.0 p.next-part.ensures.1 i.enum_told.given.1)
+    refused-found (of m) (advance (lent m)) 18 _ c.refused_step-in-OutOfRange.ensures
+    (advance-18 (of m) (at m).requires (lent m) _ (may m) e.if-not-allowed.false-raw _ k.rule_buffers_fit.ensures t.if-not-rule_buffers_fit.false-raw _
+    p.next_part.ensures.0 p.next_part.ensures.1 i.enum_told-1.given.1)
 
-pub next-step-spec : {M : Type 1} → statement M
-next-step-spec =
+pub next_step_spec : {M : Type 1} → statement M
+next_step_spec =
     tie.close
     (tie.spec (λ c κs. search rules) (λ c κs. search rules) (λ c κs. search rules) returns (λ c. search rules)
     (λ c. search rules) (λ c. search rules) rule-buffers-fit-requires (λ c κs. search rules) returns-2

@@ -10,37 +10,37 @@ use borrow.Author.Rules.{rules}
 use Rattle.session.proofs.fill.padded_labels.Statement.{statement}
 use Rattle.session.proofs.fill.padded_labels.Tie as tie
 
-abbrev invariant-loop : tie.invariant-loop
+abbrev invariant-loop : tie.invariant-loop-i
 invariant-loop labels out₀ i₀ out i = (i ≤ length labels) × ((length out ≡ 64) × (out ≡ take i labels ++ drop i (replicate 64 0)))
 
-abbrev decreases-loop : tie.decreases-loop
+abbrev decreases-loop : tie.decreases-loop-i
 decreases-loop labels out₀ i₀ out i = length labels - i
 
-loop-holds : tie.Need-loop-init invariant-loop decreases-loop
+loop-holds : tie.Need-loop-i-init invariant-loop decreases-loop
 loop-holds c = (omega arith, (refl, refl))
 
-array-write-out : tie.Need-array-write-out invariant-loop decreases-loop
+array-write-out : tie.Need-bounds-out-i invariant-loop decreases-loop
 array-write-out c = omega arith
 
-loop-again : tie.Need-loop-preserved invariant-loop decreases-loop
+loop-again : tie.Need-loop-i-preserved invariant-loop decreases-loop
 loop-again c =
-    let l = c.before.before.loop in
+    let l = c.before.before.loop-i in
     let a = c.before.before.before.args in (
       omega arith,
       (
         simp length-set l.invariant.1.0,
-        copy-iteration a.labels.now (replicate 64 0) l.out l.i c.before.loop-test.true (omega arith)
+        copy-iteration a.labels.now (replicate 64 0) l.out l.i c.before.loop-i-test.true (omega arith)
             l.invariant.1.1,
       ),
     )
 
 returns : tie.Need-returns invariant-loop decreases-loop
 returns c =
-    let l = c.before.loop in
-    copy-end c.before.before.args.labels.now l.out 64 l.i l.invariant.0 c.loop-test.false l.invariant.1.1
+    let l = c.before.loop-i in
+    copy-end c.before.before.args.labels.now l.out 64 l.i l.invariant.0 c.loop-i-test.false l.invariant.1.1
 
-pub padded-labels-spec : {M : Type 1} → statement M
-padded-labels-spec =
+pub padded_labels_spec : {M : Type 1} → statement M
+padded_labels_spec =
     tie.close
     (tie.spec invariant-loop decreases-loop loop-holds (λ c. search rules) array-write-out (λ c. search rules) (λ c. search rules)
     loop-again returns)

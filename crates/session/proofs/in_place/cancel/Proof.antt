@@ -65,7 +65,7 @@ walks 𝓛 at_mem run = over (λ C Λ fm known κs qs a fit. begun lends E.the_r
     move ! (3 ∷ 0 ∷ 4 ∷ 5 ∷ 6 ∷ []) $ closes ! tt T.the_row r.session (vals r.session) a.0.ref_ptr.0 a.0.ref_ptr.1 $ returns ! (look ! 11 refl) $ gone ! 11 11 refl refl $ gone ! 9 9 refl refl $ gone ! 7 7 refl refl $
     gone ! 5 5 refl refl $ free0 ! $ owned ! E.the_row (Is E.the_row) (EL.makes E.the_type E'.the_plain 𝓛) r.answer _ owed.0 $ keep ! (1 ∷ 2 ∷ 3 ∷ 5 ∷ 4 ∷ 0 ∷ []) $ by ! (exits lends E.the_row 𝓛 Promised κs qs a r.answer r.session ws.1 _ e))))))))
 
-pub cancel-spec : {M : Type 1} → stated.statement M
+pub cancel_spec : {M : Type 1} → stated.statement M
 unfolding code.routine
-cancel-spec 𝓤 𝓛 𝓜 𝓡 = by-walk 𝓛 𝓜 𝓡 (walks 𝓛 𝓜.mem 𝓡.run) code.env #this
+cancel_spec 𝓤 𝓛 𝓜 𝓡 = by-walk 𝓛 𝓜 𝓡 (walks 𝓛 𝓜.mem 𝓡.run) code.env #this
     (code.unfolded 𝓤 𝓛.H 𝓜 𝓡) step-def.routine code.calls-session::state::Session::cancel (step_thm.met 𝓤 𝓛 𝓜 𝓡)

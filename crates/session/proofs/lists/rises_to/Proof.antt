@@ -11,40 +11,40 @@ use borrow.Author.Rules.{rules}
 use Rattle.session.proofs.lists.rises_to.Statement.{statement}
 use Rattle.session.proofs.lists.rises_to.Tie as tie
 
-abbrev invariant-loop : tie.invariant-loop
+abbrev invariant-loop : tie.invariant-loop-i
 invariant-loop last xs ok₀ i₀ ok i =
     (1 ≤ i) × ((i ≤ length xs) × ((ok && rises_to last (drop (i - 1) xs)) ≡ rises_to last xs))
 
-abbrev decreases-loop : tie.decreases-loop
+abbrev decreases-loop : tie.decreases-loop-i
 decreases-loop last xs ok₀ i₀ ok i = length xs - i
 
-returns : tie.Need-returns invariant-loop decreases-loop
-returns c = sym (rises-none _ _ c.if1.true)
+returns : tie.Need-returns-then-xs-eq0 invariant-loop decreases-loop
+returns c = sym (rises-none _ _ c.if-xs-eq0.true)
 
-loop-holds : tie.Need-loop-init invariant-loop decreases-loop
+loop-holds : tie.Need-loop-i-init invariant-loop decreases-loop
 loop-holds c = (omega arith, (omega arith, refl))
 
-loop-again : tie.Need-loop-preserved invariant-loop decreases-loop
+loop-again : tie.Need-loop-i-preserved invariant-loop decreases-loop
 loop-again c =
-    let l = c.before.before.before.loop in
+    let l = c.before.before.before.loop-i in
     let a = c.before.before.before.before.before.args in
     let e : l.i + 1 - 1 ≡ l.i = omega arith in (
       omega arith,
       (
         omega arith,
-        rw e (rises-iteration a.last a.xs.now l.i (l.i - 1) (omega arith) l.ok c.before.before.loop-test.true ∙ l.invariant.1.1),
+        rw e (rises-iteration a.last a.xs.now l.i (l.i - 1) (omega arith) l.ok c.before.before.loop-i-test.true ∙ l.invariant.1.1),
       ),
     )
 
-returns-2 : tie.Need-returns-2 invariant-loop decreases-loop
+returns-2 : tie.Need-returns invariant-loop decreases-loop
 returns-2 c =
-    let l = c.before.before.loop in
+    let l = c.before.before.loop-i in
     let a = c.before.before.before.before.args in
-    sym (rises-end a.last a.xs.now l.i (l.i - 1) (omega arith) l.ok (omega arith) c.before.loop-test.false)
+    sym (rises-end a.last a.xs.now l.i (l.i - 1) (omega arith) l.ok (omega arith) c.before.loop-i-test.false)
     ∙ l.invariant.1.1
 
-pub rises-to-spec : {M : Type 1} → statement M
-rises-to-spec =
+pub rises_to_spec : {M : Type 1} → statement M
+rises_to_spec =
     tie.close
     (tie.spec invariant-loop decreases-loop returns loop-holds (λ c. search rules) (λ c. search rules) (λ c. search rules)
     (λ c. search rules) (λ c. search rules) (λ c. search rules) (λ c. search rules) loop-again (λ c. search rules)

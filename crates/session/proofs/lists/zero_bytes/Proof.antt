@@ -12,26 +12,26 @@ use borrow.Author.Rules.{rules}
 use Rattle.session.proofs.lists.zero_bytes.Statement.{statement}
 use Rattle.session.proofs.lists.zero_bytes.Tie as tie
 
-abbrev invariant-loop : tie.invariant-loop
+abbrev invariant-loop : tie.invariant-loop-i
 invariant-loop xs all₀ i₀ all i = (i ≤ length xs) × ((eqb all 0 && all_below 1 (drop i xs)) ≡ all_below 1 xs)
 
-abbrev decreases-loop : tie.decreases-loop
+abbrev decreases-loop : tie.decreases-loop-i
 decreases-loop xs all₀ i₀ all i = length xs - i
 
-loop-holds : tie.Need-loop-init invariant-loop decreases-loop
+loop-holds : tie.Need-loop-i-init invariant-loop decreases-loop
 loop-holds c = (omega arith, refl)
 
-loop-again : tie.Need-loop-preserved invariant-loop decreases-loop
+loop-again : tie.Need-loop-i-preserved invariant-loop decreases-loop
 loop-again c =
-    let l = c.before.before.loop in
+    let l = c.before.before.loop-i in
     let a = c.before.before.before.args in
-    (omega arith, zero-iteration a.xs.now l.i l.all c.before.loop-test.true ∙ l.invariant.1)
+    (omega arith, zero-iteration a.xs.now l.i l.all c.before.loop-i-test.true ∙ l.invariant.1)
 
 returns : tie.Need-returns invariant-loop decreases-loop
-returns c = sym (zero-end c.before.before.args.xs.now c.before.loop.i c.before.loop.all c.loop-test.false) ∙ c.before.loop.invariant.1
+returns c = sym (zero-end c.before.before.args.xs.now c.before.loop-i.i c.before.loop-i.all c.loop-i-test.false) ∙ c.before.loop-i.invariant.1
 
-pub zero-bytes-spec : {M : Type 1} → statement M
-zero-bytes-spec =
+pub zero_bytes_spec : {M : Type 1} → statement M
+zero_bytes_spec =
     tie.close
     (tie.spec invariant-loop decreases-loop loop-holds (λ c. search rules) (λ c. search rules) (λ c. search rules) loop-again
     returns)

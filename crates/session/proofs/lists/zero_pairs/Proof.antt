@@ -12,22 +12,22 @@ use borrow.Author.Rules.{rules}
 use Rattle.session.proofs.lists.zero_pairs.Statement.{statement}
 use Rattle.session.proofs.lists.zero_pairs.Tie as tie
 
-abbrev invariant-loop : tie.invariant-loop
+abbrev invariant-loop : tie.invariant-loop-i
 invariant-loop xs ys all₀ i₀ all i =
     (i ≤ length xs) × ((eqb all 0 && (all_below 1 (drop i xs) && all_below 1 (drop i ys))) ≡ (all_below 1 xs && all_below 1 ys))
 
-abbrev decreases-loop : tie.decreases-loop
+abbrev decreases-loop : tie.decreases-loop-i
 decreases-loop xs ys all₀ i₀ all i = length xs - i
 
-loop-holds : tie.Need-loop-init invariant-loop decreases-loop
+loop-holds : tie.Need-loop-i-init invariant-loop decreases-loop
 loop-holds c = (omega arith, refl)
 
-cast-all : tie.Need-overflow-cast-all invariant-loop decreases-loop
-cast-all c = omega (arith, c.shared-slice-known2.given c.before.before.before.loop.i)
+cast-all : tie.Need-overflow_cast-all invariant-loop decreases-loop
+cast-all c = omega (arith, c.shared_slice_known-in-loop-i-1.given c.before.before.before.loop-i.i)
 
-loop-again : tie.Need-loop-preserved invariant-loop decreases-loop
+loop-again : tie.Need-loop-i-preserved invariant-loop decreases-loop
 loop-again c =
-    let l = c.before.before.before.loop in
+    let l = c.before.before.before.loop-i in
     let a = c.before.before.before.before in (
       omega arith,
       pairs-iteration a.args.xs.now a.args.ys.now l.i l.all (omega arith) (omega arith) ∙ l.invariant.1,
@@ -36,10 +36,10 @@ loop-again c =
 returns : tie.Need-returns invariant-loop decreases-loop
 returns c =
     let a = c.before.before in
-    sym (pairs_end a.args.xs.now a.args.ys.now c.before.loop.i c.before.loop.all (omega arith) (omega arith)) ∙ c.before.loop.invariant.1
+    sym (pairs_end a.args.xs.now a.args.ys.now c.before.loop-i.i c.before.loop-i.all (omega arith) (omega arith)) ∙ c.before.loop-i.invariant.1
 
-pub zero-pairs-spec : {M : Type 1} → statement M
-zero-pairs-spec =
+pub zero_pairs_spec : {M : Type 1} → statement M
+zero_pairs_spec =
     tie.close
     (tie.spec invariant-loop decreases-loop loop-holds (λ c. search rules) (λ c. search rules) (λ c. search rules) cast-all
     (λ c. search rules) (λ c. search rules) loop-again returns)

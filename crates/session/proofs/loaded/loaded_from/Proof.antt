@@ -10,10 +10,10 @@ returns c =
     let k = o.before in
     let a = k.before.before.before.before.before in
     loaded-same a.args.plan.now a.args.rules.now _ _ _ _ _
-    c.loaded.ensures o.no_last.ensures k.before.before.read32.ensures k.before.read322.ensures k.read323.ensures
+    c.loaded.ensures o.no_last-last.ensures k.before.before.read32-n.ensures k.before.read32-s.ensures k.read32-k.ensures
 
-pub loaded-from-spec : {M : Type 1} → statement M
-loaded-from-spec =
+pub loaded_from_spec : {M : Type 1} → statement M
+loaded_from_spec =
     tie.close
     (tie.spec (λ c κs. search rules) (λ c κs. search rules) (λ c κs. search rules) (λ c. search rules)
     (λ c. search rules) (λ c. search rules) (λ c κs. search rules) (λ c κs. search rules) returns)

@@ -9,11 +9,11 @@ use Rattle.session.proofs.may.allowed.Tie as tie
 abbrev of : tie.Start → Session
 of a = whole a.args.h a.args.nodes.now a.args.labels.now a.args.roots.now a.args.states.now
 
-returns : tie.Need-returns
-returns c = allowed-no (valid (of c.before)) _ c.if1.true
+returns : tie.Need-returns-then-not-may
+returns c = allowed-no (valid (of c.before)) _ c.if-not-may.true-raw
 
-returns-2 : tie.Need-returns-2
-returns-2 c = allowed-yes _ _ _ c.before.if1.false c.fits2.ensures
+returns-2 : tie.Need-returns
+returns-2 c = allowed-yes _ _ _ c.before.if-not-may.false-raw c.fits2.ensures
 
-pub allowed-spec : {M : Type 1} → statement M
-allowed-spec = tie.close (tie.spec returns (λ c κs. search rules) returns-2)
+pub allowed_spec : {M : Type 1} → statement M
+allowed_spec = tie.close (tie.spec returns (λ c κs. search rules) returns-2)

@@ -6,8 +6,8 @@ use borrow.Author.Rules.{rules}
 use Rattle.session.proofs.may.may_start.Statement.{statement}
 use Rattle.session.proofs.may.may_start.Tie as tie
 
-pub may-start-spec : {M : Type 1} → statement M
+pub may_start_spec : {M : Type 1} → statement M
 unfolding phase_of may_start
-may-start-spec = tie.close (tie.spec (λ c. search rules) (λ c. search rules) (λ c. search rules) (λ c. search rules)
-    (λ c. by_state may_start _ _ c.enum_told.given.1) (λ c. by_state may_start _ _ c.enum-told2.given.1)
-    (λ c. by_state may_start _ _ c.enum-told3.given.1) (λ c. by_state may_start _ _ c.enum-told4.given.1))
+may_start_spec = tie.close (tie.spec (λ c. search rules) (λ c. search rules) (λ c. search rules) (λ c. search rules)
+    (λ c. by_state may_start _ _ c.enum_told-1.given.1) (λ c. by_state may_start _ _ c.enum_told-in-Loaded-1.given.1)
+    (λ c. by_state may_start _ _ c.enum_told-in-Running-1.given.1) (λ c. by_state may_start _ _ c.enum_told-in-Answered-1.given.1))

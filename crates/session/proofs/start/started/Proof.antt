@@ -4,7 +4,7 @@ use Rattle.session.proofs.start.started.Statement.{statement}
 use Rattle.session.proofs.start.started.Tie as tie
 
 returns : tie.Need-returns
-returns c = rw (c.before.padded-nodes.ensures, c.padded-labels.ensures)
+returns c = rw (c.before.padded_nodes-listed.ensures, c.padded_labels-changes.ensures)
 
-pub started-spec : {M : Type 1} → statement M
-started-spec = tie.close (tie.spec (λ c κs. search rules) (λ c κs. search rules) (λ c. search rules) returns)
+pub started_spec : {M : Type 1} → statement M
+started_spec = tie.close (tie.spec (λ c κs. search rules) (λ c κs. search rules) (λ c. search rules) returns)

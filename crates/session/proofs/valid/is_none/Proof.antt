@@ -6,5 +6,5 @@ use Rattle.session.proofs.valid.is_none.Tie as tie
 returns : tie.Need-returns
 returns c = none-test _
 
-pub is-none-spec : {M : Type 1} → statement M
-is-none-spec = tie.close (tie.spec returns)
+pub is_none_spec : {M : Type 1} → statement M
+is_none_spec = tie.close (tie.spec returns)

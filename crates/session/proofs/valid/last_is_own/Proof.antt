@@ -5,19 +5,19 @@ use borrow.Author.Rules.{rules}
 use Rattle.session.proofs.valid.last_is_own.Statement.{statement}
 use Rattle.session.proofs.valid.last_is_own.Tie as tie
 
-returns : tie.Need-returns
-returns c = λ vs bs rs. own-few _ c.if1.true
+returns : tie.Need-returns-then-h-lt1
+returns c = λ vs bs rs. own-few _ c.if-h-lt1.true
 
-returns-2 : tie.Need-returns-2
-returns-2 c = λ vs bs rs. own-many _ c.if2.true
+returns-2 : tie.Need-returns-then-h-gt-MOST_PARTS
+returns-2 c = λ vs bs rs. own-many _ c.if-h-gt-MOST_PARTS.true
 
-returns-3 : tie.Need-returns-3
+returns-3 : tie.Need-returns
 returns-3 c =
     let f = c.before.before.before.before.before.before.before.before.before in
-    λ vs bs rs. own-test _ (omega arith) (omega arith) _ f.same_flag.ensures
+    λ vs bs rs. own-test _ (omega arith) (omega arith) _ f.same_flag-alike.ensures
 
-pub last-is-own-spec : {M : Type 1} → statement M
-last-is-own-spec =
+pub last_is_own_spec : {M : Type 1} → statement M
+last_is_own_spec =
     tie.close
     (tie.spec returns returns-2 (λ c. search rules) (λ c. search rules) (λ c κs. search rules) (λ c. search rules)
     returns-3)

@@ -14,9 +14,9 @@ returns c =
     let b = c.before.before in
     let a = b.before.before in
     let s = a.before.before.before.before.before.before.before.before.before in
-    question-test (of s) _ _ _ a.zero-pairs.ensures b.zeros.ensures c.zero-bytes.ensures
+    question-test (of s) _ _ _ a.zero_pairs.ensures b.zeros.ensures c.zero_bytes.ensures
 
-pub no-question-spec : {M : Type 1} → statement M
-no-question-spec =
+pub no_question_spec : {M : Type 1} → statement M
+no_question_spec =
     tie.close
     (tie.spec (λ c κs. search rules) (λ c κs. search rules) (λ c κs. search rules) returns)

@@ -10,42 +10,42 @@ use borrow.Author.Rules.{rules}
 use Rattle.session.proofs.valid.parts_fit.Statement.{statement}
 use Rattle.session.proofs.valid.parts_fit.Tie as tie
 
-abbrev at : tie.Else2 → tie.Start
+abbrev at : tie.Else-p-gt-PART_LIMIT → tie.Start
 at a = a.before.before.before.before.before.before
 
 abbrev of : tie.Start → List ℕ → List ℕ → Session
 of a vs bs = whole a.args.h vs bs a.args.roots.now a.args.states.now
 
-returns : tie.Need-returns
-returns c = λ vs bs. parts_none (of c.before.before.before.before.before vs bs) c.if1.true
+returns : tie.Need-returns-then-p-lt1
+returns c = λ vs bs. parts_none (of c.before.before.before.before.before vs bs) c.if-p-lt1.true
 
-returns-2 : tie.Need-returns-2
+returns-2 : tie.Need-returns-then-p-gt-PART_LIMIT
 returns-2 c =
-    λ vs bs. parts-many (of c.before.before.before.before.before.before vs bs) c.if2.true
+    λ vs bs. parts-many (of c.before.before.before.before.before.before vs bs) c.if-p-gt-PART_LIMIT.true
 
-slice-aggregate-rises-to : tie.Need-slice-aggregate-rises-to
+slice-aggregate-rises-to : tie.Need-slice_bounds-rises_to-end
 slice-aggregate-rises-to c =
     let a = at c.before.before in
     take_long 254 a.args.h.parts a.args.roots.now a.pre.roots (omega arith)
 
-slice-aggregate-all-below : tie.Need-slice-aggregate-all-below
+slice-aggregate-all-below : tie.Need-slice_bounds-all_below-end
 slice-aggregate-all-below c =
     let a = at c.before.before.before.before.before.before in
     take_long 254 a.args.h.handled a.args.states.now a.pre.states (omega arith)
 
-returns-3 : tie.Need-returns-3
+returns-3 : tie.Need-returns
 returns-3 c =
     let d = c.before.before.before in
     let a = d.before.before in
     let b = a.before.before in
     let r = b.before.before in
     let e = r.before.before.before in
-    λ vs bs. parts-test (of (at e) vs bs) (omega arith) (omega arith) _ _ _ _ r.rises-to.ensures
+    λ vs bs. parts-test (of (at e) vs bs) (omega arith) (omega arith) _ _ _ _ r.rises_to.ensures
     b.zeros.ensures
-    a.all-below.ensures d.zero-bytes.ensures
+    a.all_below.ensures d.zero_bytes.ensures
 
-pub parts-fit-spec : {M : Type 1} → statement M
-parts-fit-spec =
+pub parts_fit_spec : {M : Type 1} → statement M
+parts_fit_spec =
     tie.close
     (tie.spec (λ c. search rules) (λ c. search rules) returns returns-2 (λ c. search rules) slice-aggregate-rises-to
     (λ c κs. search rules) (λ c. search rules) (λ c. search rules) (λ c. search rules) (λ c. search rules)

@@ -3,11 +3,11 @@ use Rattle.session.proofs.ValidLaws.{flag_true, flag-false}
 use Rattle.session.proofs.valid.same_flag.Statement.{statement}
 use Rattle.session.proofs.valid.same_flag.Tie as tie
 
-returns : tie.Need-returns
-returns c = flag_true _ _ c.if1.true
+returns : tie.Need-returns-then-a
+returns c = flag_true _ _ c.if-a.true
 
-returns-2 : tie.Need-returns-2
-returns-2 c = flag-false _ _ c.if1.false
+returns-2 : tie.Need-returns
+returns-2 c = flag-false _ _ c.if-a.false
 
-pub same-flag-spec : {M : Type 1} → statement M
-same-flag-spec = tie.close (tie.spec returns returns-2)
+pub same_flag_spec : {M : Type 1} → statement M
+same_flag_spec = tie.close (tie.spec returns returns-2)

@@ -7,5 +7,5 @@ use Rattle.session.proofs.valid.sizes_fit.Tie as tie
 returns : tie.Need-returns
 returns c = sizes-test _
 
-pub sizes-fit-spec : {M : Type 1} → statement M
-sizes-fit-spec = tie.close (tie.spec (λ c. search rules) (λ c. search rules) (λ c. search rules) returns)
+pub sizes_fit_spec : {M : Type 1} → statement M
+sizes_fit_spec = tie.close (tie.spec (λ c. search rules) (λ c. search rules) (λ c. search rules) returns)

@@ -10,5 +10,5 @@ use Rattle.state_sets.proofs.gather.bit_of.Lts as lts
 returns : tie.Need-returns
 returns c = bit_is c.args.set c.args.x
 
-pub bit-of-spec : {M : Type 1} → statement M
-bit-of-spec = tie.close (tie.spec (λ c. search rules) returns)
+pub bit_of_spec : {M : Type 1} → statement M
+bit_of_spec = tie.close (tie.spec (λ c. search rules) returns)

@@ -11,12 +11,12 @@ use Rattle.table_checks.proofs.CheckLaws.{block_no, block-told}
 use Rattle.table_checks.proofs.blocks.block_match.Statement.{statement}
 use Rattle.table_checks.proofs.blocks.block_match.Tie as tie
 
-listed-leaves-match-requires : tie.Need-listed-leaves-match-requires
+listed-leaves-match-requires : tie.Need-listed_leaves_match-requires
 listed-leaves-match-requires c κs =
     let d = c.before.before.before.before.before.before.before.before in
     let s = d.before.before.before.before.before.before.before in
-    let b = c.before.before.before.before.list-block in
-    let a = c.before.before.before.before.before.before.before.empty-list in
+    let b = c.before.before.before.before.list_block-c in
+    let a = c.before.before.before.before.before.before.before.empty_list-leaf_list in
     let L = b.ensures.leaf in
     record {
       table = s.requires.0.table;
@@ -24,27 +24,27 @@ listed-leaves-match-requires c κs =
       inside = λ i h. omega (arith, L.to i h, s.requires.0.inside);
     }
 
-returns : tie.Need-returns
+returns : tie.Need-returns-then-not-listed_leaves_match
 returns c =
     let d = c.before.before.before.before.before.before.before.before in
-    let b = c.before.before.before.before.before.before.list-block in
-    let m = c.before.listed-leaves-match in
+    let b = c.before.before.before.before.before.before.list_block-c in
+    let m = c.before.listed_leaves_match in
     let g = d.before.before.before.before.before.before.before.before.before.args in
-    block_no g.kinds.now g.labels.now g.node-table.now g.leaves.now g.inner.now g.s g.k
-    g.state-table.now g.b g.e
+    block_no g.kinds.now g.labels.now g.node_table.now g.leaves.now g.inner.now g.s g.k
+    g.state_table.now g.b g.e
     (subst
     (λ (r : Bool). Means r
-    (Leaves g.kinds.now g.labels.now g.node-table.now g.leaves.now g.s
-    g.state-table.now g.b g.e))
-    (not-true m.result c.if1.true)
-    (leaves-told g.kinds.now g.labels.now g.node-table.now g.leaves.now g.s
-    g.state-table.now g.b g.e
+    (Leaves g.kinds.now g.labels.now g.node_table.now g.leaves.now g.s
+    g.state_table.now g.b g.e))
+    (not-true m.result c.if-not-listed_leaves_match.true-raw)
+    (leaves-told g.kinds.now g.labels.now g.node_table.now g.leaves.now g.s
+    g.state_table.now g.b g.e
     (g.e - g.b - b.result) b.new.1.1.1.1.0 b.ensures.leaf m.result m.ensures))
 
-pairs-match-requires : tie.Need-pairs-match-requires
+pairs-match-requires : tie.Need-pairs_match-requires
 pairs-match-requires c κs =
     let d = c.before.before.before.before.before.before.before.before in
-    let b = c.before.before.before.before.before.before.before.list-block in
+    let b = c.before.before.before.before.before.before.before.list_block-c in
     let s = d.before.before.before.before.before.before.before.before.before.before in
     let L = b.ensures.inner in (
       record {
@@ -56,26 +56,26 @@ pairs-match-requires c κs =
       s.requires.1,
     )
 
-returns-2 : tie.Need-returns-2
+returns-2 : tie.Need-returns
 returns-2 c =
     let d = c.before.before.before.before.before.before.before.before in
-    let b = c.before.before.before.before.before.before.before.before.list-block in
-    let m = c.before.before.before.listed-leaves-match in
+    let b = c.before.before.before.before.before.before.before.before.list_block-c in
+    let m = c.before.before.before.listed_leaves_match in
     let g = d.before.before.before.before.before.before.before.before.before.before.before.args in
-    block-told g.kinds.now g.labels.now g.node-table.now g.leaves.now g.inner.now g.s g.k
-    g.state-table.now g.b g.e b.result b.new.1.1.1.0 b.ensures.inner
+    block-told g.kinds.now g.labels.now g.node_table.now g.leaves.now g.inner.now g.s g.k
+    g.state_table.now g.b g.e b.result b.new.1.1.1.0 b.ensures.inner
     (subst
     (λ (r : Bool). Means r
-    (Leaves g.kinds.now g.labels.now g.node-table.now g.leaves.now g.s
-    g.state-table.now g.b g.e))
-    (not-false m.result c.before.before.if1.false)
-    (leaves-told g.kinds.now g.labels.now g.node-table.now g.leaves.now g.s
-    g.state-table.now g.b g.e
+    (Leaves g.kinds.now g.labels.now g.node_table.now g.leaves.now g.s
+    g.state_table.now g.b g.e))
+    (not-false m.result c.before.before.if-not-listed_leaves_match.false-raw)
+    (leaves-told g.kinds.now g.labels.now g.node_table.now g.leaves.now g.s
+    g.state_table.now g.b g.e
     (g.e - g.b - b.result) b.new.1.1.1.1.0 b.ensures.leaf m.result m.ensures))
-    c.pairs-match.result c.pairs-match.ensures
+    c.pairs_match.result c.pairs_match.ensures
 
-pub block-match-spec : {M : Type 1} → statement M
-block-match-spec =
+pub block_match_spec : {M : Type 1} → statement M
+block_match_spec =
     tie.close
     (tie.spec (λ c κs. search rules) (λ c. search rules) (λ c κs. search rules) (λ c. search rules)
     (λ c. search rules) (λ c. search rules) listed-leaves-match-requires (λ c. search rules) returns

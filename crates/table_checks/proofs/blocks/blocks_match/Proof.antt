@@ -11,31 +11,31 @@ use borrow.Author.Rules.{rules}
 use Rattle.table_checks.proofs.blocks.blocks_match.Statement.{statement}
 use Rattle.table_checks.proofs.blocks.blocks_match.Tie as tie
 
-abbrev invariant-loop : tie.invariant-loop
+abbrev invariant-loop : tie.invariant-loop-b
 invariant-loop kinds labels node_table lengths leaves inner s k state_table list₀ n b₀ list b =
     (n ≡ length kinds) × (b ≤ n) × (length list ≡ length list₀)
     × Nodes kinds labels node_table leaves inner s k state_table 0 b
 
-abbrev decreases-loop : tie.decreases-loop
+abbrev decreases-loop : tie.decreases-loop-b
 decreases-loop kinds labels node_table lengths leaves inner s k state_table list₀ n b₀ list b = n - b
 
-loop-holds : tie.Need-loop-init invariant-loop decreases-loop
+loop-holds : tie.Need-loop-b-init invariant-loop decreases-loop
 loop-holds c =
     let s = c.before.before.before.before.before.before.before in
     let g = s.args in (
       refl,
       omega arith,
       refl,
-      nodes-none g.kinds.now g.labels.now g.node-table.now g.leaves.now
-          g.inner.now g.s g.k g.state-table.now,
+      nodes-none g.kinds.now g.labels.now g.node_table.now g.leaves.now
+          g.inner.now g.s g.k g.state_table.now,
     )
 
-block-match-requires : tie.Need-block-match-requires invariant-loop decreases-loop
+block-match-requires : tie.Need-block_match-requires invariant-loop decreases-loop
 block-match-requires c κs =
     let s = c.before.before.before.before.before.before.before.before.before.before.before in
     let g = s.args in
-    let l = c.before.before.before.loop in
-    let e = c.before.block-end in (
+    let l = c.before.before.before.loop-b in
+    let e = c.before.block_end-e in (
       record {
         table = s.requires.0.table;
         kinds = s.requires.0.kinds;
@@ -47,48 +47,48 @@ block-match-requires c κs =
       s.requires.1,
     )
 
-returns : tie.Need-returns invariant-loop decreases-loop
+returns : tie.Need-returns-then-not-block_match invariant-loop decreases-loop
 returns c =
     let d = c.before.before.before.before.before.before.before.before in
     let s = d.before.before.before.before.before.before.before in
     let g = s.args in
-    let l = c.before.before.before.before.before.before.before.loop in
-    let e = c.before.before.before.before.before.block-end in
-    let m = c.before.before.before.block-match in
-    nodes-no g.kinds.now g.labels.now g.node-table.now g.leaves.now g.inner.now g.s g.k
-    g.state-table.now l.b e.result (omega (arith, e.ensures.1, l.invariant.0))
-    (subst (λ (r : Bool). Means r (Nodes g.kinds.now g.labels.now g.node-table.now g.leaves.now
-    g.inner.now g.s g.k g.state-table.now l.b e.result))
-    (not-true m.result c.if1.true) m.ensures)
+    let l = c.before.before.before.before.before.before.before.loop-b in
+    let e = c.before.before.before.before.before.block_end-e in
+    let m = c.before.before.before.block_match in
+    nodes-no g.kinds.now g.labels.now g.node_table.now g.leaves.now g.inner.now g.s g.k
+    g.state_table.now l.b e.result (omega (arith, e.ensures.1, l.invariant.0))
+    (subst (λ (r : Bool). Means r (Nodes g.kinds.now g.labels.now g.node_table.now g.leaves.now
+    g.inner.now g.s g.k g.state_table.now l.b e.result))
+    (not-true m.result c.if-not-block_match.true-raw) m.ensures)
 
-loop-again : tie.Need-loop-preserved invariant-loop decreases-loop
+loop-again : tie.Need-loop-b-preserved invariant-loop decreases-loop
 loop-again c =
     let d = c.before.before.before.before.before.before.before.before in
     let s = d.before.before.before.before.before.before.before in
     let g = s.args in
-    let l = c.before.before.before.before.before.before.before.loop in
-    let e = c.before.before.before.before.before.block-end in
-    let m = c.before.before.before.block-match in (
+    let l = c.before.before.before.before.before.before.before.loop-b in
+    let e = c.before.before.before.before.before.block_end-e in
+    let m = c.before.before.before.block_match in (
       refl,
       omega (arith, e.ensures.1, l.invariant.0),
       m.auto.1.1.1.1.1.1.1.1.1.1.1.0 ∙ l.invariant.2,
-      nodes-more g.kinds.now g.labels.now g.node-table.now g.leaves.now g.inner.now g.s g.k
-          g.state-table.now l.b e.result l.invariant.3
-          (subst (λ (r : Bool). Means r (Nodes g.kinds.now g.labels.now g.node-table.now g.leaves.now
-          g.inner.now g.s g.k g.state-table.now l.b e.result))
-          (not-false m.result c.if1.false) m.ensures),
+      nodes-more g.kinds.now g.labels.now g.node_table.now g.leaves.now g.inner.now g.s g.k
+          g.state_table.now l.b e.result l.invariant.3
+          (subst (λ (r : Bool). Means r (Nodes g.kinds.now g.labels.now g.node_table.now g.leaves.now
+          g.inner.now g.s g.k g.state_table.now l.b e.result))
+          (not-false m.result c.if-not-block_match.false-raw) m.ensures),
     )
 
-returns-2 : tie.Need-returns-2 invariant-loop decreases-loop
+returns-2 : tie.Need-returns invariant-loop decreases-loop
 returns-2 c =
     let s = c.before.before.before.before.before.before.before.before.before in
     let g = s.args in
-    let l = c.before.loop in
-    nodes-all g.kinds.now g.labels.now g.node-table.now g.leaves.now g.inner.now g.s g.k
-    g.state-table.now l.b (omega (arith, l.invariant.0, l.invariant.1, c.loop-test.false)) l.invariant.3
+    let l = c.before.loop-b in
+    nodes-all g.kinds.now g.labels.now g.node_table.now g.leaves.now g.inner.now g.s g.k
+    g.state_table.now l.b (omega (arith, l.invariant.0, l.invariant.1, c.loop-b-test.false)) l.invariant.3
 
-pub blocks-match-spec : {M : Type 1} → statement M
-blocks-match-spec =
+pub blocks_match_spec : {M : Type 1} → statement M
+blocks_match_spec =
     tie.close
     (tie.spec invariant-loop decreases-loop loop-holds (λ c κs. search rules) block-match-requires (λ c. search rules) returns
     (λ c. search rules) loop-again (λ c. search rules) returns-2)

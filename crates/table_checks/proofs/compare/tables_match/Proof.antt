@@ -11,28 +11,28 @@ use borrow.Author.Rules.{rules}
 use Rattle.table_checks.proofs.compare.tables_match.Statement.{statement}
 use Rattle.table_checks.proofs.compare.tables_match.Tie as tie
 
-slice-aggregate-all-below : tie.Need-slice-aggregate-all-below
+slice-aggregate-all-below : tie.Need-slice_bounds-all_below-end
 slice-aggregate-all-below c =
     let s = c.before.before.before.before.before.before.before in
     let g = s.args in
-    omega (arith, length-take (length g.kinds.now * (g.s + 1)) g.state-table.now, s.requires.room)
+    omega (arith, length-take (length g.kinds.now * (g.s + 1)) g.state_table.now, s.requires.room)
 
-returns : tie.Need-returns
+returns : tie.Need-returns-then-not-all_below
 returns c =
     let s = c.before.before.before.before.before.before.before.before.before in
     let g = s.args in
-    below-no g.kinds.now g.labels.now g.node-table.now g.leaves.now g.inner.now g.s g.k
-    g.state-table.now s.requires
-    (sym c.before.all-below.ensures ∙ not-true c.before.all-below.result c.if1.true)
+    below-no g.kinds.now g.labels.now g.node_table.now g.leaves.now g.inner.now g.s g.k
+    g.state_table.now s.requires
+    (sym c.before.all_below.ensures ∙ not-true c.before.all_below.result c.if-not-all_below.true-raw)
 
-sub-root-node-is : tie.Need-overflow-sub-root-node-is
+sub-root-node-is : tie.Need-overflow_sub-n
 sub-root-node-is c =
     let s = c.before.before.before.before.before.before.before.before.before in
     let g = s.args in
-    node-some g.kinds.now g.labels.now g.node-table.now g.leaves.now g.inner.now g.s g.k
-    g.state-table.now s.requires
+    node-some g.kinds.now g.labels.now g.node_table.now g.leaves.now g.inner.now g.s g.k
+    g.state_table.now s.requires
 
-root-node-is-requires : tie.Need-root-node-is-requires
+root-node-is-requires : tie.Need-root_node_is-requires
 root-node-is-requires c κs =
     let s = c.before.before.before.before.before.before.before.before.before in
     let g = s.args in
@@ -41,27 +41,27 @@ root-node-is-requires c κs =
       room = omega (
         arith,
         s.requires.link_room,
-        node-some g.kinds.now g.labels.now g.node-table.now g.leaves.now
-            g.inner.now g.s g.k g.state-table.now s.requires,
+        node-some g.kinds.now g.labels.now g.node_table.now g.leaves.now
+            g.inner.now g.s g.k g.state_table.now s.requires,
       );
     }
 
-returns-2 : tie.Need-returns-2
+returns-2 : tie.Need-returns-then-not-root_node_is
 returns-2 c =
     let s = c.before.before.before.before.before.before.before.before.before.before.before in
     let g = s.args in
-    root-node-is-no g.kinds.now g.labels.now g.node-table.now g.leaves.now g.inner.now g.s
-    g.k g.state-table.now s.requires
-    (sym c.before.root-node-is.ensures ∙ not-true c.before.root-node-is.result c.if2.true)
+    root-node-is-no g.kinds.now g.labels.now g.node_table.now g.leaves.now g.inner.now g.s
+    g.k g.state_table.now s.requires
+    (sym c.before.root_node_is.ensures ∙ not-true c.before.root_node_is.result c.if-not-root_node_is.true-raw)
 
-sub-root-row-is : tie.Need-overflow-sub-root-row-is
+sub-root-row-is : tie.Need-overflow_sub-n-2
 sub-root-row-is c =
     let s = c.before.before.before.before.before.before.before.before.before.before.before in
     let g = s.args in
-    node-some g.kinds.now g.labels.now g.node-table.now g.leaves.now g.inner.now g.s g.k
-    g.state-table.now s.requires
+    node-some g.kinds.now g.labels.now g.node_table.now g.leaves.now g.inner.now g.s g.k
+    g.state_table.now s.requires
 
-root-row-is-requires : tie.Need-root-row-is-requires
+root-row-is-requires : tie.Need-root_row_is-requires
 root-row-is-requires c κs =
     let s = c.before.before.before.before.before.before.before.before.before.before.before in
     let g = s.args in
@@ -70,55 +70,55 @@ root-row-is-requires c κs =
       stride (g.s + 1) (length g.kinds.now - 1) (length g.kinds.now)
           (omega (
             arith,
-            node-some g.kinds.now g.labels.now g.node-table.now g.leaves.now
-                g.inner.now g.s g.k g.state-table.now s.requires,
+            node-some g.kinds.now g.labels.now g.node_table.now g.leaves.now
+                g.inner.now g.s g.k g.state_table.now s.requires,
           )),
       s.requires.room,
     )
 
-returns-3 : tie.Need-returns-3
+returns-3 : tie.Need-returns-then-not-root_row_is
 returns-3 c =
     let d = c.before.before.before.before.before.before.before.before in
     let s = d.before.before.before.before.before in
     let g = s.args in
-    root-row-no g.kinds.now g.labels.now g.node-table.now g.leaves.now g.inner.now g.s g.k
-    g.state-table.now s.requires
-    (sym c.before.root-row-is.ensures ∙ not-true c.before.root-row-is.result c.if3.true)
+    root-row-no g.kinds.now g.labels.now g.node_table.now g.leaves.now g.inner.now g.s g.k
+    g.state_table.now s.requires
+    (sym c.before.root_row_is.ensures ∙ not-true c.before.root_row_is.result c.if-not-root_row_is.true-raw)
 
-blocks-match-requires : tie.Need-blocks-match-requires
+blocks-match-requires : tie.Need-blocks_match-requires
 blocks-match-requires c κs =
     let d = c.before.before.before.before.before.before.before.before in
     let s = d.before.before.before.before.before.before.before.before.before in
     let g = s.args in
-    let a = c.before.before.before.before.before.before.before.before.before.all-below in
-    let e = c.before.before.before.before.before.before.before.before.if1 in (
+    let a = c.before.before.before.before.before.before.before.before.before.all_below in
+    let e = c.before.before.before.before.before.before.before.before.if-not-all_below in (
       record {
-        table = room_of g.kinds.now g.labels.now g.node-table.now g.leaves.now g.inner.now g.s
+        table = room_of g.kinds.now g.labels.now g.node_table.now g.leaves.now g.inner.now g.s
             g.k
-            g.state-table.now s.requires (sym a.ensures ∙ not-false a.result e.false);
+            g.state_table.now s.requires (sym a.ensures ∙ not-false a.result e.false);
         kinds = kinds-of g.kinds.now s.requires.postorder;
-        fits = omega (arith, c.before.before.empty-list.ensures);
+        fits = omega (arith, c.before.before.empty_list-list.ensures);
       },
-      c.before.before.before.jump-lengths.ensures,
+      c.before.before.before.jump_lengths-lengths.ensures,
     )
 
-returns-4 : tie.Need-returns-4
+returns-4 : tie.Need-returns
 returns-4 c =
     let d = c.before.before.before.before.before.before.before.before in
     let s = d.before.before.before.before.before.before.before.before.before.before.before in
     let g = s.args in
-    let x = c.before.before.before.before.before.before.before.before.before.root-node-is in
-    let y = c.before.before.before.before.before.before.before.root-row-is in
-    let m = c.before.blocks-match in
-    nodes-tell g.kinds.now g.labels.now g.node-table.now g.leaves.now g.inner.now g.s g.k
-    g.state-table.now s.requires
+    let x = c.before.before.before.before.before.before.before.before.before.root_node_is in
+    let y = c.before.before.before.before.before.before.before.root_row_is in
+    let m = c.before.blocks_match in
+    nodes-tell g.kinds.now g.labels.now g.node_table.now g.leaves.now g.inner.now g.s g.k
+    g.state_table.now s.requires
     (sym x.ensures ∙ not-false x.result
-    c.before.before.before.before.before.before.before.before.if2.false)
-    (sym y.ensures ∙ not-false y.result c.before.before.before.before.before.before.if3.false)
+    c.before.before.before.before.before.before.before.before.if-not-root_node_is.false-raw)
+    (sym y.ensures ∙ not-false y.result c.before.before.before.before.before.before.if-not-root_row_is.false-raw)
     m.result m.ensures
 
-pub tables-match-spec : {M : Type 1} → statement M
-tables-match-spec =
+pub tables_match_spec : {M : Type 1} → statement M
+tables_match_spec =
     tie.close
     (tie.spec (λ c. search rules) (λ c. search rules) slice-aggregate-all-below (λ c. search rules)
     (λ c κs. search rules) returns sub-root-node-is root-node-is-requires returns-2 sub-root-row-is

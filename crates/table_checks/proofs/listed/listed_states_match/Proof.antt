@@ -13,48 +13,48 @@ use borrow.Author.Rules.{rules}
 use Rattle.table_checks.proofs.listed.listed_states_match.Statement.{statement}
 use Rattle.table_checks.proofs.listed.listed_states_match.Tie as tie
 
-abbrev invariant-loop : tie.invariant-loop
+abbrev invariant-loop : tie.invariant-loop-i
 invariant-loop labels node_table leaves inner s k n state_table list c bad₀ i₀ bad i =
     (i ≤ c) × (eqb bad 0 ≡ every i (λ x. pair_states labels node_table inner s k n state_table (get_or list x 0)))
 
-abbrev decreases-loop : tie.decreases-loop
+abbrev decreases-loop : tie.decreases-loop-i
 decreases-loop labels node_table leaves inner s k n state_table list c bad₀ i₀ bad i = c - i
 
-loop-holds : tie.Need-loop-init invariant-loop decreases-loop
+loop-holds : tie.Need-loop-i-init invariant-loop decreases-loop
 unfolding every
 loop-holds c = (omega arith, refl)
 
-cast-v : tie.Need-overflow-cast-v invariant-loop decreases-loop
-cast-v c = omega (arith, c.shared-slice-known7.given c.before.before.loop.i)
+cast-v : tie.Need-overflow_cast-v invariant-loop decreases-loop
+cast-v c = omega (arith, c.shared_slice_known-in-loop-i-1.given c.before.before.loop-i.i)
 
-pair-differences-requires : tie.Need-pair-differences-requires invariant-loop decreases-loop
+pair-differences-requires : tie.Need-pair_differences-states-requires invariant-loop decreases-loop
 pair-differences-requires c κs =
     let s = c.before.before.before.before.before.before.before.before.before in
-    let i = c.before.before.loop.i in
-    let h = c.before.loop-test.true in
+    let i = c.before.before.loop-i.i in
+    let h = c.before.loop-i-test.true in
     record { table = s.requires.table; pos = s.requires.pos i h; inside = s.requires.inside i h }
 
-loop-again : tie.Need-loop-preserved invariant-loop decreases-loop
+loop-again : tie.Need-loop-i-preserved invariant-loop decreases-loop
 loop-again c =
     let g = c.before.before.before.before.before.before.before.before.before.before.args in
-    let l = c.before.before.before.loop in
-    let f : ℕ → Bool = (λ x. pair_states g.labels.now g.node-table.now g.inner.now g.s g.k g.n
-    g.state-table.now (get_or g.list.now x 0)) in (
-      omega (arith, c.before.before.loop-test.true),
-      or-more l.i f l.bad c.pair-differences.result l.invariant.1 c.pair-differences.ensures,
+    let l = c.before.before.before.loop-i in
+    let f : ℕ → Bool = (λ x. pair_states g.labels.now g.node_table.now g.inner.now g.s g.k g.n
+    g.state_table.now (get_or g.list.now x 0)) in (
+      omega (arith, c.before.before.loop-i-test.true),
+      or-more l.i f l.bad c.pair_differences-states.result l.invariant.1 c.pair_differences-states.ensures,
     )
 
 returns : tie.Need-returns invariant-loop decreases-loop
 returns c =
     let g = c.before.before.before.before.before.before.before.before.args in
-    let l = c.before.loop in
-    let f : ℕ → Bool = (λ x. pair_states g.labels.now g.node-table.now g.inner.now g.s g.k g.n
-    g.state-table.now (get_or g.list.now x 0)) in
-    let z : l.i ≡ g.c = omega (arith, l.invariant.0, c.loop-test.false) in
+    let l = c.before.loop-i in
+    let f : ℕ → Bool = (λ x. pair_states g.labels.now g.node_table.now g.inner.now g.s g.k g.n
+    g.state_table.now (get_or g.list.now x 0)) in
+    let z : l.i ≡ g.c = omega (arith, l.invariant.0, c.loop-i-test.false) in
     l.invariant.1 ∙ ap (λ (x : ℕ). every x f) z
 
-pub listed-states-match-spec : {M : Type 1} → statement M
-listed-states-match-spec =
+pub listed_states_match_spec : {M : Type 1} → statement M
+listed_states_match_spec =
     tie.close
     (tie.spec invariant-loop decreases-loop loop-holds (λ c. search rules) (λ c. search rules) cast-v pair-differences-requires
     (λ c. search rules) (λ c. search rules) loop-again returns)

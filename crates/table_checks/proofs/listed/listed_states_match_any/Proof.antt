@@ -9,47 +9,47 @@ use borrow.Author.Rules.{rules}
 use Rattle.table_checks.proofs.listed.listed_states_match_any.Statement.{statement}
 use Rattle.table_checks.proofs.listed.listed_states_match_any.Tie as tie
 
-listed-states-match2-requires : tie.Need-listed-states-match2-requires
+listed-states-match2-requires : tie.Need-listed_states_match2-requires
 listed-states-match2-requires c κs =
     let s = c.before.before.before.before.before.before.before in
     let g = s.args in
     subst
-    (λ (x : ℕ). PairsArgs g.labels.now g.node-table.now g.leaves.now g.inner.now x g.k g.n
-    g.state-table.now g.list.now g.c)
-    c.if1.true s.requires
+    (λ (x : ℕ). PairsArgs g.labels.now g.node_table.now g.leaves.now g.inner.now x g.k g.n
+    g.state_table.now g.list.now g.c)
+    c.if-s-eq2.true s.requires
 
-returns : tie.Need-returns
+returns : tie.Need-returns-then-s-eq2
 returns c =
     let g = c.before.before.before.before.before.before.before.before.args in
-    c.listed-states-match2.ensures
+    c.listed_states_match2.ensures
     ∙ ap
-    (λ (y : ℕ). every g.c (λ i. pair_states g.labels.now g.node-table.now g.inner.now y g.k g.n
-    g.state-table.now (get_or g.list.now i 0)))
-    (sym c.before.if1.true)
+    (λ (y : ℕ). every g.c (λ i. pair_states g.labels.now g.node_table.now g.inner.now y g.k g.n
+    g.state_table.now (get_or g.list.now i 0)))
+    (sym c.before.if-s-eq2.true)
 
-listed-states-match16-requires : tie.Need-listed-states-match16-requires
+listed-states-match16-requires : tie.Need-listed_states_match16-requires
 listed-states-match16-requires c κs =
     let s = c.before.before.before.before.before.before.before.before in
     let g = s.args in
     subst
-    (λ (x : ℕ). PairsArgs g.labels.now g.node-table.now g.leaves.now g.inner.now x g.k g.n
-    g.state-table.now g.list.now g.c)
-    c.if2.true s.requires
+    (λ (x : ℕ). PairsArgs g.labels.now g.node_table.now g.leaves.now g.inner.now x g.k g.n
+    g.state_table.now g.list.now g.c)
+    c.if-s-eq16.true s.requires
 
-returns-2 : tie.Need-returns-2
+returns-2 : tie.Need-returns-then-s-eq16
 returns-2 c =
     let g = c.before.before.before.before.before.before.before.before.before.args in
-    c.listed-states-match16.ensures
+    c.listed_states_match16.ensures
     ∙ ap
-    (λ (y : ℕ). every g.c (λ i. pair_states g.labels.now g.node-table.now g.inner.now y g.k g.n
-    g.state-table.now (get_or g.list.now i 0)))
-    (sym c.before.if2.true)
+    (λ (y : ℕ). every g.c (λ i. pair_states g.labels.now g.node_table.now g.inner.now y g.k g.n
+    g.state_table.now (get_or g.list.now i 0)))
+    (sym c.before.if-s-eq16.true)
 
-returns-3 : tie.Need-returns-3
-returns-3 c = c.listed-states-match.ensures
+returns-3 : tie.Need-returns
+returns-3 c = c.listed_states_match.ensures
 
-pub listed-states-match-any-spec : {M : Type 1} → statement M
-listed-states-match-any-spec =
+pub listed_states_match_any_spec : {M : Type 1} → statement M
+listed_states_match_any_spec =
     tie.close
     (tie.spec listed-states-match2-requires returns listed-states-match16-requires returns-2 (λ c κs. search rules)
     returns-3)

@@ -5,35 +5,35 @@ use Rattle.table_checks.proofs.PairStateLaws.{rows-args-of, pair_is, step_small}
 use Rattle.table_checks.proofs.rows2.pair_differences2.Statement.{statement}
 use Rattle.table_checks.proofs.rows2.pair_differences2.Tie as tie
 
-mul-row-differences2 : tie.Need-overflow-mul-row-differences2
+mul-row-differences2 : tie.Need-overflow_mul-k
 mul-row-differences2 c =
     let s = c.before.before.before.before.before.before in
     let g = s.args in
     omega (
       arith,
-      step_small g.labels.now g.node-table.now g.leaves.now g.inner.now 2 g.k g.n
-          g.state-table.now s.requires.table,
+      step_small g.labels.now g.node_table.now g.leaves.now g.inner.now 2 g.k g.n
+          g.state_table.now s.requires.table,
     )
 
-row-differences2-requires : tie.Need-row-differences2-requires
+row-differences2-requires : tie.Need-row_differences2-rows-requires
 row-differences2-requires c κs =
     let s = c.before.before.before.before.before.before in
     let g = s.args in
-    let p = c.pair-at in
-    rows-args-of g.labels.now g.node-table.now g.leaves.now g.inner.now 2 g.k g.n
-    g.state-table.now s.requires.table g.v s.requires.pos s.requires.inside p.result.left p.result.row
+    let p = c.pair_at-pair in
+    rows-args-of g.labels.now g.node_table.now g.leaves.now g.inner.now 2 g.k g.n
+    g.state_table.now s.requires.table g.v s.requires.pos s.requires.inside p.result.left p.result.row
     p.result.col p.ensures.left_is p.ensures.row_is p.ensures.col_is
 
 returns : tie.Need-returns
 returns c =
     let s = c.before.before.before.before.before.before.before.before in
     let g = s.args in
-    let p = c.before.before.pair-at in
-    let r = c.before.row-differences2 in
-    pair_is g.labels.now g.node-table.now g.leaves.now g.inner.now 2 g.k g.n
-    g.state-table.now s.requires.table g.v s.requires.pos s.requires.inside p.result.left p.result.row
+    let p = c.before.before.pair_at-pair in
+    let r = c.before.row_differences2-rows in
+    pair_is g.labels.now g.node_table.now g.leaves.now g.inner.now 2 g.k g.n
+    g.state_table.now s.requires.table g.v s.requires.pos s.requires.inside p.result.left p.result.row
     p.result.col p.result.state p.ensures r.result r.ensures
 
-pub pair-differences2-spec : {M : Type 1} → statement M
-pair-differences2-spec =
+pub pair_differences2_spec : {M : Type 1} → statement M
+pair_differences2_spec =
     tie.close (tie.spec (λ c κs. search rules) mul-row-differences2 row-differences2-requires returns)

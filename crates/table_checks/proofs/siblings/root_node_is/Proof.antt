@@ -9,8 +9,8 @@ returns : tie.Need-returns
 unfolding root_node
 returns c = refl
 
-pub root-node-is-spec : {M : Type 1} → statement M
-root-node-is-spec =
+pub root_node_is_spec : {M : Type 1} → statement M
+root_node_is_spec =
     tie.close
     (tie.spec (λ c. search rules) (λ c. search rules) (λ c. search rules) (λ c. search rules) (λ c. search rules)
     (λ c. search rules) (λ c. search rules) (λ c. search rules) (λ c. search rules) (λ c. search rules)

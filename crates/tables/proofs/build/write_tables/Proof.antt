@@ -5,20 +5,20 @@ use borrow.Author.Rules.{rules}
 use Rattle.tables.proofs.build.write_tables.Statement.{statement}
 use Rattle.tables.proofs.build.write_tables.Tie as tie
 
-build-node-table-requires : tie.Need-build-node-table-requires
+build-node-table-requires : tie.Need-build_node_table-requires
 build-node-table-requires c κs =
     let s = c.before.before.before.before.before.before.before in
-    link-args-of s.args.plan.now s.args.rules.now s.args.node-table.now s.args.state-table.now s.args.n
+    link-args-of s.args.plan.now s.args.rules.now s.args.node_table-1.now s.args.state_table-1.now s.args.n
     s.args.s s.args.k s.requires
 
-write-states-requires : tie.Need-write-states-requires
+write-states-requires : tie.Need-write_states-requires
 write-states-requires c κs =
     let l = c.before.before.before.before.before.before.before.before in
     let i = l.before.before.before in
     let s = i.before.before.before.before.before in
-    table-args-of s.args.plan.now s.args.rules.now s.args.node-table.now s.args.state-table.now s.args.n
+    table-args-of s.args.plan.now s.args.rules.now s.args.node_table-1.now s.args.state_table-1.now s.args.n
     s.args.s s.args.k s.requires
-    l.build-node-table.new.1.0 (omega arith) l.build-node-table.ensures i.inner_count.result
+    l.build_node_table.new.1.0 (omega arith) l.build_node_table.ensures i.inner_count.result
     i.inner_count.ensures.value
 
 returns : tie.Need-returns
@@ -27,14 +27,14 @@ returns c =
     let l = w.before.before.before.before.before.before.before.before.before in
     let i = l.before.before.before in
     let s = i.before.before.before.before.before in
-    both-written-of s.args.plan.now s.args.rules.now s.args.node-table.now s.args.state-table.now s.args.n
+    both-written-of s.args.plan.now s.args.rules.now s.args.node_table-1.now s.args.state_table-1.now s.args.n
     s.args.s s.args.k s.requires
-    l.build-node-table.new.1.0 (omega arith) l.build-node-table.ensures i.inner_count.result
+    l.build_node_table.new.1.0 (omega arith) l.build_node_table.ensures i.inner_count.result
     i.inner_count.ensures.value
-    w.write-states.new.1.1.1.1.1.1.1.0 w.write-states.ensures
+    w.write_states.new.1.1.1.1.1.1.1.0 w.write_states.ensures
 
-pub write-tables-spec : {M : Type 1} → statement M
-write-tables-spec =
+pub write_tables_spec : {M : Type 1} → statement M
+write_tables_spec =
     tie.close
     (tie.spec (λ c. search rules) (λ c κs. search rules) (λ c. search rules) (λ c. search rules) (λ c. search rules)
     (λ c. search rules) (λ c. search rules) build-node-table-requires (λ c. search rules) (λ c. search rules)

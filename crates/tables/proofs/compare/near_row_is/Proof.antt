@@ -11,50 +11,50 @@ use borrow.Author.Rules.{rules}
 use Rattle.tables.proofs.compare.near_row_is.Statement.{statement}
 use Rattle.tables.proofs.compare.near_row_is.Tie as tie
 
-abbrev invariant-loop : tie.invariant-loop
+abbrev invariant-loop : tie.invariant-loop-q
 invariant-loop state_table s v table base stride at same₀ q₀ same q =
     (q ≤ s) × (same ≡ every q (λ x. eqb (map_cell s state_table v x) (near_entry table base stride x)))
 
-abbrev decreases-loop : tie.decreases-loop
+abbrev decreases-loop : tie.decreases-loop-q
 decreases-loop state_table s v table base stride at same₀ q₀ same q = s - q
 
-loop-holds : tie.Need-loop-init invariant-loop decreases-loop
+loop-holds : tie.Need-loop-q-init invariant-loop decreases-loop
 unfolding every
 loop-holds c = (omega arith, refl)
 
-mul-y : tie.Need-overflow-mul-y invariant-loop decreases-loop
+mul-y : tie.Need-overflow_mul-y invariant-loop decreases-loop
 mul-y c =
-    omega (arith, c.before.before.before.requires.inside c.before.before.loop.q c.before.loop-test.true)
+    omega (arith, c.before.before.before.requires.inside c.before.before.loop-q.q c.before.loop-q-test.true)
 
-add-y : tie.Need-overflow-add-y invariant-loop decreases-loop
+add-y : tie.Need-overflow_add-y invariant-loop decreases-loop
 add-y c =
-    omega (arith, c.before.before.before.requires.inside c.before.before.loop.q c.before.loop-test.true)
+    omega (arith, c.before.before.before.requires.inside c.before.before.loop-q.q c.before.loop-q-test.true)
 
-shared-slice-read-y : tie.Need-shared-slice-read-y invariant-loop decreases-loop
+shared-slice-read-y : tie.Need-bounds-table-base invariant-loop decreases-loop
 shared-slice-read-y c =
     c.before.before.before.before.requires.inside
-    c.before.before.before.loop.q c.before.before.loop-test.true
+    c.before.before.before.loop-q.q c.before.before.loop-q-test.true
 
-loop-again : tie.Need-loop-preserved invariant-loop decreases-loop
+loop-again : tie.Need-loop-q-preserved invariant-loop decreases-loop
 loop-again c =
-    let l = c.before.before.before.before.loop in
+    let l = c.before.before.before.before.loop-q in
     let a = c.before.before.before.before.before.args in
     let g : ℕ → ℕ = near_entry a.table.now a.base a.stride in (
       omega arith,
-      elim c.if1.branch [
-        | inl w ↦ w.1 ∙ every-other l.q (map_cell a.s a.state-table.now a.v) g w.0.taken
-        | inr w ↦ w.1 ∙ every-same l.q (map_cell a.s a.state-table.now a.v) g l.same l.invariant.1 w.0.left
+      elim c.if-x-y.branch [
+        | inl w ↦ w.1 ∙ every-other l.q (map_cell a.s a.state_table.now a.v) g w.0.taken
+        | inr w ↦ w.1 ∙ every-same l.q (map_cell a.s a.state_table.now a.v) g l.same l.invariant.1 w.0.left
       ],
     )
 
 returns : tie.Need-returns invariant-loop decreases-loop
 returns c =
     let a = c.before.before.args in
-    let e : c.before.loop.q ≡ a.s = omega arith in
-    rw e at c.before.loop.invariant.1
+    let e : c.before.loop-q.q ≡ a.s = omega arith in
+    rw e at c.before.loop-q.invariant.1
 
-pub near-row-is-spec : {M : Type 1} → statement M
-near-row-is-spec =
+pub near_row_is_spec : {M : Type 1} → statement M
+near_row_is_spec =
     tie.close
     (tie.spec invariant-loop decreases-loop (λ c. search rules) (λ c. search rules) loop-holds (λ c. search rules)
     (λ c. search rules) (λ c. search rules) mul-y add-y shared-slice-read-y (λ c. search rules) (λ c. search rules)

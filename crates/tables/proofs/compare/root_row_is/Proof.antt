@@ -11,42 +11,42 @@ use borrow.Author.Rules.{rules}
 use Rattle.tables.proofs.compare.root_row_is.Statement.{statement}
 use Rattle.tables.proofs.compare.root_row_is.Tie as tie
 
-abbrev invariant-loop : tie.invariant-loop
+abbrev invariant-loop : tie.invariant-loop-q
 invariant-loop state_table s v at same₀ q₀ same q =
     (q ≤ s) × (same ≡ every q (λ x. eqb (map_cell s state_table v x) (x)))
 
-abbrev decreases-loop : tie.decreases-loop
+abbrev decreases-loop : tie.decreases-loop-q
 decreases-loop state_table s v at same₀ q₀ same q = s - q
 
-loop-holds : tie.Need-loop-init invariant-loop decreases-loop
+loop-holds : tie.Need-loop-q-init invariant-loop decreases-loop
 unfolding every
 loop-holds c = (omega arith, refl)
 
-cast-x : tie.Need-overflow-cast-x invariant-loop decreases-loop
+cast-x : tie.Need-overflow_cast-x invariant-loop decreases-loop
 cast-x c =
     let a = c.before.before.before.args in
-    omega (arith, c.shared-slice-known.given (a.v * (a.s + 1) + (1 + c.before.before.loop.q)))
+    omega (arith, c.shared_slice_known-1.given (a.v * (a.s + 1) + (1 + c.before.before.loop-q.q)))
 
-loop-again : tie.Need-loop-preserved invariant-loop decreases-loop
+loop-again : tie.Need-loop-q-preserved invariant-loop decreases-loop
 loop-again c =
-    let l = c.before.before.before.loop in
+    let l = c.before.before.before.loop-q in
     let a = c.before.before.before.before.args in (
       omega arith,
-      elim c.if1.branch [
-        | inl w ↦ w.1 ∙ every-other l.q (map_cell a.s a.state-table.now a.v) (λ x. x) w.0.taken
+      elim c.if-x-q.branch [
+        | inl w ↦ w.1 ∙ every-other l.q (map_cell a.s a.state_table.now a.v) (λ x. x) w.0.taken
         | inr w ↦ w.1
-            ∙ every-same l.q (map_cell a.s a.state-table.now a.v) (λ x. x) l.same l.invariant.1 w.0.left
+            ∙ every-same l.q (map_cell a.s a.state_table.now a.v) (λ x. x) l.same l.invariant.1 w.0.left
       ],
     )
 
 returns : tie.Need-returns invariant-loop decreases-loop
 returns c =
     let a = c.before.before.args in
-    let e : c.before.loop.q ≡ a.s = omega arith in
-    rw e at c.before.loop.invariant.1
+    let e : c.before.loop-q.q ≡ a.s = omega arith in
+    rw e at c.before.loop-q.invariant.1
 
-pub root-row-is-spec : {M : Type 1} → statement M
-root-row-is-spec =
+pub root_row_is_spec : {M : Type 1} → statement M
+root_row_is_spec =
     tie.close
     (tie.spec invariant-loop decreases-loop (λ c. search rules) (λ c. search rules) loop-holds (λ c. search rules)
     (λ c. search rules) (λ c. search rules) cast-x (λ c. search rules) (λ c. search rules) loop-again returns)

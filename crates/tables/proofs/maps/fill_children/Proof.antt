@@ -17,53 +17,53 @@ by_count e ls b inn k v st after =
     subst (λ (y : ℕ). PairRowed y (right_value ls b inn y k st v) (left_value ls b inn y k st v) (v - 1) (left_of b v) st
     after) e
 
-fill-pair-requires : tie.Need-fill-pair-requires
+fill-pair-requires : tie.Need-fill_pair-requires
 fill-pair-requires c κs =
     let s = c.before.before.before.before.before.before in
     let g = s.args in
-    subst (λ (x : ℕ). PairArgs g.labels.now g.node-table.now g.inner.now x g.k g.state-table.now
-    g.v) c.before.if1.true s.requires
+    subst (λ (x : ℕ). PairArgs g.labels.now g.node_table.now g.inner.now x g.k g.state_table-1.now
+    g.v) c.before.if-s-eq2.true s.requires
 
-returns : tie.Need-returns
+returns : tie.Need-returns-then-s-eq2
 returns c =
     let f = c.before.before in
     let t = f.before.before in
     let g = t.before.before.before.before.before.args in
-    by_count (sym t.if1.true) g.labels.now g.node-table.now g.inner.now g.k g.v
-    g.state-table.now f.fill-pair.new.1.1.1.1.1.1.0 f.fill-pair.ensures
+    by_count (sym t.if-s-eq2.true) g.labels.now g.node_table.now g.inner.now g.k g.v
+    g.state_table-1.now f.fill_pair.new.1.1.1.1.1.1.0 f.fill_pair.ensures
 
-fill-pair-requires-2 : tie.Need-fill-pair-requires-2
+fill-pair-requires-2 : tie.Need-fill_pair-requires-then-s-eq4
 fill-pair-requires-2 c κs =
     let s = c.before.before.before.before.before.before.before in
     let g = s.args in
-    subst (λ (x : ℕ). PairArgs g.labels.now g.node-table.now g.inner.now x g.k g.state-table.now
-    g.v) c.before.if2.true s.requires
+    subst (λ (x : ℕ). PairArgs g.labels.now g.node_table.now g.inner.now x g.k g.state_table-1.now
+    g.v) c.before.if-s-eq4.true s.requires
 
-returns-2 : tie.Need-returns-2
+returns-2 : tie.Need-returns-then-s-eq4
 returns-2 c =
     let f = c.before.before in
     let t = f.before.before in
     let g = t.before.before.before.before.before.before.args in
-    by_count (sym t.if2.true) g.labels.now g.node-table.now g.inner.now g.k g.v
-    g.state-table.now f.fill-pair2.new.1.1.1.1.1.1.0 f.fill-pair2.ensures
+    by_count (sym t.if-s-eq4.true) g.labels.now g.node_table.now g.inner.now g.k g.v
+    g.state_table-1.now f.fill_pair-then-s-eq4.new.1.1.1.1.1.1.0 f.fill_pair-then-s-eq4.ensures
 
-fill-pair-requires-3 : tie.Need-fill-pair-requires-3
+fill-pair-requires-3 : tie.Need-fill_pair-requires-then-s-eq8
 fill-pair-requires-3 c κs =
     let s = c.before.before.before.before.before.before.before.before in
     let g = s.args in
-    subst (λ (x : ℕ). PairArgs g.labels.now g.node-table.now g.inner.now x g.k g.state-table.now
-    g.v) c.before.if3.true s.requires
+    subst (λ (x : ℕ). PairArgs g.labels.now g.node_table.now g.inner.now x g.k g.state_table-1.now
+    g.v) c.before.if-s-eq8.true s.requires
 
-returns-3 : tie.Need-returns-3
+returns-3 : tie.Need-returns-then-s-eq8
 returns-3 c =
     let f = c.before.before in
     let t = f.before.before in
     let g = t.before.before.before.before.before.before.before.args in
-    by_count (sym t.if3.true) g.labels.now g.node-table.now g.inner.now g.k g.v
-    g.state-table.now f.fill-pair3.new.1.1.1.1.1.1.0 f.fill-pair3.ensures
+    by_count (sym t.if-s-eq8.true) g.labels.now g.node_table.now g.inner.now g.k g.v
+    g.state_table-1.now f.fill_pair-then-s-eq8.new.1.1.1.1.1.1.0 f.fill_pair-then-s-eq8.ensures
 
-pub fill-children-spec : {M : Type 1} → statement M
-fill-children-spec =
+pub fill_children_spec : {M : Type 1} → statement M
+fill_children_spec =
     tie.close
     (tie.spec fill-pair-requires (λ c. search rules) returns fill-pair-requires-2 (λ c. search rules) returns-2
     fill-pair-requires-3 (λ c. search rules) returns-3 (λ c κs. search rules) (λ c. search rules)

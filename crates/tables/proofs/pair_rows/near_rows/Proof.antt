@@ -15,8 +15,8 @@ returns c =
     let g = s.args in
     pair-rowed g.s (λ q. get_or g.table.now (g.row + q * 1) 0)
     (λ q. get_or g.table.now (g.col + q * g.step) 0)
-    g.right g.left g.state-table.now r.near-row.new.0 l.near-row2.new.0 s.requires.apart
-    r.near-row.ensures l.near-row2.ensures
+    g.right g.left g.state_table-1.now r.near_row.new.0 l.near_row-2.new.0 s.requires.apart
+    r.near_row.ensures l.near_row-2.ensures
 
-pub near-rows-spec : {M : Type 1} → statement M
-near-rows-spec = tie.close (tie.spec (λ c κs. search rules) (λ c κs. search rules) (λ c. search rules) returns)
+pub near_rows_spec : {M : Type 1} → statement M
+near_rows_spec = tie.close (tie.spec (λ c κs. search rules) (λ c κs. search rules) (λ c. search rules) returns)

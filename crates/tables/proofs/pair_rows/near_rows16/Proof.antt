@@ -9,7 +9,7 @@ use borrow.Author.Rules.{rules}
 use Rattle.tables.proofs.pair_rows.near_rows16.Statement.{statement}
 use Rattle.tables.proofs.pair_rows.near_rows16.Tie as tie
 
-sixteen-requires : tie.Need-sixteen-requires
+sixteen-requires : tie.Need-sixteen-line-requires
 sixteen-requires c κs = omega (arith, c.before.before.requires.right.inside 15 (omega arith))
 
 returns : tie.Need-returns
@@ -19,16 +19,16 @@ returns c =
     let x = r.before.before.before in
     let s = x.before.before.before in
     let g = s.args in
-    pair-ext 16 (λ q. get_or x.sixteen.result (0 + q * 1) 0) (λ q. get_or g.table.now (g.row + q * 1) 0)
+    pair-ext 16 (λ q. get_or x.sixteen-line.result (0 + q * 1) 0) (λ q. get_or g.table.now (g.row + q * 1) 0)
     (λ q. get_or g.table.now (g.col + q * g.step) 0) (λ q. get_or g.table.now (g.col + q * g.step) 0)
-    g.right g.left g.state-table.now l.near-row2.new.0
-    (λ q h. line-entry x.sixteen.result g.table.now g.row q (x.sixteen.ensures.1 q h)) (λ q h. refl)
-    (pair-rowed 16 (λ q. get_or x.sixteen.result (0 + q * 1) 0)
-    (λ q. get_or g.table.now (g.col + q * g.step) 0) g.right g.left g.state-table.now
-    r.near-row.new.0 l.near-row2.new.0 s.requires.apart r.near-row.ensures l.near-row2.ensures)
+    g.right g.left g.state_table-1.now l.near_row-2.new.0
+    (λ q h. line-entry x.sixteen-line.result g.table.now g.row q (x.sixteen-line.ensures.1 q h)) (λ q h. refl)
+    (pair-rowed 16 (λ q. get_or x.sixteen-line.result (0 + q * 1) 0)
+    (λ q. get_or g.table.now (g.col + q * g.step) 0) g.right g.left g.state_table-1.now
+    r.near_row.new.0 l.near_row-2.new.0 s.requires.apart r.near_row.ensures l.near_row-2.ensures)
 
-pub near-rows16-spec : {M : Type 1} → statement M
-near-rows16-spec =
+pub near_rows16_spec : {M : Type 1} → statement M
+near_rows16_spec =
     tie.close
     (tie.spec sixteen-requires (λ c. search rules) (λ c κs. search rules) (λ c κs. search rules) (λ c. search rules)
     returns)

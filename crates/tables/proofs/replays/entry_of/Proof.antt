@@ -7,13 +7,13 @@ use Rattle.tables.proofs.replays.entry_of.Tie as tie
 use Rattle.tables.proofs.replays.entry_of.Reads as reads
 use Rattle.tables.proofs.replays.entry_of.Lts as lts
 
-returns : tie.Need-returns
+returns : tie.Need-returns-then-s-x
 returns c =
-    record { entry = rw (below-no _ _ c.if1.true) (below-no _ 255 (omega (arith, c.before.requires.few))) }
+    record { entry = rw (below-no _ _ c.if-s-x.true) (below-no _ 255 (omega (arith, c.before.requires.few))) }
 
-returns-2 : tie.Need-returns-2
+returns-2 : tie.Need-returns
 returns-2 c =
-    record { entry = rw (below-yes _ _ c.before.if1.false) }
+    record { entry = rw (below-yes _ _ c.before.if-s-x.false) }
 
-pub entry-of-spec : {M : Type 1} → statement M
-entry-of-spec = tie.close (tie.spec returns (λ c. search rules) returns-2)
+pub entry_of_spec : {M : Type 1} → statement M
+entry_of_spec = tie.close (tie.spec returns (λ c. search rules) returns-2)

@@ -9,29 +9,29 @@ use Rattle.tables.proofs.replays.note_move.Reads as reads
 use Rattle.tables.proofs.replays.note_move.Lts as lts
 use Rattle.tables.proofs.node_tables.moves.next_move.Reads as next-move-reads
 
-returns : tie.Need-returns
+returns : tie.Need-returns-in-Jump
 returns c =
     let s = c.before.before.before.before.before in
     let g = s.args in
-    note-jump (cell_forest g.n g.node-table.now) g.v g.to c.before.j.given.0.0
-    (sym c.before.j.given.1 ∙ c.before.before.before.next-move.ensures)
+    note-jump (cell_forest g.n g.node_table.now) g.v g.to c.before.j-1.given.0.0
+    (sym c.before.j-1.given.1 ∙ c.before.before.before.next_move.ensures)
 
-returns-2 : tie.Need-returns-2
+returns-2 : tie.Need-returns-in-Parent
 returns-2 c =
     let s = c.before.before.before.before.before in
     let g = s.args in
-    note-parent (cell_forest g.n g.node-table.now) g.v g.to c.before.p.given.0.0
-    (sym c.before.p.given.1 ∙ c.before.before.before.next-move.ensures)
+    note-parent (cell_forest g.n g.node_table.now) g.v g.to c.before.p-1.given.0.0
+    (sym c.before.p-1.given.1 ∙ c.before.before.before.next_move.ensures)
 
-returns-3 : tie.Need-returns-3
+returns-3 : tie.Need-returns-in-Stuck
 returns-3 c =
     let s = c.before.before.before.before in
     let g = s.args in
-    note-stuck (cell_forest g.n g.node-table.now) g.v g.to
-    (sym c.enum_told.given.1 ∙ c.before.before.next-move.ensures)
+    note-stuck (cell_forest g.n g.node_table.now) g.v g.to
+    (sym c.enum_told-1.given.1 ∙ c.before.before.next_move.ensures)
 
-pub note-move-spec : {M : Type 1} → statement M
-note-move-spec =
+pub note_move_spec : {M : Type 1} → statement M
+note_move_spec =
     tie.close
     (tie.spec (λ c κs. search rules) (λ c. search rules) (λ c. search rules) (λ c. search rules) (λ c. search rules)
     (λ c. search rules) (λ c. search rules) (λ c. search rules) (λ c. search rules) returns returns-2 returns-3)

@@ -5,23 +5,23 @@ use borrow.Author.Rules.{rules}
 use Rattle.tables.proofs.tables.write_states.Statement.{statement}
 use Rattle.tables.proofs.tables.write_states.Tie as tie
 
-fill-maps-requires : tie.Need-fill-maps-requires
+fill-maps-requires : tie.Need-fill_maps-requires
 fill-maps-requires c κs =
     let r = c.before.before.before in
     let s = r.before.before.before.before.before.before.before.before in
-    map-args s.args.kinds.now s.args.labels.now s.args.node-table.now s.args.leaves.now
+    map-args s.args.kinds.now s.args.labels.now s.args.node_table.now s.args.leaves.now
     s.args.inner.now s.args.s s.args.k
-    s.args.state-table.now r.run-states.new.1.1.1.1.1.1.1.0 s.requires r.run-states.ensures (omega arith)
+    s.args.state_table-1.now r.run_states.new.1.1.1.1.1.1.1.0 s.requires r.run_states.ensures (omega arith)
 
 returns : tie.Need-returns
 returns c =
     let f = c.before.before in
     let r = f.before.before.before.before in
     let s = r.before.before.before.before.before.before.before.before in
-    states-over s.args.kinds.now s.args.labels.now s.args.node-table.now s.args.leaves.now
+    states-over s.args.kinds.now s.args.labels.now s.args.node_table.now s.args.leaves.now
     s.args.inner.now s.args.s s.args.k
-    s.args.state-table.now r.run-states.new.1.1.1.1.1.1.1.0 s.requires r.run-states.ensures
-    f.fill-maps.new.1.1.1.1.1.1.0 (omega arith) f.fill-maps.ensures
+    s.args.state_table-1.now r.run_states.new.1.1.1.1.1.1.1.0 s.requires r.run_states.ensures
+    f.fill_maps.new.1.1.1.1.1.1.0 (omega arith) f.fill_maps.ensures
 
-pub write-states-spec : {M : Type 1} → statement M
-write-states-spec = tie.close (tie.spec (λ c κs. search rules) fill-maps-requires (λ c. search rules) returns)
+pub write_states_spec : {M : Type 1} → statement M
+write_states_spec = tie.close (tie.spec (λ c κs. search rules) fill-maps-requires (λ c. search rules) returns)

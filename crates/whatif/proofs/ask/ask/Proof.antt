@@ -14,7 +14,7 @@ returns c =
     let e = c.before.before in
     let d = e.before.before in
     let a = d.before.before.before.before.before.before.before.args in
-    let x = inputs_of a.plan.now a.rules.now a.node-table.now a.state-table.now in
+    let x = inputs_of a.plan.now a.rules.now a.node_table.now a.state_table.now in
     let o = d.start in
     c.finish.ensures
     ∙ sym (started-on a.loaded o.result.session x a.nodes.now a.labels.now o.result.answer o.ensures _
@@ -24,7 +24,7 @@ returns-2 : tie.Need-returns-2
 returns-2 c =
     let d = c.before.before.before in
     let a = d.before.before.before.before.before.before.before.args in
-    let x = inputs_of a.plan.now a.rules.now a.node-table.now a.state-table.now in
+    let x = inputs_of a.plan.now a.rules.now a.node_table.now a.state_table.now in
     let o = d.start in
     sym (start-refused a.loaded o.result.session x a.nodes.now a.labels.now o.result.answer o.ensures _
     c.before.answer.given.1)

@@ -26,7 +26,7 @@ loop-holds c = (omega arith, refl)
 loop-again : tie.Need-loop-preserved invariant-loop decreases-loop
 loop-again c =
     let a = c.before.before.before.before.before.before.before.before.before.before.args in
-    let x = inputs_of a.plan.now a.rules.now a.node-table.now a.state-table.now in
+    let x = inputs_of a.plan.now a.rules.now a.node_table.now a.state_table.now in
     let l = c.before.before.before.before.before.loop in
     let d = c.before.before.before.advance in
     let e : suc (254 - (l.iterations + 1)) ≡ 254 - l.iterations = omega arith in
@@ -37,7 +37,7 @@ loop-again c =
 returns : tie.Need-returns invariant-loop decreases-loop
 returns c =
     let a = c.before.before.before.before.before.before.before.before.before.before.before.args in
-    let x = inputs_of a.plan.now a.rules.now a.node-table.now a.state-table.now in
+    let x = inputs_of a.plan.now a.rules.now a.node_table.now a.state_table.now in
     let l = c.before.before.before.before.before.before.loop in
     let d = c.before.before.before.before.advance in
     let e : suc (254 - (l.iterations + 1)) ≡ 254 - l.iterations = omega arith in
@@ -49,7 +49,7 @@ returns c =
 returns-2 : tie.Need-returns-2 invariant-loop decreases-loop
 returns-2 c =
     let a = c.before.before.before.before.before.before.before.before.before.before.before.args in
-    let x = inputs_of a.plan.now a.rules.now a.node-table.now a.state-table.now in
+    let x = inputs_of a.plan.now a.rules.now a.node_table.now a.state_table.now in
     let l = c.before.before.before.before.before.before.loop in
     let d = c.before.before.before.before.advance in
     let e : suc (254 - (l.iterations + 1)) ≡ 254 - l.iterations = omega arith in
@@ -61,7 +61,7 @@ returns-3 : tie.Need-returns-3 invariant-loop decreases-loop
 unfolding finished_in
 returns-3 c =
     let a = c.before.before.before.before.before.before.before.args in
-    let x = inputs_of a.plan.now a.rules.now a.node-table.now a.state-table.now in
+    let x = inputs_of a.plan.now a.rules.now a.node_table.now a.state_table.now in
     let l = c.before.before.loop in
     let e : 0 ≡ 254 - l.iterations = omega arith in
     c.read2.ensures ∙ (ap (λ (n : ℕ). finished_in n l.rec x) e ∙ l.invariant.1)

@@ -29,8 +29,8 @@ decreases-loop loaded plan rules node_table state_table stated asked₀ chunk₀
 loop-holds : tie.Need-loop-init invariant-loop decreases-loop
 loop-holds c =
     let s = c.before.before.before.before.before.before.before in
-    let a = c.before.before.asked-space.ensures in
-    (going_start _ _ _ a s.requires.0, (c.before.chunk-space.ensures, sym c.large-buffer.ensures))
+    let a = c.before.before.asked_space.ensures in
+    (going_start _ _ _ a s.requires.0, (c.before.chunk_space.ensures, sym c.large_buffer.ensures))
 
 abbrev entered : tie.At-loop invariant-loop decreases-loop → tie.Start invariant-loop decreases-loop
 entered l = l.before.before.before.before.before.before.before.before
@@ -48,12 +48,12 @@ some-questions-requires c κs =
 -- one more chunk
 turned : (c : tie.After-some-questions invariant-loop decreases-loop)
     → Going (question_line (entered (here c)).args.plan.now (entered (here c)).args.rules.now)
-    (entered (here c)).args.stated c.some-questions.new.1.1.1.1.1.1.0 c.some-questions.result.have
-    c.some-questions.result.left c.some-questions.result.sent
+    (entered (here c)).args.stated c.some_questions.new.1.1.1.1.1.1.0 c.some_questions.result.have
+    c.some_questions.result.left c.some_questions.result.sent
 turned c =
-    let q = c.some-questions.ensures in
+    let q = c.some_questions.ensures in
     let n = sym (length-take-le _ _ q.1.0.0) in
-    going_on c.some-questions.result.came (here c).loop.invariant.0 q.0 n q.1.1.0.0 q.1.1.0.1
+    going_on c.some_questions.result.came (here c).loop.invariant.0 q.0 n q.1.1.0.0 q.1.1.0.1
     q.1.1.1.0 q.1.1.1.1
 
 returns : tie.Need-returns invariant-loop decreases-loop
@@ -68,14 +68,14 @@ returns-2 c =
 
 loop-less : tie.Need-loop-smaller invariant-loop decreases-loop
 loop-less c =
-    let n = c.before.before.before.before.before.before.before.some-questions in
+    let n = c.before.before.before.before.before.before.before.some_questions in
     omega (arith, n.ensures.1.1.0.0, c.before.before.if2.false)
 
 loop-again : tie.Need-loop-preserved invariant-loop decreases-loop
 loop-again c =
     let n = c.before.before.before.before.before.before.before in
     let l = (here n).loop.invariant in
-    let k = n.some-questions.auto in
+    let k = n.some_questions.auto in
     (turned n, (k.1.1.1.1.1.1.1.1.0 ∙ l.1.0, k.1.1.1.1.1.1.1.1.1.0 ∙ l.1.1))
 
 returns-3 : tie.Need-returns-3 invariant-loop decreases-loop

@@ -53,8 +53,8 @@ send-lines-requires c κs =
     lines-sent p.1.0 t.take_in.ensures.0
 
 -- the number of bytes sent is the text's length
-bytes-sent : (c : tie.After-send-lines) → c.send-lines.result.bytes ≡ (taken c.before).take_in.result.end
-bytes-sent c = c.send-lines.ensures ∙ length-take-le _ _ (fits (taken c.before))
+bytes-sent : (c : tie.After-send-lines) → c.send_lines.result.bytes ≡ (taken c.before).take_in.result.end
+bytes-sent c = c.send_lines.ensures ∙ length-take-le _ _ (fits (taken c.before))
 
 add-t30 : tie.Need-overflow-add-t30
 add-t30 c =

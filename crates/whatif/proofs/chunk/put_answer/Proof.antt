@@ -23,27 +23,27 @@ use Rattle.whatif.proofs.question.nodes_in.Reads as nodes-in-reads
 slice-aggregate-ask : tie.Need-slice-aggregate-ask
 slice-aggregate-ask c =
     let n = c.before.before.before.nodes_in in
-    let k = c.before.before.before.before.before.kept-changes in
+    let k = c.before.before.before.before.before.kept_changes in
     sym (length-take-le k.result n.result (omega (arith, n.ensures.1, k.ensures.1)))
 
 slice-aggregate-ask-2 : tie.Need-slice-aggregate-ask-2
 slice-aggregate-ask-2 c =
     let n = c.before.before.labels_in in
-    let k = c.before.before.before.before.before.before.kept-changes in
+    let k = c.before.before.before.before.before.before.kept_changes in
     sym (length-take-le k.result n.result (omega (arith, n.ensures.1, k.ensures.1)))
 
 returns : tie.Need-returns
 returns c =
-    let p = c.before.before.put-line in
+    let p = c.before.before.put_line in
     let t = c.before.before.before.before in
     let q = t.ask in
     let l = t.before.before.before.labels_in in
     let n = t.before.before.before.before.before.nodes_in in
     let m = t.before.before.before.before.before.before.before in
-    let k = m.kept-changes in
+    let k = m.kept_changes in
     let s = m.before.before.before.before.before.before.before in
     let a = s.args in
-    let x = inputs_of a.plan.now a.rules.now a.node-table.now a.state-table.now in
+    let x = inputs_of a.plan.now a.rules.now a.node_table.now a.state_table.now in
     let v = take k.result n.result in
     let b = take k.result l.result in
     let e =

@@ -25,7 +25,7 @@ returns c =
     let k = c.before.before.before.before.before.keep in
     let e : eqb (a.have + 1) (question_length (set a.asked.now a.have a.b)) ≡ false =
     ap (λ (l : List ℕ). eqb (a.have + 1) (question_length l)) (sym k.ensures)
-    ∙ ne_eqb _ _ (λ z. c.if1.true (z ∙ sym c.before.question-length.ensures)) in
+    ∙ ne_eqb _ _ (λ z. c.if1.true (z ∙ sym c.before.question_length.ensures)) in
     let f = question_line a.plan.now a.rules.now in (
       subst (λ (l : List ℕ). Advances f (a.b ∷ []) a.asked.now a.have l (a.have + 1) a.out.now a.end a.out.now a.end)
           (sym k.ensures) (byte-kept-open f a.asked.now a.have a.b a.out.now a.end e),
@@ -34,7 +34,7 @@ returns c =
 
 returns-2 : tie.Need-returns-2
 returns-2 c =
-    let p = c.before.before.put-answer in
+    let p = c.before.before.put_answer in
     let i = c.before.before.before.before.before in
     let n = i.before in
     let k = n.before.before.before.before.keep in
@@ -42,7 +42,7 @@ returns-2 c =
     let a = s.args in
     let e : eqb (a.have + 1) (question_length (set a.asked.now a.have a.b)) ≡ true =
     ap (λ (l : List ℕ). eqb (a.have + 1) (question_length l)) (sym k.ensures)
-    ∙ eq-eqb _ _ (i.if1.false ∙ n.question-length.ensures) in
+    ∙ eq-eqb _ _ (i.if1.false ∙ n.question_length.ensures) in
     let f = question_line a.plan.now a.rules.now in
     let o = p.new.1.1.1.1.1.1.0 in
     let t =

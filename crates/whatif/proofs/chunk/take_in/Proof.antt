@@ -40,7 +40,7 @@ loop-again c =
     let i = c.before.before.before.before.before.before.before.before.before in
     let l = i.loop in
     let a = i.before.before.before.before.before.before.before.before.args in
-    let b = c.before.before.before.before.take-byte in
+    let b = c.before.before.before.before.take_byte in
     let f = question_line a.plan.now a.rules.now in
     let e : take l.i a.chunk.now ++ (get_or a.chunk.now l.i 0 ∷ []) ≡ take (l.i + 1) a.chunk.now =
     sym (ap (λ (n : ℕ). take n a.chunk.now) (add-one l.i) ∙ take-suc a.chunk.now l.i 0 (omega arith)) in (

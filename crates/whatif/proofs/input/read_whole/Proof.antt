@@ -21,8 +21,8 @@ returns c =
     let n = l.least.result in
     let a = l.before.before.args in (
       l.least.ensures.1,
-      counted-front n r.read-full.result r.read-full.new.1.0 _
-          (omega (arith, r.read-full.auto.1.0, length-take n a.space.now)) r.read-full.ensures.0,
+      counted-front n r.read_full.result r.read_full.new.1.0 _
+          (omega (arith, r.read_full.auto.1.0, length-take n a.space.now)) r.read_full.ensures.0,
     )
 
 pub read-whole-spec : {M : Type 1} → statement M

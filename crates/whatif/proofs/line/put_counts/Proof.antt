@@ -11,7 +11,7 @@ use Rattle.whatif.proofs.text.put_word.Reads as put-word-reads
 put-word-requires : tie.Need-put-word-requires
 put-word-requires c κs =
     let n1 = c.before.before.before.before in
-    omega (arith, n1.put-number.ensures.0.as_long, n1.put-number.ensures.1)
+    omega (arith, n1.put_number.ensures.0.as_long, n1.put_number.ensures.1)
 
 put-number-requires-2 : tie.Need-put-number-requires-2
 put-number-requires-2 c κs =
@@ -21,8 +21,8 @@ put-number-requires-2 c κs =
       arith,
       w1.put_word.ensures.as_long,
       w1.put_word.ensures.end,
-      n1.put-number.ensures.0.as_long,
-      n1.put-number.ensures.1,
+      n1.put_number.ensures.0.as_long,
+      n1.put_number.ensures.1,
     )
 
 put-word-requires-2 : tie.Need-put-word-requires-2
@@ -36,8 +36,8 @@ put-word-requires-2 c κs =
       n2.put-number2.ensures.1,
       w1.put_word.ensures.as_long,
       w1.put_word.ensures.end,
-      n1.put-number.ensures.0.as_long,
-      n1.put-number.ensures.1,
+      n1.put_number.ensures.0.as_long,
+      n1.put_number.ensures.1,
     )
 
 put-number-requires-3 : tie.Need-put-number-requires-3
@@ -54,8 +54,8 @@ put-number-requires-3 c κs =
       n2.put-number2.ensures.1,
       w1.put_word.ensures.as_long,
       w1.put_word.ensures.end,
-      n1.put-number.ensures.0.as_long,
-      n1.put-number.ensures.1,
+      n1.put_number.ensures.0.as_long,
+      n1.put_number.ensures.1,
     )
 
 put-word-requires-3 : tie.Need-put-word-requires-3
@@ -75,8 +75,8 @@ put-word-requires-3 c κs =
       n2.put-number2.ensures.1,
       w1.put_word.ensures.as_long,
       w1.put_word.ensures.end,
-      n1.put-number.ensures.0.as_long,
-      n1.put-number.ensures.1,
+      n1.put_number.ensures.0.as_long,
+      n1.put_number.ensures.1,
     )
 
 returns : tie.Need-returns
@@ -87,11 +87,11 @@ returns c =
     let n2 = w2.before.before.before.before.before in
     let w1 = n2.before.before.before.before in
     let n1 = w1.before.before.before.before.before in (
-      put_then n1.put-number.ensures.0 (put_then w1.put_word.ensures (put_then n2.put-number2.ensures.0
+      put_then n1.put_number.ensures.0 (put_then w1.put_word.ensures (put_then n2.put-number2.ensures.0
           (put_then w2.put-word2.ensures (put_then n3.put-number3.ensures.0 w3.put-word3.ensures)))),
       omega (
         arith,
-        n1.put-number.ensures.1,
+        n1.put_number.ensures.1,
         w1.put_word.ensures.end,
         n2.put-number2.ensures.1,
         w2.put-word2.ensures.end,

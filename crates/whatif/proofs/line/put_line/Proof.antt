@@ -19,9 +19,9 @@ returns c =
     let p = c.before.before in
     let m = p.before.before.before in
     let a = m.before.before.before.args in (
-      subst (λ (t : List ℕ). Put a.out.now a.at t p.put-outcome.new.0 p.put-outcome.result)
-          (ap (λ (r : ReadAnswer). line_of (read_answer r)) (sym m.answer.given.1)) p.put-outcome.ensures.0,
-      p.put-outcome.ensures.1,
+      subst (λ (t : List ℕ). Put a.out.now a.at t p.put_outcome.new.0 p.put_outcome.result)
+          (ap (λ (r : ReadAnswer). line_of (read_answer r)) (sym m.answer.given.1)) p.put_outcome.ensures.0,
+      p.put_outcome.ensures.1,
     )
 
 returns-2 : tie.Need-returns-2

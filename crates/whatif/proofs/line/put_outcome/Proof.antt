@@ -12,7 +12,7 @@ use Rattle.whatif.proofs.text.put_number.Reads as put-number-reads
 put-yes-or-no-requires : tie.Need-put-yes-or-no-requires
 put-yes-or-no-requires c κs =
     let n = c.before.before.before in
-    omega (arith, n.put-number.ensures.0.as_long, n.put-number.ensures.1)
+    omega (arith, n.put_number.ensures.0.as_long, n.put_number.ensures.1)
 
 put-counts-requires : tie.Need-put-counts-requires
 put-counts-requires c κs =
@@ -21,11 +21,11 @@ put-counts-requires c κs =
     let s = n.before.before.before in
     omega (
       arith,
-      y.put-yes-or-no.ensures.as_long,
-      y.put-yes-or-no.ensures.end,
+      y.put_yes_or_no.ensures.as_long,
+      y.put_yes_or_no.ensures.end,
       yes-or-no-short s.args.yes,
-      n.put-number.ensures.0.as_long,
-      n.put-number.ensures.1,
+      n.put_number.ensures.0.as_long,
+      n.put_number.ensures.1,
     )
 
 returns : tie.Need-returns
@@ -34,8 +34,8 @@ returns c =
     let y = k.before.before.before.before in
     let n = y.before.before.before.before in
     let s = n.before.before.before in (
-      put_then n.put-number.ensures.0 (put_then y.put-yes-or-no.ensures k.put-counts.ensures.0),
-      omega (arith, n.put-number.ensures.1, y.put-yes-or-no.ensures.end, yes-or-no-short s.args.yes, k.put-counts.ensures.1),
+      put_then n.put_number.ensures.0 (put_then y.put_yes_or_no.ensures k.put_counts.ensures.0),
+      omega (arith, n.put_number.ensures.1, y.put_yes_or_no.ensures.end, yes-or-no-short s.args.yes, k.put_counts.ensures.1),
     )
 
 pub put-outcome-spec : {M : Type 1} → statement M

@@ -15,14 +15,14 @@ put-number-requires c κs =
 
 put-word-requires-2 : tie.Need-put-word-requires-2
 put-word-requires-2 c κs =
-    let n = c.before.before.before.before.put-number.ensures in
+    let n = c.before.before.before.before.put_number.ensures in
     let w = c.before.before.before.before.before.before.before.before.put_word.ensures in
     omega (arith, n.0.as_long, n.1, w.as_long, w.end)
 
 returns : tie.Need-returns
 returns c =
     let a = c.before.before.before.before.before.before.before.before.before.before.before.put_word.ensures in
-    let b = c.before.before.before.before.before.before.before.put-number.ensures in
+    let b = c.before.before.before.before.before.before.before.put_number.ensures in
     let d = c.before.before.put-word2.ensures in
     (put_then a (put_then b.0 d), omega (arith, a.end, b.1, d.end))
 

@@ -11,41 +11,41 @@ use Rattle.whole_questions.proofs.ask.answer_roots.Lts as lts
 use Rattle.formats.proofs.rules.inner_count.Reads as inner-count-reads
 use Rattle.whole_questions.proofs.parts.all_parts.Reads as all-parts-reads
 
-abbrev of : tie.After-all-parts → tie.Start
+abbrev of : tie.After-all_parts → tie.Start
 of a = a.before.before.before.before.before.before.before.before
 
-limits : (a : tie.After-all-parts) → let g = (of a).args in Limits g.n g.s g.k
+limits : (a : tie.After-all_parts) → let g = (of a).args in Limits g.n g.s g.k
 limits a = limits-are _ _ _ (of a).requires.all.limits
 
-all-parts-requires : tie.Need-all-parts-requires
+all-parts-requires : tie.Need-all_parts-requires
 all-parts-requires c κs = c.before.before.before.before.before.before.before.requires.all
 
-add-yes : tie.Need-overflow-add-yes
+add-yes : tie.Need-overflow_add-yes
 add-yes c = omega (arith, (limits c.before.before.before).labels_most)
 
-inner-count-requires : tie.Need-inner-count-requires
+inner-count-requires : tie.Need-inner_count-requires
 inner-count-requires c κs =
     let l = limits c.before.before.before in
     record { states = l.few; labels = l.labels_most }
 
-add-yes-2 : tie.Need-overflow-add-yes-2
+add-yes-2 : tie.Need-overflow_add-yes-in-Reached
 add-yes-2 c = omega (arith, (limits c.before.before.before.before).labels_most, c.inner_count.ensures.fits)
 
-add-yes-3 : tie.Need-overflow-add-yes-3
+add-yes-3 : tie.Need-overflow_add-yes-in-Reached-2
 add-yes-3 c =
     let x = c.before.before in
     let a = x.before.before in
-    let q = climbed-state _ _ _ _ _ _ _ _ _ _ (of a).requires a.all-parts.result a.all-parts.ensures
-    x.x.given.0.0 x.x.given.1 in
+    let q = climbed-state _ _ _ _ _ _ _ _ _ _ (of a).requires a.all_parts.result a.all_parts.ensures
+    x.x-1.given.0.0 x.x-1.given.1 in
     omega (arith, q, (limits a).few, (limits a).labels_most, c.inner_count.ensures.fits)
 
-shared-slice-read-yes : tie.Need-shared-slice-read-yes
+shared-slice-read-yes : tie.Need-bounds-rules-k
 shared-slice-read-yes c =
     let i = c.before in
     let x = i.before.before in
     let a = x.before.before in
-    let q = climbed-state _ _ _ _ _ _ _ _ _ _ (of a).requires a.all-parts.result a.all-parts.ensures
-    x.x.given.0.0 x.x.given.1 in
+    let q = climbed-state _ _ _ _ _ _ _ _ _ _ (of a).requires a.all_parts.result a.all_parts.ensures
+    x.x-1.given.0.0 x.x-1.given.1 in
     omega (
       arith,
       q,
@@ -53,26 +53,26 @@ shared-slice-read-yes c =
       (lengths-are _ _ _ _ _ _ _ (of a).requires.all.lengths).table_is,
     )
 
-cast-t22 : tie.Need-overflow-cast-t22
+cast-t22 : tie.Need-overflow_cast-result
 cast-t22 c =
     let a = c.before.before.before.before.before in
     omega (arith, (of a).requires.all.few, (of a).requires.all.many_list)
 
-returns : tie.Need-returns
+returns : tie.Need-returns-in-Reached
 returns c =
     let i = c.before in
     let x = i.before.before in
     let a = x.before.before in
-    roots-answer _ _ _ _ _ _ _ _ _ _ (of a).requires a.all-parts.result a.all-parts.ensures x.x.given.0.0
-    x.x.given.1 i.inner_count.result i.inner_count.ensures.value
+    roots-answer _ _ _ _ _ _ _ _ _ _ (of a).requires a.all_parts.result a.all_parts.ensures x.x-1.given.0.0
+    x.x-1.given.1 i.inner_count.result i.inner_count.ensures.value
 
-returns-2 : tie.Need-returns-2
+returns-2 : tie.Need-returns-in-OutOfRange
 returns-2 c =
     let a = c.before.before in
-    roots-lost _ _ _ _ _ _ _ _ _ _ (of a).requires a.all-parts.result a.all-parts.ensures c.enum_told.given.1
+    roots-lost _ _ _ _ _ _ _ _ _ _ (of a).requires a.all_parts.result a.all_parts.ensures c.enum_told-1.given.1
 
-pub answer-roots-spec : {M : Type 1} → statement M
-answer-roots-spec =
+pub answer_roots_spec : {M : Type 1} → statement M
+answer_roots_spec =
     tie.close
     (tie.spec all-parts-requires (λ c. search rules) add-yes inner-count-requires add-yes-2 (λ c. search rules)
     add-yes-3 shared-slice-read-yes cast-t22 returns (λ c. search rules) returns-2)

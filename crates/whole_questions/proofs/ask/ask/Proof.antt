@@ -10,26 +10,26 @@ use Rattle.whole_questions.proofs.ask.ask.Lts as lts
 use Rattle.whole_questions.proofs.ask.answer_lent.Reads as answer-lent-reads
 use Rattle.whole_questions.proofs.checks.check_asked.Reads as check-asked-reads
 
-returns : tie.Need-returns
+returns : tie.Need-returns-then-no-ne0
 returns c =
     let g = c.before.before.before.before.before.before.before.before.args in
-    ask-done g.plan.now g.rules.now g.node-table.now g.state-table.now g.nodes.now g.labels.now _
-    (refused-is g.plan.now g.rules.now g.node-table.now g.state-table.now g.nodes.now
-    g.labels.now c.before.check-asked.result c.before.check-asked.ensures c.if1.true)
+    ask-done g.plan.now g.rules.now g.node_table.now g.state_table.now g.nodes.now g.labels.now _
+    (refused-is g.plan.now g.rules.now g.node_table.now g.state_table.now g.nodes.now
+    g.labels.now c.before.check_asked-no.result c.before.check_asked-no.ensures c.if-no-ne0.true)
 
-answer-lent-requires : tie.Need-answer-lent-requires
+answer-lent-requires : tie.Need-answer_lent-requires
 answer-lent-requires c κs =
-    let z : c.before.check-asked.result ≡ 0 = c.if1.false in
-    record { passed = sym c.before.check-asked.ensures ∙ z }
+    let z : c.before.check_asked-no.result ≡ 0 = c.if-no-ne0.false in
+    record { passed = sym c.before.check_asked-no.ensures ∙ z }
 
-returns-2 : tie.Need-returns-2
+returns-2 : tie.Need-returns
 returns-2 c =
     let e = c.before in
-    let z : e.before.check-asked.result ≡ 0 = e.if1.false in
+    let z : e.before.check_asked-no.result ≡ 0 = e.if-no-ne0.false in
     let g = e.before.before.before.before.before.before.before.before.args in
-    ask-done g.plan.now g.rules.now g.node-table.now g.state-table.now g.nodes.now g.labels.now _
-    (lent_is g.plan.now g.rules.now g.node-table.now g.state-table.now g.nodes.now g.labels.now
-    c.answer-lent.result (sym e.before.check-asked.ensures ∙ z) c.answer-lent.ensures)
+    ask-done g.plan.now g.rules.now g.node_table.now g.state_table.now g.nodes.now g.labels.now _
+    (lent_is g.plan.now g.rules.now g.node_table.now g.state_table.now g.nodes.now g.labels.now
+    c.answer_lent.result (sym e.before.check_asked-no.ensures ∙ z) c.answer_lent.ensures)
 
-pub ask-spec : {M : Type 1} → statement M
-ask-spec = tie.close (tie.spec (λ c κs. search rules) returns answer-lent-requires returns-2)
+pub ask_spec : {M : Type 1} → statement M
+ask_spec = tie.close (tie.spec (λ c κs. search rules) returns answer-lent-requires returns-2)

@@ -16,47 +16,47 @@ use Rattle.formats.proofs.buffers.rule_buffers_fit.Reads as rule-buffers-fit-rea
 use Rattle.formats.proofs.bytes.read32.Reads as read32-reads
 use Rattle.formats.proofs.lists.check_list.Reads as check-list-reads
 
-yes : (c : tie.Else1) → let g = c.before.before.before.before.before.before.args in
+yes : (c : tie.Else-not-headers_fit) → let g = c.before.before.before.before.before.before.args in
     headers_fit 20 g.plan.now g.rules.now ≡ true
-yes c = sym c.before.headers-fit.ensures ∙ not-false _ c.if1.false
+yes c = sym c.before.headers_fit.ensures ∙ not-false _ c.if-not-headers_fit.false-raw
 
-heads : (c : tie.Else1) → let g = c.before.before.before.before.before.before.args in
+heads : (c : tie.Else-not-headers_fit) → let g = c.before.before.before.before.before.before.args in
     Headers 20 g.plan.now g.rules.now
 heads c = headers-are 20 _ _ (yes c)
 
-returns : tie.Need-returns
-returns c = no-17 _ _ _ _ _ _ (sym c.before.headers-fit.ensures ∙ not-true _ c.if1.true)
+returns : tie.Need-returns-then-not-headers_fit
+returns c = no-17 _ _ _ _ _ _ (sym c.before.headers_fit.ensures ∙ not-true _ c.if-not-headers_fit.true-raw)
 
-read32-requires : tie.Need-read32-requires
+read32-requires : tie.Need-read32-n-requires
 read32-requires c κs = omega (arith, (heads c).plan-long)
 
-read32-requires-2 : tie.Need-read32-requires-2
+read32-requires-2 : tie.Need-read32-s-requires
 read32-requires-2 c κs = omega (arith, (heads c.before).table-long)
 
-read32-requires-3 : tie.Need-read32-requires-3
+read32-requires-3 : tie.Need-read32-k-requires
 read32-requires-3 c κs = omega (arith, (heads c.before.before).table-long)
 
-rule-buffers-fit-requires : tie.Need-rule-buffers-fit-requires
+rule-buffers-fit-requires : tie.Need-rule_buffers_fit-requires
 rule-buffers-fit-requires c κs =
     let l = (heads c.before.before.before).in-limits in
     record {
-      most = omega (arith, l.most, c.before.before.read32.ensures);
-      few = omega (arith, l.few, c.before.read322.ensures);
-      labels = omega (arith, l.labels_most, c.read323.ensures);
+      most = omega (arith, l.most, c.before.before.read32-n.ensures);
+      few = omega (arith, l.few, c.before.read32-s.ensures);
+      labels = omega (arith, l.labels_most, c.read32-k.ensures);
     }
 
-returns-2 : tie.Need-returns-2
+returns-2 : tie.Need-returns-then-not-rule_buffers_fit
 returns-2 c =
     let t = c.before in
     let z = t.before in
     let y = z.before in
     let x = y.before in
     let g = x.before.before.before.before.before.before.before.args in
-    no-17-lengths g.plan.now g.rules.now g.node-table g.state-table g.nodes.now g.labels.now
-    (yes x.before) x.read32.result y.read322.result z.read323.result x.read32.ensures
-    y.read322.ensures z.read323.ensures (sym t.rule-buffers-fit.ensures ∙ not-true _ c.if2.true)
+    no-17-lengths g.plan.now g.rules.now g.node_table g.state_table g.nodes.now g.labels.now
+    (yes x.before) x.read32-n.result y.read32-s.result z.read32-k.result x.read32-n.ensures
+    y.read32-s.ensures z.read32-k.ensures (sym t.rule_buffers_fit.ensures ∙ not-true _ c.if-not-rule_buffers_fit.true-raw)
 
-returns-3 : tie.Need-returns-3
+returns-3 : tie.Need-returns
 returns-3 c =
     let u = c.before in
     let t = u.before in
@@ -64,13 +64,13 @@ returns-3 c =
     let y = z.before in
     let x = y.before in
     let g = x.before.before.before.before.before.before.before.args in
-    c.check-list.ensures
-    ∙ then-list g.plan.now g.rules.now g.node-table g.state-table g.nodes.now g.labels.now
-    (yes x.before) x.read32.result y.read322.result z.read323.result x.read32.ensures
-    y.read322.ensures z.read323.ensures (sym t.rule-buffers-fit.ensures ∙ not-false _ u.if2.false)
+    c.check_list.ensures
+    ∙ then-list g.plan.now g.rules.now g.node_table g.state_table g.nodes.now g.labels.now
+    (yes x.before) x.read32-n.result y.read32-s.result z.read32-k.result x.read32-n.ensures
+    y.read32-s.ensures z.read32-k.ensures (sym t.rule_buffers_fit.ensures ∙ not-false _ u.if-not-rule_buffers_fit.false-raw)
 
-pub check-asked-spec : {M : Type 1} → statement M
-check-asked-spec =
+pub check_asked_spec : {M : Type 1} → statement M
+check_asked_spec =
     tie.close
     (tie.spec (λ c κs. search rules) returns read32-requires read32-requires-2 read32-requires-3
     rule-buffers-fit-requires returns-2 (λ c κs. search rules) returns-3)

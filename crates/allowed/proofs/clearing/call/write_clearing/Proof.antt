@@ -11,7 +11,7 @@ use Rattle.allowed.proofs.clearing.call.write_clearing.Lts as lts
 use Rattle.allowed.proofs.clearing.call.write_sets.Reads as write-sets-reads
 use Rattle.formats.proofs.rules.inner_count.Reads as inner-count-reads
 
-write-sets-requires : tie.Need-write-sets-requires
+write-sets-requires : tie.Need-write_sets-requires
 write-sets-requires c κs =
     let i = c.before.before.before.before.before.before in
     parts-given c.before.before.before.before.before.before.before.before.before.before.requires i.inner_count.result i.inner_count.ensures.value
@@ -20,11 +20,11 @@ returns : tie.Need-returns
 returns c =
     let t = c.before.before.before.before.before.before.before.before.before.before.before.before.before in
     let i = c.before.before.before.before.before.before.before.before.before in
-    parts-list t.requires i.inner_count.result i.inner_count.ensures.value t.args.sets.now
-    c.before.before.write-sets.new.1.1.1.1.1.1.1.0 refl (omega arith) c.before.before.write-sets.ensures
+    parts-list t.requires i.inner_count.result i.inner_count.ensures.value t.args.sets-1.now
+    c.before.before.write_sets.new.1.1.1.1.1.1.1.0 refl (omega arith) c.before.before.write_sets.ensures
 
-pub write-clearing-spec : {M : Type 1} → statement M
-write-clearing-spec =
+pub write_clearing_spec : {M : Type 1} → statement M
+write_clearing_spec =
     tie.close
     (tie.spec (λ c. search rules) (λ c κs. search rules) (λ c. search rules) (λ c. search rules) (λ c. search rules)
     (λ c. search rules) (λ c. search rules) (λ c. search rules) (λ c. search rules) (λ c. search rules)

@@ -7,16 +7,16 @@ use Rattle.allowed.proofs.clearing.cells.first_of.Tie as tie
 use Rattle.allowed.proofs.clearing.cells.first_of.Reads as reads
 use Rattle.allowed.proofs.clearing.cells.first_of.Lts as lts
 
-returns : tie.Need-returns
-returns c = first-of-leaf c.before.before.args.kinds.now c.before.before.args.cells.now c.before.before.args.u c.if1.true
+returns : tie.Need-returns-then-kinds-u-eq0
+returns c = first-of-leaf c.before.before.args.kinds.now c.before.before.args.cells.now c.before.before.args.u c.if-kinds-u-eq0.true
 
-cast-result : tie.Need-overflow-cast-result
-cast-result c = omega (arith, c.shared-slice-known2.given c.before.before.before.args.u)
+cast-result : tie.Need-overflow_cast-result
+cast-result c = omega (arith, c.shared_slice_known-2-1.given c.before.before.before.args.u)
 
-returns-2 : tie.Need-returns-2
-returns-2 c = first-of-inner c.before.before.before.args.kinds.now c.before.before.before.args.cells.now c.before.before.before.args.u c.before.if1.false
+returns-2 : tie.Need-returns
+returns-2 c = first-of-inner c.before.before.before.args.kinds.now c.before.before.before.args.cells.now c.before.before.before.args.u c.before.if-kinds-u-eq0.false
 
-pub first-of-spec : {M : Type 1} → statement M
-first-of-spec =
+pub first_of_spec : {M : Type 1} → statement M
+first_of_spec =
     tie.close
     (tie.spec (λ c. search rules) returns (λ c. search rules) (λ c. search rules) cast-result returns-2)

@@ -11,36 +11,36 @@ use Rattle.allowed.proofs.clearing.cells.state_of.Tie as tie
 use Rattle.allowed.proofs.clearing.cells.state_of.Reads as reads
 use Rattle.allowed.proofs.clearing.cells.state_of.Lts as lts
 
-cast-result-2 : tie.Need-overflow-cast-result-2
-cast-result-2 c = omega (arith, c.shared-slice-known7.given (get_or c.before.before.before.before.before.before.before.before.args.labels.now c.before.before.before.before.before.before.before.before.args.u 0))
+cast-result-2 : tie.Need-overflow_cast-result-2
+cast-result-2 c = omega (arith, c.shared_slice_known-then-kinds-u-eq0-2-1.given (get_or c.before.before.before.before.before.before.before.before.args.labels.now c.before.before.before.before.before.before.before.before.args.u 0))
 
-returns : tie.Need-returns
+returns : tie.Need-returns-then-kinds-u-eq0
 returns c =
-    let g = c.before.before.before.before.before.before.before.before.args in state-of-leaf g.kinds.now g.cells.now g.u g.labels.now g.leaves.now c.before.before.if1.true
+    let g = c.before.before.before.before.before.before.before.before.args in state-of-leaf g.kinds.now g.cells.now g.u g.labels.now g.leaves.now c.before.before.if-kinds-u-eq0.true
 
-sub-first-of : tie.Need-overflow-sub-first-of
-sub-first-of c = omega (arith, c.before.before.before.before.before.before.requires.pos c.if1.false)
+sub-first-of : tie.Need-overflow_sub-u
+sub-first-of c = omega (arith, c.before.before.before.before.before.before.requires.pos c.if-kinds-u-eq0.false)
 
-first-of-requires : tie.Need-first-of-requires
-first-of-requires c κs = c.before.before.before.before.before.before.requires.first c.if1.false
+first-of-requires : tie.Need-first_of-f-requires
+first-of-requires c κs = c.before.before.before.before.before.before.requires.first c.if-kinds-u-eq0.false
 
-mul-result : tie.Need-overflow-mul-result
-mul-result c = omega (arith, c.before.before.before.before.before.before.before.requires.inside c.before.if1.false, c.first_of.ensures)
+mul-result : tie.Need-offset_bounds-cells-f
+mul-result c = omega (arith, c.before.before.before.before.before.before.before.requires.inside c.before.if-kinds-u-eq0.false, c.first_of-f.ensures)
 
-shared-slice-read-result-3 : tie.Need-shared-slice-read-result-3
-shared-slice-read-result-3 c = omega (arith, c.before.before.before.before.before.before.before.before.requires.inside c.before.before.if1.false, c.before.first_of.ensures)
+shared-slice-read-result-3 : tie.Need-bounds-cells-f
+shared-slice-read-result-3 c = omega (arith, c.before.before.before.before.before.before.before.before.requires.inside c.before.before.if-kinds-u-eq0.false, c.before.first_of-f.ensures)
 
-cast-result-3 : tie.Need-overflow-cast-result-3
-cast-result-3 c = omega (arith, c.shared-slice-known8.given c.before.first_of.result)
+cast-result-3 : tie.Need-overflow_cast-result-2
+cast-result-3 c = omega (arith, c.shared_slice_known-6-1.given c.before.first_of-f.result)
 
-returns-2 : tie.Need-returns-2
+returns-2 : tie.Need-returns
 returns-2 c =
     let g = c.before.before.before.before.before.before.before.before.args in
-    ap (λ (f : ℕ). get_or g.cells.now f 0 / 256) c.before.first_of.ensures
-    ∙ state-of-inner g.kinds.now g.cells.now g.u g.labels.now g.leaves.now c.before.before.if1.false
+    ap (λ (f : ℕ). get_or g.cells.now f 0 / 256) c.before.first_of-f.ensures
+    ∙ state-of-inner g.kinds.now g.cells.now g.u g.labels.now g.leaves.now c.before.before.if-kinds-u-eq0.false
 
-pub state-of-spec : {M : Type 1} → statement M
-state-of-spec =
+pub state_of_spec : {M : Type 1} → statement M
+state_of_spec =
     tie.close
     (tie.spec (λ c. search rules) (λ c. search rules) (λ c. search rules) (λ c. search rules) cast-result-2 returns
     sub-first-of first-of-requires mul-result shared-slice-read-result-3 cast-result-3 returns-2)

@@ -14,29 +14,29 @@ use Rattle.allowed.proofs.clearing.down.inner_down.Tie as tie
 use Rattle.allowed.proofs.clearing.down.inner_down.Reads as reads
 use Rattle.allowed.proofs.clearing.down.inner_down.Lts as lts
 
-right-set-requires : tie.Need-right-set-requires
+right-set-requires : tie.Need-right_set-r-requires
 right-set-requires c κs =
     let g = c.before.before.before.before.before.before.args in
     subst (λ (f : ℕ). SetArgs g.inner.now g.s g.k (get_or g.cells.now f 0 % 16) g.a (get_or g.cells.now f 0 / 16 % 16))
-    (sym c.before.first_of.ensures) c.before.before.before.before.before.before.requires.sets
+    (sym c.before.first_of-f.ensures) c.before.before.before.before.before.before.requires.sets
 
-left-set-requires : tie.Need-left-set-requires
+left-set-requires : tie.Need-left_set-l-requires
 left-set-requires c κs =
     let g = c.before.before.before.before.before.before.before.args in
     subst (λ (f : ℕ). SetArgs g.inner.now g.s g.k (get_or g.cells.now f 0 % 16) g.a (get_or g.cells.now f 0 / 16 % 16))
-    (sym c.before.before.first_of.ensures) c.before.before.before.before.before.before.before.requires.sets
+    (sym c.before.before.first_of-f.ensures) c.before.before.before.before.before.before.before.requires.sets
 
 returns : tie.Need-returns
 returns c =
     let g = c.before.before.before.before.before.before.before.before.args in (
-      inner_made g.kinds.now g.inner.now g.s g.k g.cells.now g.v g.a g.c c.before.before.before.first_of.result
-          c.before.before.before.first_of.ensures c.left-set.result c.left-set.ensures.0,
-      inner-returned g.kinds.now g.inner.now g.s g.k g.cells.now g.v g.a g.c c.before.before.before.first_of.result
-          c.before.before.before.first_of.ensures c.before.right-set.result c.before.right-set.ensures.0,
+      inner_made g.kinds.now g.inner.now g.s g.k g.cells.now g.v g.a g.c c.before.before.before.first_of-f.result
+          c.before.before.before.first_of-f.ensures c.left_set-l.result c.left_set-l.ensures.0,
+      inner-returned g.kinds.now g.inner.now g.s g.k g.cells.now g.v g.a g.c c.before.before.before.first_of-f.result
+          c.before.before.before.first_of-f.ensures c.before.right_set-r.result c.before.right_set-r.ensures.0,
     )
 
-pub inner-down-spec : {M : Type 1} → statement M
-inner-down-spec =
+pub inner_down_spec : {M : Type 1} → statement M
+inner_down_spec =
     tie.close
     (tie.spec (λ c. search rules) (λ c κs. search rules) (λ c. search rules) (λ c. search rules) (λ c. search rules)
     (λ c. search rules) right-set-requires left-set-requires (λ c. search rules) (λ c. search rules)

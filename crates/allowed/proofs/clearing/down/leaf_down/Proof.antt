@@ -6,11 +6,11 @@ use Rattle.allowed.proofs.clearing.down.leaf_down.Tie as tie
 use Rattle.allowed.proofs.clearing.down.leaf_down.Reads as reads
 use Rattle.allowed.proofs.clearing.down.leaf_down.Lts as lts
 
-cast-result : tie.Need-overflow-cast-result
-cast-result c = omega (arith, c.slice-known.given c.before.args.v)
+cast-result : tie.Need-overflow_cast-result
+cast-result c = omega (arith, c.slice_known-1.given c.before.args.v)
 
-pub leaf-down-spec : {M : Type 1} → statement M
-leaf-down-spec =
+pub leaf_down_spec : {M : Type 1} → statement M
+leaf_down_spec =
     tie.close
     (tie.spec (λ c. search rules) (λ c. search rules) (λ c. search rules) (λ c. search rules) (λ c. search rules)
     cast-result (λ c. search rules) (λ c. search rules))

@@ -10,28 +10,28 @@ use Rattle.allowed.proofs.clearing.down.node_down.Tie as tie
 use Rattle.allowed.proofs.clearing.down.node_down.Reads as reads
 use Rattle.allowed.proofs.clearing.down.node_down.Lts as lts
 
-returns : tie.Need-returns
+returns : tie.Need-returns-then-kinds-v-eq0
 returns c =
     let g = c.before.before.before.before.before.before.before.before.before.before.args in (
-      c.before.before.leaf-down.ensures.0 ∙ leaf-case g.kinds.now g.labels.now g.inner.now g.s g.k g.cells.now g.v g.c c.before.before.before.before.if1.true,
-      c.before.before.leaf-down.ensures.1 ∙ leaf-set g.kinds.now g.labels.now g.inner.now g.s g.k g.cells.now g.v g.c c.before.before.before.before.if1.true,
+      c.before.before.leaf_down.ensures.0 ∙ leaf-case g.kinds.now g.labels.now g.inner.now g.s g.k g.cells-1.now g.v g.c c.before.before.before.before.if-kinds-v-eq0.true,
+      c.before.before.leaf_down.ensures.1 ∙ leaf-set g.kinds.now g.labels.now g.inner.now g.s g.k g.cells-1.now g.v g.c c.before.before.before.before.if-kinds-v-eq0.true,
     )
 
-cast-inner-down : tie.Need-overflow-cast-inner-down
-cast-inner-down c = omega (arith, c.shared-slice-known5.given c.before.before.before.before.before.before.before.before.args.v)
+cast-inner-down : tie.Need-overflow_cast-labels
+cast-inner-down c = omega (arith, c.shared_slice_known-5-1.given c.before.before.before.before.before.before.before.before.args.v)
 
-inner-down-requires : tie.Need-inner-down-requires
-inner-down-requires c κs = c.before.before.before.before.before.before.before.before.requires.inner c.before.before.if1.false
+inner-down-requires : tie.Need-inner_down-requires
+inner-down-requires c κs = c.before.before.before.before.before.before.before.before.requires.inner c.before.before.if-kinds-v-eq0.false
 
-returns-2 : tie.Need-returns-2
+returns-2 : tie.Need-returns
 returns-2 c =
     let g = c.before.before.before.before.before.before.before.before.before.before.before.args in (
-      c.before.before.inner-down.ensures.0 ∙ inner-case g.kinds.now g.labels.now g.inner.now g.s g.k g.cells.now g.v g.c c.before.before.before.before.before.if1.false,
-      c.before.before.inner-down.ensures.1 ∙ inner-set g.kinds.now g.labels.now g.inner.now g.s g.k g.cells.now g.v g.c c.before.before.before.before.before.if1.false,
+      c.before.before.inner_down.ensures.0 ∙ inner-case g.kinds.now g.labels.now g.inner.now g.s g.k g.cells-1.now g.v g.c c.before.before.before.before.before.if-kinds-v-eq0.false,
+      c.before.before.inner_down.ensures.1 ∙ inner-set g.kinds.now g.labels.now g.inner.now g.s g.k g.cells-1.now g.v g.c c.before.before.before.before.before.if-kinds-v-eq0.false,
     )
 
-pub node-down-spec : {M : Type 1} → statement M
-node-down-spec =
+pub node_down_spec : {M : Type 1} → statement M
+node_down_spec =
     tie.close
     (tie.spec (λ c. search rules) (λ c κs. search rules) (λ c. search rules) returns (λ c. search rules)
     cast-inner-down inner-down-requires (λ c. search rules) returns-2)

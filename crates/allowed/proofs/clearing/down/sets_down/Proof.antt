@@ -14,55 +14,55 @@ use Rattle.allowed.proofs.clearing.down.sets_down.Tie as tie
 use Rattle.allowed.proofs.clearing.down.sets_down.Reads as reads
 use Rattle.allowed.proofs.clearing.down.sets_down.Lts as lts
 
-abbrev invariant-loop : tie.invariant-loop
+abbrev invariant-loop : tie.invariant-loop-v
 invariant-loop kinds labels inner s k cells₀ c v₀ set₀ cells v set = (v ≤ v₀) × (length cells ≡ length cells₀)
     × ((leaves marks first : List ℕ) → PassArgs kinds labels leaves inner s k
     → DownWritten kinds labels leaves inner marks s k v₀ set₀ first cells₀
     → DownWritten kinds labels leaves inner marks s k v set first cells)
 
-abbrev decreases-loop : tie.decreases-loop
+abbrev decreases-loop : tie.decreases-loop-v
 decreases-loop kinds labels inner s k cells₀ c v₀ set₀ cells v set = v
 
-loop-holds : tie.Need-loop-init invariant-loop decreases-loop
+loop-holds : tie.Need-loop-v-init invariant-loop decreases-loop
 loop-holds c = (omega arith, refl, λ leaves marks first G D. D)
 
-node-down-requires : tie.Need-node-down-requires invariant-loop decreases-loop
+node-down-requires : tie.Need-node_down-set-requires invariant-loop decreases-loop
 node-down-requires c κs =
     let g = c.before.before.before.before.before.before.before.args in
     let w = c.before.before.before.before.before.before.before.requires in
-    let e : c.before.before.loop.v ≡ c.before.before.loop.v - 1 + 1 = omega (arith, c.before.loop-test.true) in
-    node-args g.kinds.now g.labels.now w.leaves g.inner.now g.s g.k w.runs (c.before.before.loop.v - 1) c.before.before.loop.set c.before.before.loop.cells
-    (omega (arith, c.before.before.loop.invariant.0, c.before.loop-test.true)) (omega (arith, c.before.before.loop.invariant.1, w.room)) w.marks w.first
-    (subst (λ (i : ℕ). DownWritten g.kinds.now g.labels.now w.leaves g.inner.now w.marks g.s g.k i c.before.before.loop.set
-    w.first c.before.before.loop.cells) e (c.before.before.loop.invariant.2 w.leaves w.marks w.first w.runs w.ready))
+    let e : c.before.before.loop-v.v ≡ c.before.before.loop-v.v - 1 + 1 = omega (arith, c.before.loop-v-test.true) in
+    node-args g.kinds.now g.labels.now w.leaves g.inner.now g.s g.k w.runs (c.before.before.loop-v.v - 1) c.before.before.loop-v.set c.before.before.loop-v.cells-1
+    (omega (arith, c.before.before.loop-v.invariant.0, c.before.loop-v-test.true)) (omega (arith, c.before.before.loop-v.invariant.1, w.room)) w.marks w.first
+    (subst (λ (i : ℕ). DownWritten g.kinds.now g.labels.now w.leaves g.inner.now w.marks g.s g.k i c.before.before.loop-v.set
+    w.first c.before.before.loop-v.cells-1) e (c.before.before.loop-v.invariant.2 w.leaves w.marks w.first w.runs w.ready))
 
-loop-again : tie.Need-loop-preserved invariant-loop decreases-loop
+loop-again : tie.Need-loop-v-preserved invariant-loop decreases-loop
 loop-again c =
     let g = c.before.before.before.before.before.before.before.before.before.before.args in
-    let e : c.before.before.before.before.before.loop.v ≡ c.before.before.before.before.before.loop.v - 1 + 1 = omega (arith, c.before.before.before.before.loop-test.true) in (
-      omega (arith, c.before.before.before.before.before.loop.invariant.0),
-      omega (arith, c.before.before.before.before.before.loop.invariant.1),
+    let e : c.before.before.before.before.before.loop-v.v ≡ c.before.before.before.before.before.loop-v.v - 1 + 1 = omega (arith, c.before.before.before.before.loop-v-test.true) in (
+      omega (arith, c.before.before.before.before.before.loop-v.invariant.0),
+      omega (arith, c.before.before.before.before.before.loop-v.invariant.1),
       λ leaves marks first G D. subst (λ (n : ℕ). DownWritten g.kinds.now g.labels.now leaves g.inner.now marks g.s g.k
-          (c.before.before.before.before.before.loop.v - 1) n first c.before.before.node-down.new.1.1.1.1.1.0) (sym c.before.before.node-down.ensures.1)
-          (subst (DownWritten g.kinds.now g.labels.now leaves g.inner.now marks g.s g.k (c.before.before.before.before.before.loop.v - 1)
-          (node_next g.kinds.now g.labels.now g.inner.now g.s g.k c.before.before.before.before.before.loop.cells (c.before.before.before.before.before.loop.v - 1) c.before.before.before.before.before.loop.set) first)
-          (sym c.before.before.node-down.ensures.0)
-          (down-next g.kinds.now g.labels.now leaves g.inner.now g.s g.k G (c.before.before.before.before.before.loop.v - 1) c.before.before.before.before.before.loop.set c.before.before.before.before.before.loop.cells
-          (omega (arith, c.before.before.before.before.before.loop.invariant.0, c.before.before.before.before.loop-test.true)) (omega (arith, c.before.before.before.before.before.loop.invariant.1, c.before.before.before.before.before.before.before.before.before.before.requires.room)) marks first
-          (subst (λ (i : ℕ). DownWritten g.kinds.now g.labels.now leaves g.inner.now marks g.s g.k i c.before.before.before.before.before.loop.set
-          first c.before.before.before.before.before.loop.cells) e (c.before.before.before.before.before.loop.invariant.2 leaves marks first G D)))),
+          (c.before.before.before.before.before.loop-v.v - 1) n first c.before.before.node_down-set.new.1.1.1.1.1.0) (sym c.before.before.node_down-set.ensures.1)
+          (subst (DownWritten g.kinds.now g.labels.now leaves g.inner.now marks g.s g.k (c.before.before.before.before.before.loop-v.v - 1)
+          (node_next g.kinds.now g.labels.now g.inner.now g.s g.k c.before.before.before.before.before.loop-v.cells-1 (c.before.before.before.before.before.loop-v.v - 1) c.before.before.before.before.before.loop-v.set) first)
+          (sym c.before.before.node_down-set.ensures.0)
+          (down-next g.kinds.now g.labels.now leaves g.inner.now g.s g.k G (c.before.before.before.before.before.loop-v.v - 1) c.before.before.before.before.before.loop-v.set c.before.before.before.before.before.loop-v.cells-1
+          (omega (arith, c.before.before.before.before.before.loop-v.invariant.0, c.before.before.before.before.loop-v-test.true)) (omega (arith, c.before.before.before.before.before.loop-v.invariant.1, c.before.before.before.before.before.before.before.before.before.before.requires.room)) marks first
+          (subst (λ (i : ℕ). DownWritten g.kinds.now g.labels.now leaves g.inner.now marks g.s g.k i c.before.before.before.before.before.loop-v.set
+          first c.before.before.before.before.before.loop-v.cells-1) e (c.before.before.before.before.before.loop-v.invariant.2 leaves marks first G D)))),
     )
 
 returns : tie.Need-returns invariant-loop decreases-loop
 returns c leaves marks first G D =
     let g = c.before.before.before.before.before.before.args in
-    let z : c.before.loop.v ≡ 0 = omega (arith, c.loop-test.false) in
-    down-end g.kinds.now g.labels.now leaves g.inner.now marks g.s g.k c.before.loop.set first c.before.loop.cells
-    (subst (λ (i : ℕ). DownWritten g.kinds.now g.labels.now leaves g.inner.now marks g.s g.k i c.before.loop.set first
-    c.before.loop.cells) z (c.before.loop.invariant.2 leaves marks first G D))
+    let z : c.before.loop-v.v ≡ 0 = omega (arith, c.loop-v-test.false) in
+    down-end g.kinds.now g.labels.now leaves g.inner.now marks g.s g.k c.before.loop-v.set first c.before.loop-v.cells-1
+    (subst (λ (i : ℕ). DownWritten g.kinds.now g.labels.now leaves g.inner.now marks g.s g.k i c.before.loop-v.set first
+    c.before.loop-v.cells-1) z (c.before.loop-v.invariant.2 leaves marks first G D))
 
-pub sets-down-spec : {M : Type 1} → statement M
-sets-down-spec =
+pub sets_down_spec : {M : Type 1} → statement M
+sets_down_spec =
     tie.close
     (tie.spec invariant-loop decreases-loop loop-holds (λ c. search rules) node-down-requires (λ c. search rules) loop-again
     (λ c. search rules) returns)

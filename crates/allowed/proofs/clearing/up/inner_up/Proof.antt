@@ -13,26 +13,26 @@ use Rattle.allowed.proofs.clearing.up.inner_up.Tie as tie
 use Rattle.allowed.proofs.clearing.up.inner_up.Reads as reads
 use Rattle.allowed.proofs.clearing.up.inner_up.Lts as lts
 
-pair-cell-requires : tie.Need-pair-cell-requires
+pair-cell-requires : tie.Need-pair_cell-x-requires
 pair-cell-requires c κs =
     let g = c.before.before.before.before.before.before.before.before.args in
     subst (λ (f : ℕ). PairArgs g.kinds.now g.labels.now g.leaves.now g.inner.now g.s g.k g.cells.now f g.v)
-    (sym c.before.first_of.ensures) c.before.before.before.before.before.before.before.before.requires.pair
+    (sym c.before.first_of-f.ensures) c.before.before.before.before.before.before.before.before.requires.pair
 
-cast-cells : tie.Need-overflow-cast-cells
+cast-cells : tie.Need-overflow_cast-cells
 cast-cells c =
     let g = c.before.before.before.before.before.before.before.before.before.before.before.args in
-    let e = ap (λ (f : ℕ). first_in g.kinds.now g.cells.now (f - 1)) c.before.before.before.before.first_of.ensures in
-    omega (arith, c.first-of2.ensures, e, c.before.before.before.before.before.before.before.before.before.before.before.requires.left_low)
+    let e = ap (λ (f : ℕ). first_in g.kinds.now g.cells.now (f - 1)) c.before.before.before.before.first_of-f.ensures in
+    omega (arith, c.first_of-g.ensures, e, c.before.before.before.before.before.before.before.before.before.before.before.requires.left_low)
 
 returns : tie.Need-returns
 returns c =
     let g = c.before.before.before.before.before.before.before.before.before.before.before.args in
     up-made g.kinds.now g.labels.now g.leaves.now g.inner.now g.s g.k g.cells.now g.v
-    c.before.before.before.before.first_of.result c.before.before.pair-cell.result c.first-of2.result c.before.before.before.before.first_of.ensures c.before.before.pair-cell.ensures c.first-of2.ensures
+    c.before.before.before.before.first_of-f.result c.before.before.pair_cell-x.result c.first_of-g.result c.before.before.before.before.first_of-f.ensures c.before.before.pair_cell-x.ensures c.first_of-g.ensures
 
-pub inner-up-spec : {M : Type 1} → statement M
-inner-up-spec =
+pub inner_up_spec : {M : Type 1} → statement M
+inner_up_spec =
     tie.close
     (tie.spec (λ c. search rules) (λ c κs. search rules) pair-cell-requires (λ c. search rules) (λ c κs. search rules)
     (λ c. search rules) (λ c. search rules) cast-cells (λ c. search rules) (λ c. search rules) (λ c. search rules)

@@ -9,21 +9,21 @@ use Rattle.allowed.proofs.clearing.up.node_up.Tie as tie
 use Rattle.allowed.proofs.clearing.up.node_up.Reads as reads
 use Rattle.allowed.proofs.clearing.up.node_up.Lts as lts
 
-returns : tie.Need-returns
+returns : tie.Need-returns-then-kinds-v-eq0
 returns c =
     let g = c.before.before.before.before.before.before.before.args in
-    leaf-case g.kinds.now g.labels.now g.leaves.now g.inner.now g.s g.k g.cells.now g.v c.if1.true
+    leaf-case g.kinds.now g.labels.now g.leaves.now g.inner.now g.s g.k g.cells-1.now g.v c.if-kinds-v-eq0.true
 
-inner-up-requires : tie.Need-inner-up-requires
-inner-up-requires c κs = c.before.before.before.before.before.before.before.before.requires.inner c.before.if1.false
+inner-up-requires : tie.Need-inner_up-requires
+inner-up-requires c κs = c.before.before.before.before.before.before.before.before.requires.inner c.before.if-kinds-v-eq0.false
 
-returns-2 : tie.Need-returns-2
+returns-2 : tie.Need-returns
 returns-2 c =
     let g = c.before.before.before.before.before.before.before.before.before.before.before.args in
     c.before.before.Inner-up.ensures
-    ∙ inner-case g.kinds.now g.labels.now g.leaves.now g.inner.now g.s g.k g.cells.now g.v c.before.before.before.before.if1.false
+    ∙ inner-case g.kinds.now g.labels.now g.leaves.now g.inner.now g.s g.k g.cells-1.now g.v c.before.before.before.before.if-kinds-v-eq0.false
 
-pub node-up-spec : {M : Type 1} → statement M
-node-up-spec =
+pub node_up_spec : {M : Type 1} → statement M
+node_up_spec =
     tie.close
     (tie.spec (λ c. search rules) returns inner-up-requires (λ c. search rules) returns-2)

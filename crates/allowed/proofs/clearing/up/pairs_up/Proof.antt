@@ -12,41 +12,41 @@ use Rattle.allowed.proofs.clearing.up.pairs_up.Tie as tie
 use Rattle.allowed.proofs.clearing.up.pairs_up.Reads as reads
 use Rattle.allowed.proofs.clearing.up.pairs_up.Lts as lts
 
-abbrev invariant-loop : tie.invariant-loop
+abbrev invariant-loop : tie.invariant-loop-v
 invariant-loop kinds labels leaves inner s k cells₀ n v₀ cells v = (v ≤ n) × (length cells ≡ length cells₀)
     × UpWritten kinds labels leaves inner s k v cells₀ cells
 
-abbrev decreases-loop : tie.decreases-loop
+abbrev decreases-loop : tie.decreases-loop-v
 decreases-loop kinds labels leaves inner s k cells₀ n v₀ cells v = n - v
 
-loop-holds : tie.Need-loop-init invariant-loop decreases-loop
+loop-holds : tie.Need-loop-v-init invariant-loop decreases-loop
 loop-holds c =
-    let g = c.before.before.before.before.before.args in (omega arith, refl, up_start g.kinds.now g.labels.now g.leaves.now g.inner.now g.s g.k g.cells.now)
+    let g = c.before.before.before.before.before.args in (omega arith, refl, up_start g.kinds.now g.labels.now g.leaves.now g.inner.now g.s g.k g.cells-1.now)
 
-node-up-requires : tie.Need-node-up-requires invariant-loop decreases-loop
+node-up-requires : tie.Need-node_up-requires invariant-loop decreases-loop
 node-up-requires c κs =
     let g = c.before.before.before.before.before.before.before.before.args in
-    node-args g.kinds.now g.labels.now g.leaves.now g.inner.now g.s g.k c.before.before.before.before.before.before.before.before.requires.0 c.before.before.loop.v g.cells.now c.before.before.loop.cells
-    c.before.loop-test.true c.before.before.loop.invariant.2 (omega (arith, c.before.before.before.before.before.before.before.before.requires.1, c.before.before.loop.invariant.1))
+    node-args g.kinds.now g.labels.now g.leaves.now g.inner.now g.s g.k c.before.before.before.before.before.before.before.before.requires.0 c.before.before.loop-v.v g.cells-1.now c.before.before.loop-v.cells-1
+    c.before.loop-v-test.true c.before.before.loop-v.invariant.2 (omega (arith, c.before.before.before.before.before.before.before.before.requires.1, c.before.before.loop-v.invariant.1))
 
-loop-again : tie.Need-loop-preserved invariant-loop decreases-loop
+loop-again : tie.Need-loop-v-preserved invariant-loop decreases-loop
 loop-again c =
     let g = c.before.before.before.before.before.before.before.before.before.before.before.args in (
-      omega (arith, c.before.before.before.before.loop-test.true),
-      omega (arith, c.before.before.before.before.before.loop.invariant.1),
-      subst (UpWritten g.kinds.now g.labels.now g.leaves.now g.inner.now g.s g.k (c.before.before.before.before.before.loop.v + 1) g.cells.now) (sym c.before.before.node-up.ensures)
-          (up_next g.kinds.now g.labels.now g.leaves.now g.inner.now g.s g.k c.before.before.before.before.before.before.before.before.before.before.before.requires.0 c.before.before.before.before.before.loop.v g.cells.now c.before.before.before.before.before.loop.cells c.before.before.before.before.loop-test.true c.before.before.before.before.before.loop.invariant.2
-          (omega (arith, c.before.before.before.before.before.before.before.before.before.before.before.requires.1, c.before.before.before.before.before.loop.invariant.1))),
+      omega (arith, c.before.before.before.before.loop-v-test.true),
+      omega (arith, c.before.before.before.before.before.loop-v.invariant.1),
+      subst (UpWritten g.kinds.now g.labels.now g.leaves.now g.inner.now g.s g.k (c.before.before.before.before.before.loop-v.v + 1) g.cells-1.now) (sym c.before.before.node_up.ensures)
+          (up_next g.kinds.now g.labels.now g.leaves.now g.inner.now g.s g.k c.before.before.before.before.before.before.before.before.before.before.before.requires.0 c.before.before.before.before.before.loop-v.v g.cells-1.now c.before.before.before.before.before.loop-v.cells-1 c.before.before.before.before.loop-v-test.true c.before.before.before.before.before.loop-v.invariant.2
+          (omega (arith, c.before.before.before.before.before.before.before.before.before.before.before.requires.1, c.before.before.before.before.before.loop-v.invariant.1))),
     )
 
 returns : tie.Need-returns invariant-loop decreases-loop
 returns c =
     let g = c.before.before.before.before.before.before.before.args in
-    let e : c.before.loop.v ≡ length g.kinds.now = omega (arith, c.before.loop.invariant.0, c.loop-test.false) in
-    subst (λ (i : ℕ). UpWritten g.kinds.now g.labels.now g.leaves.now g.inner.now g.s g.k i g.cells.now c.before.loop.cells) e c.before.loop.invariant.2
+    let e : c.before.loop-v.v ≡ length g.kinds.now = omega (arith, c.before.loop-v.invariant.0, c.loop-v-test.false) in
+    subst (λ (i : ℕ). UpWritten g.kinds.now g.labels.now g.leaves.now g.inner.now g.s g.k i g.cells-1.now c.before.loop-v.cells-1) e c.before.loop-v.invariant.2
 
-pub pairs-up-spec : {M : Type 1} → statement M
-pairs-up-spec =
+pub pairs_up_spec : {M : Type 1} → statement M
+pairs_up_spec =
     tie.close
     (tie.spec invariant-loop decreases-loop loop-holds node-up-requires (λ c. search rules) (λ c. search rules) loop-again
     (λ c. search rules) returns)

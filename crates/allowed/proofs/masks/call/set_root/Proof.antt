@@ -11,20 +11,20 @@ use Rattle.allowed.proofs.masks.call.set_root.Reads as reads
 use Rattle.allowed.proofs.masks.call.set_root.Lts as lts
 use Rattle.allowed.proofs.sets.marked_set.Reads as marked-set-reads
 
-mul-cells : tie.Need-overflow-mul-cells
-mul-cells c = omega (arith, c.before.marked-set.ensures.1)
+mul-cells : tie.Need-overflow_mul-cells
+mul-cells c = omega (arith, c.before.marked_set-c.ensures.1)
 
-add-cells : tie.Need-overflow-add-cells
-add-cells c = omega (arith, c.before.marked-set.ensures.1, c.before.before.before.before.requires.low)
+add-cells : tie.Need-overflow_add-cells
+add-cells c = omega (arith, c.before.marked_set-c.ensures.1, c.before.before.before.before.requires.low)
 
 returns : tie.Need-returns
 unfolding root_set
 returns c =
     let g = c.before.before.before.before.args in
-    ap (λ (x : ℕ). set g.cells.now g.root (get_or g.cells.now g.root 0 + 1048576 * x)) c.before.marked-set.ensures.0
+    ap (λ (x : ℕ). set g.cells.now g.root (get_or g.cells.now g.root 0 + 1048576 * x)) c.before.marked_set-c.ensures.0
 
-pub set-root-spec : {M : Type 1} → statement M
-set-root-spec =
+pub set_root_spec : {M : Type 1} → statement M
+set_root_spec =
     tie.close
     (tie.spec (λ c κs. search rules) (λ c. search rules) (λ c. search rules) mul-cells add-cells (λ c. search rules)
     (λ c. search rules) (λ c. search rules) returns)

@@ -11,7 +11,7 @@ use Rattle.allowed.proofs.masks.call.write_allowed.Lts as lts
 use Rattle.allowed.proofs.masks.call.write_parts.Reads as write-parts-reads
 use Rattle.formats.proofs.rules.inner_count.Reads as inner-count-reads
 
-write-parts-requires : tie.Need-write-parts-requires
+write-parts-requires : tie.Need-write_parts-requires
 write-parts-requires c κs =
     let i = c.before.before.before.before.before.before in
     parts-given c.before.before.before.before.before.before.before.before.before.before.requires i.inner_count.result i.inner_count.ensures.value
@@ -20,11 +20,11 @@ returns : tie.Need-returns
 returns c =
     let t = c.before.before.before.before.before.before.before.before.before.before.before.before.before in
     let i = c.before.before.before.before.before.before.before.before.before in
-    parts-list t.requires i.inner_count.result i.inner_count.ensures.value t.args.masks.now
-    c.before.before.write-parts.new.1.1.1.1.1.1.1.0 refl (omega arith) c.before.before.write-parts.ensures
+    parts-list t.requires i.inner_count.result i.inner_count.ensures.value t.args.masks-1.now
+    c.before.before.write_parts.new.1.1.1.1.1.1.1.0 refl (omega arith) c.before.before.write_parts.ensures
 
-pub write-allowed-spec : {M : Type 1} → statement M
-write-allowed-spec =
+pub write_allowed_spec : {M : Type 1} → statement M
+write_allowed_spec =
     tie.close
     (tie.spec (λ c. search rules) (λ c κs. search rules) (λ c. search rules) (λ c. search rules) (λ c. search rules)
     (λ c. search rules) (λ c. search rules) (λ c. search rules) (λ c. search rules) (λ c. search rules)

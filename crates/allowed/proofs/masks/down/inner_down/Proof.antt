@@ -20,7 +20,7 @@ stored : (b : List ℕ) (r l v x y p q p' q' m m' : ℕ) → p ≡ p' → q ≡ 
     → set (set (set b r (x + 1048576 * p)) l (y + 1048576 * q)) v m ≡ set (set (set b r (x + 1048576 * p')) l (y + 1048576 * q')) v m'
 stored b r l v x y p q p' q' m m' e f g = rw (e, f, g)
 
-slice-write-cells-2 : tie.Need-slice-write-cells-2
+slice-write-cells-2 : tie.Need-bounds-cells-left-2
 slice-write-cells-2 c =
     let t = c.before.before.before.before.before.before.before.before in
     simp length-set (omega (arith, t.requires.inside, t.requires.pos))
@@ -32,11 +32,11 @@ returns c =
     let g = t.args in
     let b = g.cells.now in
     stored b (g.v - 1) (left_within b g.v) g.v (get_or b (g.v - 1) 0) (get_or b (left_within b g.v) 0)
-    c.before.before.right-set.result c.before.left-set.result _ _ c.inner-labels.result _
-    c.before.before.right-set.ensures.0 c.before.left-set.ensures.0 c.inner-labels.ensures
+    c.before.before.right_set-r.result c.before.left_set-l.result _ _ c.inner_labels-m.result _
+    c.before.before.right_set-r.ensures.0 c.before.left_set-l.ensures.0 c.inner_labels-m.ensures
 
-pub inner-down-spec : {M : Type 1} → statement M
-inner-down-spec =
+pub inner_down_spec : {M : Type 1} → statement M
+inner_down_spec =
     tie.close
     (tie.spec (λ c. search rules) (λ c. search rules) (λ c. search rules) (λ c. search rules) (λ c. search rules)
     (λ c. search rules) (λ c. search rules) (λ c. search rules) (λ c. search rules) (λ c κs. search rules)

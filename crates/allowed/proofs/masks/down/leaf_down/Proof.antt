@@ -13,10 +13,10 @@ use Rattle.state_sets.proofs.gather.gathered.Reads as gathered-reads
 
 returns : tie.Need-returns
 unfolding leaf_down
-returns c = let g = c.before.before.before.before.args in ap (set g.cells.now g.v) c.gathered.ensures
+returns c = let g = c.before.before.before.before.args in ap (set g.cells.now g.v) c.gathered-m.ensures
 
-pub leaf-down-spec : {M : Type 1} → statement M
-leaf-down-spec =
+pub leaf_down_spec : {M : Type 1} → statement M
+leaf_down_spec =
     tie.close
     (tie.spec (λ c. search rules) (λ c. search rules) (λ c κs. search rules) (λ c. search rules) (λ c. search rules)
     (λ c. search rules) returns)

@@ -12,31 +12,31 @@ use Rattle.allowed.proofs.masks.down.node_down.Lts as lts
 use Rattle.allowed.proofs.masks.down.inner_down.Reads as inner-down-reads
 use Rattle.allowed.proofs.masks.down.leaf_down.Reads as leaf-down-reads
 
-returns : tie.Need-returns
+returns : tie.Need-returns-then-kinds-v-eq0
 returns c =
     let t = c.before.before.before.before.before.before.before.before.before.before.before in
     let g = t.args in
-    c.before.before.leaf-down.ensures
-    ∙ leaf-case g.kinds.now g.labels.now g.leaves.now g.inner.now g.s g.k g.cells.now g.v c.before.before.before.before.if1.true
+    c.before.before.leaf_down.ensures
+    ∙ leaf-case g.kinds.now g.labels.now g.leaves.now g.inner.now g.s g.k g.cells-1.now g.v c.before.before.before.before.if-kinds-v-eq0.true
 
-cast-inner-down : tie.Need-overflow-cast-inner-down
+cast-inner-down : tie.Need-overflow_cast-labels
 cast-inner-down c =
     let t = c.before.before.before.before.before.before.before.before in
-    omega (arith, c.shared-slice-known6.given t.args.v)
+    omega (arith, c.shared_slice_known-6-1.given t.args.v)
 
-inner-down-requires : tie.Need-inner-down-requires
+inner-down-requires : tie.Need-inner_down-requires
 inner-down-requires c κs =
-    let t = c.before.before.before.before.before.before.before.before.before in t.requires.inner c.before.before.if1.false
+    let t = c.before.before.before.before.before.before.before.before.before in t.requires.inner c.before.before.if-kinds-v-eq0.false
 
-returns-2 : tie.Need-returns-2
+returns-2 : tie.Need-returns
 returns-2 c =
     let t = c.before.before.before.before.before.before.before.before.before.before.before.before in
     let g = t.args in
-    c.before.before.inner-down.ensures
-    ∙ inner-case g.kinds.now g.labels.now g.leaves.now g.inner.now g.s g.k g.cells.now g.v c.before.before.before.before.before.if1.false
+    c.before.before.inner_down.ensures
+    ∙ inner-case g.kinds.now g.labels.now g.leaves.now g.inner.now g.s g.k g.cells-1.now g.v c.before.before.before.before.before.if-kinds-v-eq0.false
 
-pub node-down-spec : {M : Type 1} → statement M
-node-down-spec =
+pub node_down_spec : {M : Type 1} → statement M
+node_down_spec =
     tie.close
     (tie.spec (λ c. search rules) (λ c κs. search rules) (λ c. search rules) returns (λ c. search rules)
     cast-inner-down inner-down-requires (λ c. search rules) returns-2)

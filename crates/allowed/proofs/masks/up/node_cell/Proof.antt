@@ -11,39 +11,39 @@ use Rattle.allowed.proofs.masks.up.node_cell.Reads as reads
 use Rattle.allowed.proofs.masks.up.node_cell.Lts as lts
 use Rattle.allowed.proofs.masks.up.inner_cell.Reads as inner-cell-reads
 
-cast-result : tie.Need-overflow-cast-result
+cast-result : tie.Need-overflow_cast-result
 cast-result c =
     let t = c.before.before.before.before.before.before.before.before.before in
     omega (arith, t.requires.leaf_below (get_or t.args.labels.now t.args.v 0))
 
-mul-result : tie.Need-overflow-mul-result
+mul-result : tie.Need-overflow_mul-result
 mul-result c =
     let t = c.before.before.before.before.before.before.before.before.before in
     omega (arith, t.requires.leaf_below (get_or t.args.labels.now t.args.v 0))
 
-add-result : tie.Need-overflow-add-result
+add-result : tie.Need-overflow_add-result
 add-result c =
     let t = c.before.before.before.before.before.before.before.before.before in
     omega (arith, t.requires.leaf_below (get_or t.args.labels.now t.args.v 0))
 
-returns : tie.Need-returns
+returns : tie.Need-returns-then-kinds-v-eq0
 returns c =
     let t = c.before.before.before.before.before.before.before.before.before in
     let g = t.args in
-    leaf-cell g.kinds.now g.labels.now g.leaves.now g.inner.now g.s g.k g.cells.now g.v c.before.if1.true
+    leaf-cell g.kinds.now g.labels.now g.leaves.now g.inner.now g.s g.k g.cells.now g.v c.before.if-kinds-v-eq0.true
 
-inner-cell-requires : tie.Need-inner-cell-requires
-inner-cell-requires c κs = c.before.before.before.before.before.before.before.before.requires.inner c.if1.false
+inner-cell-requires : tie.Need-inner_cell-requires
+inner-cell-requires c κs = c.before.before.before.before.before.before.before.before.requires.inner c.if-kinds-v-eq0.false
 
-returns-2 : tie.Need-returns-2
+returns-2 : tie.Need-returns
 returns-2 c =
     let t = c.before.before.before.before.before.before.before.before.before in
     let g = t.args in
-    c.inner-cell.ensures
-    ∙ inner-cell g.kinds.now g.labels.now g.leaves.now g.inner.now g.s g.k g.cells.now g.v c.before.if1.false
+    c.inner_cell.ensures
+    ∙ inner-cell g.kinds.now g.labels.now g.leaves.now g.inner.now g.s g.k g.cells.now g.v c.before.if-kinds-v-eq0.false
 
-pub node-cell-spec : {M : Type 1} → statement M
-node-cell-spec =
+pub node_cell_spec : {M : Type 1} → statement M
+node_cell_spec =
     tie.close
     (tie.spec (λ c. search rules) (λ c. search rules) (λ c. search rules) (λ c. search rules) cast-result mul-result
     add-result returns inner-cell-requires returns-2)

@@ -12,35 +12,35 @@ use Rattle.allowed.proofs.masks.up.run_up.Reads as reads
 use Rattle.allowed.proofs.masks.up.run_up.Lts as lts
 use Rattle.allowed.proofs.masks.up.node_cell.Reads as node-cell-reads
 
-abbrev invariant-loop : tie.invariant-loop
+abbrev invariant-loop : tie.invariant-loop-v
 invariant-loop kinds labels leaves inner s k cells₀ n v₀ cells v = (v ≤ n) × (length cells ≡ length cells₀) × UpWritten kinds labels leaves inner s k v cells₀ cells
 
-abbrev decreases-loop : tie.decreases-loop
+abbrev decreases-loop : tie.decreases-loop-v
 decreases-loop kinds labels leaves inner s k cells₀ n v₀ cells v = n - v
 
-loop-holds : tie.Need-loop-init invariant-loop decreases-loop
+loop-holds : tie.Need-loop-v-init invariant-loop decreases-loop
 loop-holds c =
     let g = c.before.before.before.before.before.args in
     (omega arith, refl, up_start g.kinds.now g.labels.now g.leaves.now g.inner.now g.s g.k g.cells.now)
 
-node-cell-requires : tie.Need-node-cell-requires invariant-loop decreases-loop
+node-cell-requires : tie.Need-node_cell-x-requires invariant-loop decreases-loop
 node-cell-requires c κs =
     let t = c.before.before.before.before.before.before.before.before in
     let g = t.args in
-    let l = c.before.before.loop in
+    let l = c.before.before.loop-v in
     node-args g.kinds.now g.labels.now g.leaves.now g.inner.now g.s g.k t.requires.0 l.v g.cells.now
-    l.cells c.before.loop-test.true l.invariant.2 (omega (arith, t.requires.1, l.invariant.1))
+    l.cells c.before.loop-v-test.true l.invariant.2 (omega (arith, t.requires.1, l.invariant.1))
 
-loop-again : tie.Need-loop-preserved invariant-loop decreases-loop
+loop-again : tie.Need-loop-v-preserved invariant-loop decreases-loop
 loop-again c =
     let t = c.before.before.before.before.before.before.before.before.before in
     let g = t.args in
-    let l = c.before.before.before.loop in
-    let h = c.before.before.loop-test.true in (
+    let l = c.before.before.before.loop-v in
+    let h = c.before.before.loop-v-test.true in (
       omega (arith, h),
-      length-set l.cells l.v c.node-cell.result ∙ l.invariant.1,
+      length-set l.cells l.v c.node_cell-x.result ∙ l.invariant.1,
       subst (λ (x : ℕ). UpWritten g.kinds.now g.labels.now g.leaves.now g.inner.now g.s g.k (l.v + 1)
-          g.cells.now (set l.cells l.v x)) (sym c.node-cell.ensures)
+          g.cells.now (set l.cells l.v x)) (sym c.node_cell-x.ensures)
           (up_next g.kinds.now g.labels.now g.leaves.now g.inner.now g.s g.k t.requires.0 l.v g.cells.now
           l.cells h l.invariant.2 (omega (arith, t.requires.1, l.invariant.1))),
     )
@@ -48,13 +48,13 @@ loop-again c =
 returns : tie.Need-returns invariant-loop decreases-loop
 returns c =
     let g = c.before.before.before.before.before.before.before.args in
-    let l = c.before.loop in
-    let e : l.v ≡ length g.kinds.now = omega (arith, l.invariant.0, c.loop-test.false) in
+    let l = c.before.loop-v in
+    let e : l.v ≡ length g.kinds.now = omega (arith, l.invariant.0, c.loop-v-test.false) in
     subst (λ (i : ℕ). UpWritten g.kinds.now g.labels.now g.leaves.now g.inner.now g.s g.k i g.cells.now
     l.cells) e l.invariant.2
 
-pub run-up-spec : {M : Type 1} → statement M
-run-up-spec =
+pub run_up_spec : {M : Type 1} → statement M
+run_up_spec =
     tie.close
     (tie.spec invariant-loop decreases-loop loop-holds node-cell-requires (λ c. search rules) (λ c. search rules)
     (λ c. search rules) (λ c. search rules) loop-again (λ c. search rules) returns)

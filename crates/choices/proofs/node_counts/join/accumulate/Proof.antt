@@ -10,92 +10,92 @@ use Rattle.choices.proofs.node_counts.join.accumulate.Reads as reads
 use Rattle.choices.proofs.node_counts.join.accumulate.Lts as lts
 use Rattle.choices.proofs.node_counts.sums.capped_add.Reads as capped-add-reads
 
-abbrev invariant-loop : tie.invariant-loop
+abbrev invariant-loop : tie.invariant-loop-b
 invariant-loop inner s k from to p q x out₀ b₀ out b = Pouring inner s k from to p q x out₀ out b
 
-abbrev decreases-loop : tie.decreases-loop
+abbrev decreases-loop : tie.decreases-loop-b
 decreases-loop inner s k from to p q x out₀ b₀ out b = to - b
 
-returns : tie.Need-returns invariant-loop decreases-loop
-returns c = accumulate-none _ _ _ _ _ _ _ _ _ c.before.before.requires c.if1.true
+returns : tie.Need-returns-then-x-eq0 invariant-loop decreases-loop
+returns c = accumulate-none _ _ _ _ _ _ _ _ _ c.before.before.requires c.if-x-eq0.true
 
-loop-holds : tie.Need-loop-init invariant-loop decreases-loop
+loop-holds : tie.Need-loop-b-init invariant-loop decreases-loop
 loop-holds c =
     accumulating-start _ _ _ _ _ _ _ _ _ c.before.before.requires
 
-mul-d : tie.Need-overflow-mul-d invariant-loop decreases-loop
+mul-d : tie.Need-overflow_mul-d invariant-loop decreases-loop
 mul-d c =
-    omega (arith, accumulating-row _ _ _ _ _ _ _ _ _ _ _ c.before.loop.invariant c.loop-test.true)
+    omega (arith, accumulating-row _ _ _ _ _ _ _ _ _ _ _ c.before.loop-b.invariant c.loop-b-test.true)
 
-add-d : tie.Need-overflow-add-d invariant-loop decreases-loop
+add-d : tie.Need-overflow_add-d invariant-loop decreases-loop
 add-d c =
-    omega (arith, accumulating-row _ _ _ _ _ _ _ _ _ _ _ c.before.loop.invariant c.loop-test.true)
+    omega (arith, accumulating-row _ _ _ _ _ _ _ _ _ _ _ c.before.loop-b.invariant c.loop-b-test.true)
 
-mul-d-2 : tie.Need-overflow-mul-d-2 invariant-loop decreases-loop
+mul-d-2 : tie.Need-overflow_mul-d-in-loop-b invariant-loop decreases-loop
 mul-d-2 c =
-    omega (arith, accumulating-cell _ _ _ _ _ _ _ _ _ _ _ c.before.loop.invariant c.loop-test.true)
+    omega (arith, accumulating-cell _ _ _ _ _ _ _ _ _ _ _ c.before.loop-b.invariant c.loop-b-test.true)
 
-add-d-2 : tie.Need-overflow-add-d-2 invariant-loop decreases-loop
+add-d-2 : tie.Need-overflow_add-d-in-loop-b invariant-loop decreases-loop
 add-d-2 c =
-    omega (arith, accumulating-cell _ _ _ _ _ _ _ _ _ _ _ c.before.loop.invariant c.loop-test.true)
+    omega (arith, accumulating-cell _ _ _ _ _ _ _ _ _ _ _ c.before.loop-b.invariant c.loop-b-test.true)
 
-shared-slice-read-d : tie.Need-shared-slice-read-d invariant-loop decreases-loop
+shared-slice-read-d : tie.Need-bounds-inner-p invariant-loop decreases-loop
 shared-slice-read-d c =
-    accumulating-in _ _ _ _ _ _ _ _ _ _ _ c.before.before.loop.invariant c.before.loop-test.true
+    accumulating-in _ _ _ _ _ _ _ _ _ _ _ c.before.before.loop-b.invariant c.before.loop-b-test.true
 
-cast-d : tie.Need-overflow-cast-d invariant-loop decreases-loop
+cast-d : tie.Need-overflow_cast-d invariant-loop decreases-loop
 cast-d c =
-    omega (arith, accumulating-state _ _ _ _ _ _ _ _ _ _ _ c.before.before.loop.invariant c.before.loop-test.true)
+    omega (arith, accumulating-state _ _ _ _ _ _ _ _ _ _ _ c.before.before.loop-b.invariant c.before.loop-b-test.true)
 
-mul-capped-add : tie.Need-overflow-mul-capped-add invariant-loop decreases-loop
+mul-capped-add : tie.Need-offset_bounds-out-d invariant-loop decreases-loop
 mul-capped-add c =
-    omega (arith, accumulating-state _ _ _ _ _ _ _ _ _ _ _ c.before.before.loop.invariant c.before.loop-test.true)
+    omega (arith, accumulating-state _ _ _ _ _ _ _ _ _ _ _ c.before.before.loop-b.invariant c.before.loop-b-test.true)
 
-element-copy-out-capped-add : tie.Need-element-copy-out-capped-add invariant-loop decreases-loop
+element-copy-out-capped-add : tie.Need-bounds-out-d invariant-loop decreases-loop
 element-copy-out-capped-add c =
-    accumulating-state _ _ _ _ _ _ _ _ _ _ _ c.before.before.loop.invariant c.before.loop-test.true
+    accumulating-state _ _ _ _ _ _ _ _ _ _ _ c.before.before.loop-b.invariant c.before.loop-b-test.true
 
-capped-add-requires : tie.Need-capped-add-requires invariant-loop decreases-loop
+capped-add-requires : tie.Need-capped_add-requires invariant-loop decreases-loop
 capped-add-requires c κs =
-    (c.before.before.before.loop.invariant.kept.most _, c.before.before.before.loop.invariant.args.many)
+    (c.before.before.before.loop-b.invariant.kept.most _, c.before.before.before.loop-b.invariant.args.many)
 
-mul-out : tie.Need-overflow-mul-out invariant-loop decreases-loop
+mul-out : tie.Need-offset_bounds-out-d-in-loop-b invariant-loop decreases-loop
 mul-out c =
     omega (
       arith,
-      accumulating-state _ _ _ _ _ _ _ _ _ _ _ c.before.before.before.before.loop.invariant
-          c.before.before.before.loop-test.true,
+      accumulating-state _ _ _ _ _ _ _ _ _ _ _ c.before.before.before.before.loop-b.invariant
+          c.before.before.before.loop-b-test.true,
     )
 
-element-write-out : tie.Need-element-write-out invariant-loop decreases-loop
+element-write-out : tie.Need-bounds-out-d-in-loop-b invariant-loop decreases-loop
 element-write-out c =
-    accumulating-state _ _ _ _ _ _ _ _ _ _ _ c.before.before.before.before.loop.invariant
-    c.before.before.before.loop-test.true
+    accumulating-state _ _ _ _ _ _ _ _ _ _ _ c.before.before.before.before.loop-b.invariant
+    c.before.before.before.loop-b-test.true
 
-add-b : tie.Need-overflow-add-b invariant-loop decreases-loop
+add-b : tie.Need-overflow_add-b invariant-loop decreases-loop
 add-b c =
     omega (
       arith,
-      c.before.before.before.before.loop.invariant.args.table.labels,
-      c.before.before.before.before.loop.invariant.args.table.labels_most,
-      c.before.before.before.loop-test.true,
+      c.before.before.before.before.loop-b.invariant.args.table.labels,
+      c.before.before.before.before.loop-b.invariant.args.table.labels_most,
+      c.before.before.before.loop-b-test.true,
     )
 
-loop-less : tie.Need-loop-smaller invariant-loop decreases-loop
+loop-less : tie.Need-loop-b-smaller invariant-loop decreases-loop
 loop-less c =
-    omega (arith, c.before.before.before.loop-test.true)
+    omega (arith, c.before.before.before.loop-b-test.true)
 
-loop-again : tie.Need-loop-preserved invariant-loop decreases-loop
+loop-again : tie.Need-loop-b-preserved invariant-loop decreases-loop
 loop-again c =
-    accumulating-next _ _ _ _ _ _ _ _ _ _ _ c.before.before.before.before.loop.invariant
-    c.before.before.before.loop-test.true c.capped-add.result c.capped-add.ensures
+    accumulating-next _ _ _ _ _ _ _ _ _ _ _ c.before.before.before.before.loop-b.invariant
+    c.before.before.before.loop-b-test.true c.capped_add.result c.capped_add.ensures
 
-returns-2 : tie.Need-returns-2 invariant-loop decreases-loop
+returns-2 : tie.Need-returns invariant-loop decreases-loop
 returns-2 c =
-    accumulating-done _ _ _ _ _ _ _ _ _ _ _ c.before.loop.invariant c.loop-test.false
+    accumulating-done _ _ _ _ _ _ _ _ _ _ _ c.before.loop-b.invariant c.loop-b-test.false
 
-pub accumulate-spec : {M : Type 1} → statement M
-accumulate-spec =
+pub accumulate_spec : {M : Type 1} → statement M
+accumulate_spec =
     tie.close
     (tie.spec invariant-loop decreases-loop returns loop-holds mul-d add-d mul-d-2 add-d-2 shared-slice-read-d cast-d mul-capped-add
     element-copy-out-capped-add capped-add-requires mul-out element-write-out add-b loop-less loop-again returns-2)

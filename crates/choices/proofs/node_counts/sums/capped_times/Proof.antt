@@ -12,34 +12,34 @@ use Rattle.choices.proofs.node_counts.sums.capped_times.Lts as lts
 positive : (b : ℕ) → (b ≡ 0 → ⊥) → 0 < b
 positive b n = omega arith
 
-returns : tie.Need-returns
+returns : tie.Need-returns-then-a-eq0
 returns c =
-    let z = ap (λ (m : ℕ). m * c.before.args.b) c.if1.true in omega (arith, z)
+    let z = ap (λ (m : ℕ). m * c.before.args.b) c.if-a-eq0.true in omega (arith, z)
 
-returns-2 : tie.Need-returns-2
+returns-2 : tie.Need-returns-then-b-eq0
 returns-2 c =
-    let z = ap (λ (m : ℕ). c.before.before.args.a * m) c.if2.true in omega (arith, z)
+    let z = ap (λ (m : ℕ). c.before.before.args.a * m) c.if-b-eq0.true in omega (arith, z)
 
-returns-3 : tie.Need-returns-3
+returns-3 : tie.Need-returns-then-b-a
 returns-3 c = omega (
   arith,
   product-above c.before.before.before.args.a c.before.before.before.args.b
-      (positive c.before.before.before.args.b c.before.if2.false) c.if3.true,
+      (positive c.before.before.before.args.b c.before.if-b-eq0.false) c.if-b-a.true,
 )
 
-mul-result : tie.Need-overflow-mul-result
+mul-result : tie.Need-overflow_mul-result
 mul-result c = omega (
   arith,
   product-within c.before.before.before.args.a c.before.before.before.args.b
-      (positive c.before.before.before.args.b c.before.if2.false) c.if3.false,
+      (positive c.before.before.before.args.b c.before.if-b-eq0.false) c.if-b-a.false,
 )
 
-returns-4 : tie.Need-returns-4
+returns-4 : tie.Need-returns
 returns-4 c = omega (
   arith,
   product-within c.before.before.before.args.a c.before.before.before.args.b
-      (positive c.before.before.before.args.b c.before.if2.false) c.if3.false,
+      (positive c.before.before.before.args.b c.before.if-b-eq0.false) c.if-b-a.false,
 )
 
-pub capped-times-spec : {M : Type 1} → statement M
-capped-times-spec = tie.close (tie.spec returns returns-2 (λ c. search rules) returns-3 mul-result returns-4)
+pub capped_times_spec : {M : Type 1} → statement M
+capped_times_spec = tie.close (tie.spec returns returns-2 (λ c. search rules) returns-3 mul-result returns-4)

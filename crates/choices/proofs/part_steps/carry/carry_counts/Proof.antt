@@ -12,101 +12,101 @@ use Rattle.choices.proofs.part_steps.carry.carry_counts.Lts as lts
 use Rattle.choices.proofs.node_counts.sums.capped_add.Reads as capped-add-reads
 use Rattle.tables.proofs.climb.climb_state.Reads as climb-state-reads
 
-abbrev invariant-loop : tie.invariant-loop
+abbrev invariant-loop : tie.invariant-loop-q
 invariant-loop labels inner node-table state-table n s k from to row out₀ links₀ q₀ out links q =
     Carrying n s k labels inner node-table state-table from to row out₀ out links q
 
-abbrev decreases-loop : tie.decreases-loop
+abbrev decreases-loop : tie.decreases-loop-q
 decreases-loop labels inner node-table state-table n s k from to row out₀ links₀ q₀ out links q = s - q
 
-loop-holds : tie.Need-loop-init invariant-loop decreases-loop
+loop-holds : tie.Need-loop-q-init invariant-loop decreases-loop
 loop-holds c =
     carry-start _ _ _ _ _ _ _ _ _ _ _ c.before.before.before.before.requires
 
-climb-state-requires : tie.Need-climb-state-requires invariant-loop decreases-loop
+climb-state-requires : tie.Need-climb_state-requires invariant-loop decreases-loop
 climb-state-requires c κs =
-    carry-climb _ _ _ _ _ _ _ _ _ _ _ _ _ _ c.before.loop.invariant c.loop-test.true
+    carry-climb _ _ _ _ _ _ _ _ _ _ _ _ _ _ c.before.loop-q.invariant c.loop-q-test.true
 
-element-copy-out-capped-add : tie.Need-element-copy-out-capped-add invariant-loop decreases-loop
+element-copy-out-capped-add : tie.Need-bounds-out-d invariant-loop decreases-loop
 element-copy-out-capped-add c =
-    carry-state _ _ _ _ _ _ _ _ _ _ _ _ _ _ c.before.before.before.before.before.before.loop.invariant
-    c.before.before.before.before.before.loop-test.true c.before.before.x.given.0.0
-    (sym c.before.before.x.given.1 ∙ c.before.before.before.before.climb-state.ensures)
+    carry-state _ _ _ _ _ _ _ _ _ _ _ _ _ _ c.before.before.before.before.before.before.loop-q.invariant
+    c.before.before.before.before.before.loop-q-test.true c.before.before.x-1.given.0.0
+    (sym c.before.before.x-1.given.1 ∙ c.before.before.before.before.climb_state.ensures)
 
-cast-d : tie.Need-overflow-cast-d invariant-loop decreases-loop
+cast-d : tie.Need-overflow_cast-d invariant-loop decreases-loop
 cast-d c = omega (arith, element-copy-out-capped-add c)
 
-mul-capped-add : tie.Need-overflow-mul-capped-add invariant-loop decreases-loop
+mul-capped-add : tie.Need-offset_bounds-out-d invariant-loop decreases-loop
 mul-capped-add c = omega (arith, element-copy-out-capped-add c)
 
-mul-capped-add-2 : tie.Need-overflow-mul-capped-add-2 invariant-loop decreases-loop
+mul-capped-add-2 : tie.Need-offset_bounds-row-q invariant-loop decreases-loop
 mul-capped-add-2 c =
     omega (
       arith,
-      c.before.before.before.before.before.before.loop-test.true,
-      c.before.before.before.before.before.before.before.loop.invariant.args.path.few,
+      c.before.before.before.before.before.before.loop-q-test.true,
+      c.before.before.before.before.before.before.before.loop-q.invariant.args.path.few,
     )
 
-element-copy-out-capped-add-2 : tie.Need-element-copy-out-capped-add-2 invariant-loop decreases-loop
+element-copy-out-capped-add-2 : tie.Need-bounds-row-q invariant-loop decreases-loop
 element-copy-out-capped-add-2 c =
     omega (
       arith,
-      c.before.before.before.before.before.before.loop-test.true,
-      c.before.before.before.before.before.before.before.loop.invariant.args.path.few,
+      c.before.before.before.before.before.before.loop-q-test.true,
+      c.before.before.before.before.before.before.before.loop-q.invariant.args.path.few,
     )
 
-capped-add-requires : tie.Need-capped-add-requires invariant-loop decreases-loop
+capped-add-requires : tie.Need-capped_add-requires invariant-loop decreases-loop
 capped-add-requires c κs = (
-  c.before.before.before.before.before.before.before.before.loop.invariant.kept.most _,
-  c.before.before.before.before.before.before.before.before.loop.invariant.args.row_kept.most _,
+  c.before.before.before.before.before.before.before.before.loop-q.invariant.kept.most _,
+  c.before.before.before.before.before.before.before.before.loop-q.invariant.args.row_kept.most _,
 )
 
-mul-out : tie.Need-overflow-mul-out invariant-loop decreases-loop
+mul-out : tie.Need-offset_bounds-out-d-in-Reached invariant-loop decreases-loop
 mul-out c = omega (arith, element-copy-out-capped-add c.before.before.before)
 
-element-write-out : tie.Need-element-write-out invariant-loop decreases-loop
+element-write-out : tie.Need-bounds-out-d-in-Reached invariant-loop decreases-loop
 element-write-out c =
     carry-state _ _ _ _ _ _ _ _ _ _ _ _ _ _
-    c.before.before.before.before.before.before.before.before.before.loop.invariant
-    c.before.before.before.before.before.before.before.before.loop-test.true
-    c.before.before.before.before.before.x.given.0.0
-    (sym c.before.before.before.before.before.x.given.1
-    ∙ c.before.before.before.before.before.before.before.climb-state.ensures)
+    c.before.before.before.before.before.before.before.before.before.loop-q.invariant
+    c.before.before.before.before.before.before.before.before.loop-q-test.true
+    c.before.before.before.before.before.x-1.given.0.0
+    (sym c.before.before.before.before.before.x-1.given.1
+    ∙ c.before.before.before.before.before.before.before.climb_state.ensures)
 
-returns : tie.Need-returns invariant-loop decreases-loop
+returns : tie.Need-returns-in-OutOfRange invariant-loop decreases-loop
 returns c =
-    carry-lost _ _ _ _ _ _ _ _ _ _ _ _ _ _ c.before.before.before.before.loop.invariant
-    c.before.before.before.loop-test.true
-    (sym c.enum_told.given.1 ∙ c.before.before.climb-state.ensures)
+    carry-lost _ _ _ _ _ _ _ _ _ _ _ _ _ _ c.before.before.before.before.loop-q.invariant
+    c.before.before.before.loop-q-test.true
+    (sym c.enum_told-1.given.1 ∙ c.before.before.climb_state.ensures)
 
-add-q : tie.Need-overflow-add-q invariant-loop decreases-loop
+add-q : tie.Need-overflow_add-q invariant-loop decreases-loop
 add-q c =
     omega (
       arith,
-      c.before.before.before.before.before.before.before.before.loop-test.true,
-      c.before.before.before.before.before.before.before.before.before.loop.invariant.args.path.few,
+      c.before.before.before.before.before.before.before.before.loop-q-test.true,
+      c.before.before.before.before.before.before.before.before.before.loop-q.invariant.args.path.few,
     )
 
-loop-less : tie.Need-loop-smaller invariant-loop decreases-loop
+loop-less : tie.Need-loop-q-smaller invariant-loop decreases-loop
 loop-less c =
-    omega (arith, c.before.before.before.before.before.before.before.before.loop-test.true)
+    omega (arith, c.before.before.before.before.before.before.before.before.loop-q-test.true)
 
-loop-again : tie.Need-loop-preserved invariant-loop decreases-loop
+loop-again : tie.Need-loop-q-preserved invariant-loop decreases-loop
 loop-again c =
     carry-next _ _ _ _ _ _ _ _ _ _ _ _ _ _
-    c.before.before.before.before.before.before.before.before.before.loop.invariant
-    c.before.before.before.before.before.before.before.before.loop-test.true
-    c.before.before.before.before.before.x.given.0.0
-    (sym c.before.before.before.before.before.x.given.1
-    ∙ c.before.before.before.before.before.before.before.climb-state.ensures) c.capped-add.result
-    c.capped-add.ensures
+    c.before.before.before.before.before.before.before.before.before.loop-q.invariant
+    c.before.before.before.before.before.before.before.before.loop-q-test.true
+    c.before.before.before.before.before.x-1.given.0.0
+    (sym c.before.before.before.before.before.x-1.given.1
+    ∙ c.before.before.before.before.before.before.before.climb_state.ensures) c.capped_add.result
+    c.capped_add.ensures
 
-returns-2 : tie.Need-returns-2 invariant-loop decreases-loop
+returns-2 : tie.Need-returns invariant-loop decreases-loop
 returns-2 c =
-    carry-done _ _ _ _ _ _ _ _ _ _ _ _ _ _ c.before.loop.invariant c.loop-test.false
+    carry-done _ _ _ _ _ _ _ _ _ _ _ _ _ _ c.before.loop-q.invariant c.loop-q-test.false
 
-pub carry-counts-spec : {M : Type 1} → statement M
-carry-counts-spec =
+pub carry_counts_spec : {M : Type 1} → statement M
+carry_counts_spec =
     tie.close
     (tie.spec invariant-loop decreases-loop loop-holds climb-state-requires (λ c. search rules) cast-d mul-capped-add
     element-copy-out-capped-add mul-capped-add-2 element-copy-out-capped-add-2 capped-add-requires mul-out

@@ -17,42 +17,42 @@ accumulate-requires c κs =
     leaf-args _ _ _ _ _ _ _ _ _ _ _ _ _ _ _ _ _ _
     c.before.before.before.before.before.before.before.before.before.before.before.requires
 
-returns : tie.Need-returns
+returns : tie.Need-returns-then-kinds-v-eq0
 returns c =
     leaf-done _ _ _ _ _ _ _ _ _ _ _ _ _ _ _ _ _ _
     c.before.before.before.before.before.before.before.before.before.before.before.before.requires
-    c.before.before.if1.true _ c.accumulate.ensures
+    c.before.before.if-kinds-v-eq0.true _ c.accumulate.ensures
 
-add-to : tie.Need-overflow-add-to
+add-to : tie.Need-overflow_add-to
 add-to c =
     let k = c.before.before.before.before.before.before in
     omega (
       arith,
-      c.depth-at.ensures,
-      k.shared-slice-known5.given
+      c.depth_at-to.ensures,
+      k.shared_slice_known-5-1.given
           (k.before.before.before.before.before.args.v * 4 + 2),
     )
 
-sub-fork-counts : tie.Need-overflow-sub-fork-counts
+sub-fork-counts : tie.Need-overflow_sub-v
 sub-fork-counts c =
     let s = c.before.before.before.before.before.before.before.before.before.before.before in
-    omega (arith, s.requires.inside c.before.if1.false)
+    omega (arith, s.requires.inside c.before.if-kinds-v-eq0.false)
 
-fork-counts-requires : tie.Need-fork-counts-requires
+fork-counts-requires : tie.Need-fork_counts-requires
 fork-counts-requires c κs =
     c.before.before.before.before.before.before.before.before.before.before.before.before.requires.fork
-    c.before.before.if1.false
+    c.before.before.if-kinds-v-eq0.false
 
-returns-2 : tie.Need-returns-2
+returns-2 : tie.Need-returns
 returns-2 c =
     let d = c.before.before in
     inner-done _ _ _ _ _ _ _ _ _ _ _ _ _ _ _ _ _ _
     d.before.before.before.before.before.before.before.before.before.before.before.requires
-    d.before.if1.false _ (ap (λ (x : ℕ). x + 1) d.depth-at.ensures) _ _
-    c.fork-counts.ensures
+    d.before.if-kinds-v-eq0.false _ (ap (λ (x : ℕ). x + 1) d.depth_at-to.ensures) _ _
+    c.fork_counts.ensures
 
-pub root-counts-spec : {M : Type 1} → statement M
-root-counts-spec =
+pub root_counts_spec : {M : Type 1} → statement M
+root_counts_spec =
     tie.close
     (tie.spec (λ c. search rules) accumulate-requires returns (λ c κs. search rules) add-to sub-fork-counts
     fork-counts-requires returns-2)

@@ -17,7 +17,7 @@ use Rattle.tables.proofs.lookups.run_on.Reads as run-on-reads
 one_more : (m : ℕ) → (m ≡ 0 → ⊥) → m ≡ suc (m - 1)
 one_more m n = omega arith
 
-run-on-requires : tie.Need-run-on-requires
+run-on-requires : tie.Need-run_on-x-requires
 run-on-requires c κs =
     let s = c.before.before.before.before.before.before.before in
     record {
@@ -26,51 +26,51 @@ run-on-requires c κs =
           s.requires.path.state_table_room;
     }
 
-returns : tie.Need-returns
+returns : tie.Need-returns-then-s-x
 returns c =
     run-lost _ _ _ _ _ _ _ _ _ _ _ _ _ _
-    c.before.before.before.before.before.before.before.before.before.requires c.before.before.if1.true _
-    c.before.run_on.ensures c.if2.true
+    c.before.before.before.before.before.before.before.before.before.requires c.before.before.if-own-eq0.true _
+    c.before.run_on-x.ensures c.if-s-x.true
 
-returns-2 : tie.Need-returns-2
+returns-2 : tie.Need-returns-then-own-eq0
 returns-2 c =
     run-kept _ _ _ _ _ _ _ _ _ _ _ _ _ _
-    c.before.before.before.before.before.before.before.before.before.requires c.before.before.if1.true _
-    c.before.run_on.ensures c.if2.false
+    c.before.before.before.before.before.before.before.before.before.requires c.before.before.if-own-eq0.true _
+    c.before.run_on-x.ensures c.if-s-x.false
 
-returns-3 : tie.Need-returns-3
+returns-3 : tie.Need-returns-then-other-ne0
 returns-3 c =
     let s = c.before.before.before.before.before.before.before.before.before.before in
     own-kept _ _ _ _ _ _ _ _ _ _ _ _ _ (s.args.own - 1) _
-    (one_more _ c.before.before.before.if1.false) s.requires (s.args.other - 1)
-    (one_more _ c.before.before.if3.true) _ c.copy-row.ensures
+    (one_more _ c.before.before.before.if-own-eq0.false) s.requires (s.args.other - 1)
+    (one_more _ c.before.before.if-other-ne0.true) _ c.copy_row.ensures
 
-cast-from : tie.Need-overflow-cast-from
+cast-from : tie.Need-overflow_cast-from
 cast-from c =
     omega (
       arith,
-      c.shared-slice-known7.given
+      c.shared_slice_known-7-1.given
           (c.before.before.before.before.before.before.before.before.before.before.before.args.own - 1),
     )
 
-carry-counts-requires : tie.Need-carry-counts-requires
+carry-counts-requires : tie.Need-carry_counts-requires
 carry-counts-requires c κs =
     let s = c.before.before.before.before.before.before.before.before.before.before.before.before.before in
     carry-args _ _ _ _ _ _ _ _ _ s.args.to _ _ _ (s.args.own - 1) s.args.other
-    (one_more s.args.own c.before.before.before.before.before.before.if1.false) s.requires _
-    c.before.before.before.copy-row2.ensures
+    (one_more s.args.own c.before.before.before.before.before.before.if-own-eq0.false) s.requires _
+    c.before.before.before.copy_row-2.ensures
 
-returns-4 : tie.Need-returns-4
+returns-4 : tie.Need-returns
 returns-4 c =
     let h = c.before.before.before.before.before.before.before in
     let s = h.before.before.before.before.before.before.before in
     carried-side _ _ _ _ _ _ _ _ _ _ _ _ _ (s.args.own - 1) _
-    (one_more _ c.before.before.before.before.before.before.before.if1.false) s.requires
-    c.before.before.before.before.before.before.if3.false _
-    c.before.before.before.before.copy-row2.ensures _ _ c.carry-counts.ensures
+    (one_more _ c.before.before.before.before.before.before.before.if-own-eq0.false) s.requires
+    c.before.before.before.before.before.before.if-other-ne0.false _
+    c.before.before.before.before.copy_row-2.ensures _ _ c.carry_counts.ensures
 
-pub side-counts-spec : {M : Type 1} → statement M
-side-counts-spec =
+pub side_counts_spec : {M : Type 1} → statement M
+side_counts_spec =
     tie.close
     (tie.spec run-on-requires returns (λ c. search rules) (λ c. search rules) returns-2 (λ c. search rules)
     (λ c κs. search rules) returns-3 (λ c. search rules) (λ c κs. search rules) (λ c. search rules)

@@ -7,19 +7,19 @@ use Rattle.colour_questions.proofs.branch.steps.place_above.Reads as reads
 use Rattle.colour_questions.proofs.branch.steps.place_above.Lts as lts
 use Rattle.tables.proofs.node_tables.moves.parent_at.Reads as parent-at-reads
 
-returns : tie.Need-returns
-returns c = place-root _ _ _ c.if1.true
+returns : tie.Need-returns-then-u-n
+returns c = place-root _ _ _ c.if-u-n.true
 
-returns-2 : tie.Need-returns-2
+returns-2 : tie.Need-returns-then-n-p
 returns-2 c =
     let m = c.before in
-    place-outside _ _ _ _ m.parent-at.ensures m.before.if1.false c.if2.true
+    place-outside _ _ _ _ m.parent_at-p.ensures m.before.if-u-n.false c.if-n-p.true
 
-returns-3 : tie.Need-returns-3
+returns-3 : tie.Need-returns
 returns-3 c =
     let m = c.before in
-    place-parent _ _ _ _ m.parent-at.ensures m.before.if1.false c.if2.false
+    place-parent _ _ _ _ m.parent_at-p.ensures m.before.if-u-n.false c.if-n-p.false
 
-pub place-above-spec : {M : Type 1} → statement M
-place-above-spec =
+pub place_above_spec : {M : Type 1} → statement M
+place_above_spec =
     tie.close (tie.spec (λ c. search rules) returns (λ c κs. search rules) (λ c. search rules) returns-2 returns-3)

@@ -10,35 +10,35 @@ use Rattle.colour_questions.proofs.branch.steps.start_colour.Reads as reads
 use Rattle.colour_questions.proofs.branch.steps.start_colour.Lts as lts
 use Rattle.colour_tables.proofs.rows.places.place_of.Reads as place-of-reads
 
-inside : (c : tie.Else1) → let g = c.before.before.args in g.z * g.s + g.s ≤ length g.bytes.now
+inside : (c : tie.Else-z-n) → let g = c.before.before.args in g.z * g.s + g.s ≤ length g.bytes.now
 inside c =
     let s = c.before.before in
-    row_in s.args.bytes.now s.args.n s.args.s s.args.z s.requires c.if1.false
+    row_in s.args.bytes.now s.args.n s.args.s s.args.z s.requires c.if-z-n.false
 
-returns : tie.Need-returns
+returns : tie.Need-returns-then-z-n
 returns c =
-    let g = c.before.before.args in colour-top g.s g.bytes.now g.n g.z c.if1.true
+    let g = c.before.before.args in colour-top g.s g.bytes.now g.n g.z c.if-z-n.true
 
-mul-place-of : tie.Need-overflow-mul-place-of
+mul-place-of : tie.Need-overflow_mul-z
 mul-place-of c = omega (arith, inside c)
 
-mul-place-of-2 : tie.Need-overflow-mul-place-of-2
+mul-place-of-2 : tie.Need-overflow_mul-z-2
 mul-place-of-2 c = omega (arith, inside c)
 
-add-place-of : tie.Need-overflow-add-place-of
+add-place-of : tie.Need-overflow_add-z
 add-place-of c = omega (arith, inside c)
 
-part-place-of-end : tie.Need-slice-bounds-place-of-end
+part-place-of-end : tie.Need-slice_bounds-place_of-end
 part-place-of-end c = omega (arith, inside c)
 
-returns-2 : tie.Need-returns-2
+returns-2 : tie.Need-returns
 returns-2 c =
     let e = c.before.before in
     let g = e.before.before.args in
-    colour-node g.s g.bytes.now g.n g.z c.place-of.result e.if1.false c.place-of.ensures.0
+    colour-node g.s g.bytes.now g.n g.z c.place_of.result e.if-z-n.false c.place_of.ensures.0
 
-pub start-colour-spec : {M : Type 1} → statement M
-start-colour-spec =
+pub start_colour_spec : {M : Type 1} → statement M
+start_colour_spec =
     tie.close
     (tie.spec returns mul-place-of mul-place-of-2 add-place-of (λ c. search rules) (λ c. search rules)
     part-place-of-end (λ c κs. search rules) returns-2)

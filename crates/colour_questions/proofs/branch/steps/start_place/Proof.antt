@@ -7,14 +7,14 @@ use Rattle.colour_questions.proofs.branch.steps.start_place.Reads as reads
 use Rattle.colour_questions.proofs.branch.steps.start_place.Lts as lts
 use Rattle.colour_questions.proofs.branch.steps.place_above.Reads as place-above-reads
 
-returns : tie.Need-returns
-returns c = rw c.before.enum_told.given.1 c.place-above.ensures
+returns : tie.Need-returns-in-WithUpper
+returns c = rw c.before.enum_told-1.given.1 c.place_above.ensures
 
-returns-2 : tie.Need-returns-2
+returns-2 : tie.Need-returns-in-BelowUpper
 returns-2 c =
     let g = c.before.before.before in
-    rw c.enum-told2.given.1 (place_here g.args.n g.args.node-table.now g.args.u g.requires.upper)
+    rw c.enum_told-in-BelowUpper-1.given.1 (place_here g.args.n g.args.node_table.now g.args.u g.requires.upper)
 
-pub start-place-spec : {M : Type 1} → statement M
-start-place-spec =
+pub start_place_spec : {M : Type 1} → statement M
+start_place_spec =
     tie.close (tie.spec (λ c. search rules) (λ c κs. search rules) (λ c. search rules) returns returns-2)

@@ -9,22 +9,22 @@ use Rattle.colour_questions.proofs.parts.part.leaf_state.Reads as reads
 use Rattle.colour_questions.proofs.parts.part.leaf_state.Lts as lts
 use Rattle.colour_questions.proofs.parts.part.untried_state.Reads as untried-state-reads
 
-returns : tie.Need-returns
+returns : tie.Need-returns-then-k-a
 returns c =
     let g = c.before.before.args in
-    leaf-outside g.s g.k g.leaves.now g.a c.if1.true
+    leaf-outside g.s g.k g.leaves.now g.a c.if-k-a.true
 
-cast-untried-state : tie.Need-overflow-cast-untried-state
+cast-untried-state : tie.Need-overflow_cast-leaves
 cast-untried-state c =
-    omega (arith, c.shared-slice-known2.given c.before.before.before.args.a)
+    omega (arith, c.shared_slice_known-2-1.given c.before.before.before.args.a)
 
-returns-2 : tie.Need-returns-2
+returns-2 : tie.Need-returns
 returns-2 c =
     let e = c.before.before in
     let g = e.before.before.args in
-    c.untried-state.ensures ∙ leaf-at g.s g.k g.leaves.now g.a e.if1.false
+    c.untried_state.ensures ∙ leaf-at g.s g.k g.leaves.now g.a e.if-k-a.false
 
-pub leaf-state-spec : {M : Type 1} → statement M
-leaf-state-spec =
+pub leaf_state_spec : {M : Type 1} → statement M
+leaf_state_spec =
     tie.close
     (tie.spec returns (λ c. search rules) cast-untried-state (λ c κs. search rules) returns-2)

@@ -14,25 +14,25 @@ use Rattle.colour_questions.proofs.parts.part.fork_by_colours.Reads as fork-by-c
 use Rattle.colour_questions.proofs.parts.part.leaf_state.Reads as leaf-state-reads
 use Rattle.questions.proofs.part.label_on.Reads as label-on-reads
 
-returns : tie.Need-returns
+returns : tie.Need-returns-then-kinds-v-eq0
 returns c =
     let a = c.before.before.before in
-    part-leaf _ _ _ _ _ _ _ a.label-on.ensures _ c.before.if1.true c.leaf-state.ensures
-    (leaf-few _ _ _ a.label-on.result _ c.leaf-state.ensures)
+    part-leaf _ _ _ _ _ _ _ a.label_on-a.ensures _ c.before.if-kinds-v-eq0.true c.leaf_state.ensures
+    (leaf-few _ _ _ a.label_on-a.result _ c.leaf_state.ensures)
 
-returns-2 : tie.Need-returns-2
+returns-2 : tie.Need-returns-then-v-eq0
 returns-2 c =
-    part-first _ _ _ _ _ _ _ c.before.before.before.label-on.ensures c.before.if1.false c.if2.true
+    part-first _ _ _ _ _ _ _ c.before.before.before.label_on-a.ensures c.before.if-kinds-v-eq0.false c.if-v-eq0.true
 
-returns-3 : tie.Need-returns-3
+returns-3 : tie.Need-returns-then-v-z
 returns-3 c =
     let z = c.before in
     let e2 = z.before in
     let e1 = e2.before in
-    part-outside _ _ _ _ _ _ _ e1.before.before.label-on.ensures
-    e1.if1.false e2.if2.false (omega (arith, c.if3.true, z.size-at.ensures))
+    part-outside _ _ _ _ _ _ _ e1.before.before.label_on-a.ensures
+    e1.if-kinds-v-eq0.false e2.if-v-eq0.false (omega (arith, c.if-v-z.true, z.size_at-z.ensures))
 
-returns-4 : tie.Need-returns-4
+returns-4 : tie.Need-returns
 returns-4 c =
     let e3 = c.before in
     let z = e3.before in
@@ -41,11 +41,11 @@ returns-4 c =
     let a = e1.before.before in
     let s = a.before.before.before.before.before.before.before.before.before.before.before.before.before in
     let g = s.args in
-    part-fork _ _ _ _ _ _ _ a.label-on.ensures e1.if1.false e2.if2.false g.m _ _ s.requires.reads.sets
-    z.size-at.ensures e3.if3.false c.fork-by-colours.ensures
+    part-fork _ _ _ _ _ _ _ a.label_on-a.ensures e1.if-kinds-v-eq0.false e2.if-v-eq0.false g.m _ _ s.requires.reads.sets
+    z.size_at-z.ensures e3.if-v-z.false c.fork_by_colours.ensures
 
-pub part-by-colours-spec : {M : Type 1} → statement M
-part-by-colours-spec =
+pub part_by_colours_spec : {M : Type 1} → statement M
+part_by_colours_spec =
     tie.close
     (tie.spec (λ c κs. search rules) (λ c. search rules) (λ c κs. search rules) returns
     returns-2 (λ c. search rules) (λ c κs. search rules) (λ c. search rules) returns-3

@@ -6,13 +6,13 @@ use Rattle.colour_questions.proofs.parts.part.untried_state.Tie as tie
 use Rattle.colour_questions.proofs.parts.part.untried_state.Reads as reads
 use Rattle.colour_questions.proofs.parts.part.untried_state.Lts as lts
 
-returns : tie.Need-returns
+returns : tie.Need-returns-then-s-q
 returns c =
-    untried-no c.before.args.s c.before.args.q c.if1.true
+    untried-no c.before.args.s c.before.args.q c.if-s-q.true
 
-returns-2 : tie.Need-returns-2
+returns-2 : tie.Need-returns
 returns-2 c =
-    untried-yes c.before.args.s c.before.args.q c.if1.false
+    untried-yes c.before.args.s c.before.args.q c.if-s-q.false
 
-pub untried-state-spec : {M : Type 1} → statement M
-untried-state-spec = tie.close (tie.spec returns (λ c. search rules) returns-2)
+pub untried_state_spec : {M : Type 1} → statement M
+untried_state_spec = tie.close (tie.spec returns (λ c. search rules) returns-2)

@@ -32,29 +32,29 @@ part-is s =
     let e : g.c * (g.n * 4) + g.n * 4 - g.c * (g.n * 4) ≡ g.n * 4 = omega arith in
     ap (λ (k : ℕ). take k (drop (g.c * (g.n * 4)) g.nums.now)) e
 
-returns : tie.Need-returns
+returns : tie.Need-returns-then-top
 returns c =
     let s = c.before.before.before.before in
     let g = s.args in
-    subst (λ (b : Bool). DropDone g.n g.nums.now g.c (start_place b g.z) g.l c.next-drop.result)
-    (sym c.before.if1.true)
-    (part_gives g.n g.nums.now (part s) g.c none 0 g.l c.next-drop.result (part-is s) refl
-    c.next-drop.ensures)
+    subst (λ (b : Bool). DropDone g.n g.nums.now g.c (start_place b g.z) g.l c.next_drop.result)
+    (sym c.before.if-top.true)
+    (part_gives g.n g.nums.now (part s) g.c none 0 g.l c.next_drop.result (part-is s) refl
+    c.next_drop.ensures)
 
-returns-2 : tie.Need-returns-2
+returns-2 : tie.Need-returns
 returns-2 c =
     let e = c.before in
     let s = c.before.before.before.before.before in
     let g = s.args in
-    subst (λ (b : Bool). DropDone g.n g.nums.now g.c (start_place b g.z) g.l c.next-drop2.result)
-    (sym e.before.if1.false)
-    (part_gives g.n g.nums.now (part s) g.c (some g.z) e.seen_at.result g.l c.next-drop2.result
+    subst (λ (b : Bool). DropDone g.n g.nums.now g.c (start_place b g.z) g.l c.next_drop-2.result)
+    (sym e.before.if-top.false)
+    (part_gives g.n g.nums.now (part s) g.c (some g.z) e.seen_at-seen.result g.l c.next_drop-2.result
     (part-is s)
-    (e.seen_at.ensures.0 ∙ ap (λ (p : List ℕ). seen_at (cell_forest g.n p) (size_cell p) g.c g.z) (part-is s))
-    c.next-drop2.ensures)
+    (e.seen_at-seen.ensures.0 ∙ ap (λ (p : List ℕ). seen_at (cell_forest g.n p) (size_cell p) g.c g.z) (part-is s))
+    c.next_drop-2.ensures)
 
-pub drop-in-spec : {M : Type 1} → statement M
-drop-in-spec =
+pub drop_in_spec : {M : Type 1} → statement M
+drop_in_spec =
     tie.close
     (tie.spec (λ c. search rules) (λ c. search rules) (λ c. search rules) (λ c. search rules) (λ c. search rules)
     (λ c. search rules) (λ c. search rules) (λ c κs. search rules) returns (λ c κs. search rules)

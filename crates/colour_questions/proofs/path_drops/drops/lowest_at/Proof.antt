@@ -9,21 +9,21 @@ use Rattle.colour_questions.proofs.path_drops.drops.lowest_at.Lts as lts
 use Rattle.tables.proofs.node_tables.moves.parent_at.Reads as parent-at-reads
 use Rattle.tables.proofs.node_tables.moves.size_at.Reads as size-at-reads
 
-returns : tie.Need-returns
+returns : tie.Need-returns-then-size_at-c
 returns c =
     let s = c.before.before.before in
     lowest-fell (cell_forest s.args.n s.args.table.now) (size_cell s.args.table.now) s.args.c
     s.args.v
-    c.before.size-at.result c.before.size-at.ensures c.if1.true
+    c.before.size_at.result c.before.size_at.ensures c.if-size_at-c.true
 
-returns-2 : tie.Need-returns-2
+returns-2 : tie.Need-returns
 returns-2 c =
     let s = c.before.before.before.before in
     lowest-kept (cell_forest s.args.n s.args.table.now) (size_cell s.args.table.now) s.args.c
     s.args.v
-    c.before.before.size-at.result c.before.before.size-at.ensures c.parent-at.result
-    c.parent-at.ensures
-    c.before.if1.false
+    c.before.before.size_at.result c.before.before.size_at.ensures c.parent_at.result
+    c.parent_at.ensures
+    c.before.if-size_at-c.false
 
-pub lowest-at-spec : {M : Type 1} → statement M
-lowest-at-spec = tie.close (tie.spec (λ c κs. search rules) returns (λ c κs. search rules) returns-2)
+pub lowest_at_spec : {M : Type 1} → statement M
+lowest_at_spec = tie.close (tie.spec (λ c κs. search rules) returns (λ c κs. search rules) returns-2)

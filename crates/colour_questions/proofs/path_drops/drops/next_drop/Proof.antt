@@ -12,18 +12,18 @@ use Rattle.colour_questions.proofs.path_drops.drops.seen_at.Reads as seen-at-rea
 use Rattle.colour_questions.proofs.path_drops.search.search.Reads as search-reads
 use Rattle.tables.proofs.node_tables.moves.size_at.Reads as size-at-reads
 
-returns : tie.Need-returns
+returns : tie.Need-returns-then-seen_at-to
 returns c =
-    gives-done _ _ _ _ _ _ c.before.seen_at.ensures.0 c.if1.true
+    gives-done _ _ _ _ _ _ c.before.seen_at.ensures.0 c.if-seen_at-to.true
 
-returns-2 : tie.Need-returns-2
+returns-2 : tie.Need-returns-then-n-v
 returns-2 c =
     let v = c.before in
     let e = v.before in
     let m = e.before in
-    gives-outside _ _ _ _ _ _ m.seen_at.ensures.0 e.if1.false _ v.lowest-at.ensures c.if2.true
+    gives-outside _ _ _ _ _ _ m.seen_at.ensures.0 e.if-seen_at-to.false _ v.lowest_at-v.ensures c.if-n-v.true
 
-size-at-requires : tie.Need-size-at-requires
+size-at-requires : tie.Need-size_at-d-requires
 size-at-requires c κs =
     let x = c.before in
     let r = x.before.before in
@@ -36,12 +36,12 @@ size-at-requires c κs =
       arith,
       m.before.before.requires.room,
       gives-node g.n g.table.now g.c g.to g.l m.seen_at.result m.seen_at.ensures.0
-          e.if1.false
-          v.lowest-at.result v.lowest-at.ensures f.if2.false r.search.result r.search.ensures
-          x.x.given.0.0 x.x.given.0.1.0 x.x.given.1,
+          e.if-seen_at-to.false
+          v.lowest_at-v.result v.lowest_at-v.ensures f.if-n-v.false r.search.result r.search.ensures
+          x.x-1.given.0.0 x.x-1.given.0.1.0 x.x-1.given.1,
     )
 
-returns-3 : tie.Need-returns-3
+returns-3 : tie.Need-returns-then-c-d
 returns-3 c =
     let d = c.before in
     let x = d.before.before in
@@ -49,20 +49,20 @@ returns-3 c =
     let f = r.before in
     let v = f.before in
     let e = v.before in
-    gives-high _ _ _ _ _ _ e.before.seen_at.ensures.0 e.if1.false
-    _ v.lowest-at.ensures f.if2.false _ r.search.ensures
-    x.x.given.0.0 x.x.given.0.1.0 x.x.given.1 _ d.size-at.ensures c.if3.true
+    gives-high _ _ _ _ _ _ e.before.seen_at.ensures.0 e.if-seen_at-to.false
+    _ v.lowest_at-v.ensures f.if-n-v.false _ r.search.ensures
+    x.x-1.given.0.0 x.x-1.given.0.1.0 x.x-1.given.1 _ d.size_at-d.ensures c.if-c-d.true
 
-returns-4 : tie.Need-returns-4
+returns-4 : tie.Need-returns-in-NotFound
 returns-4 c =
     let r = c.before.before in
     let f = r.before in
     let v = f.before in
     let e = v.before in
-    gives-stuck _ _ _ _ _ _ e.before.seen_at.ensures.0 e.if1.false
-    _ v.lowest-at.ensures f.if2.false _ r.search.ensures c.enum_told.given.1
+    gives-stuck _ _ _ _ _ _ e.before.seen_at.ensures.0 e.if-seen_at-to.false
+    _ v.lowest_at-v.ensures f.if-n-v.false _ r.search.ensures c.enum_told-1.given.1
 
-returns-5 : tie.Need-returns-5
+returns-5 : tie.Need-returns-else-c-d
 returns-5 c =
     let d = c.before in
     let x = d.before.before in
@@ -71,13 +71,13 @@ returns-5 c =
     let v = f.before in
     let e = v.before in
     let m = e.before in
-    gives-fell _ _ _ _ _ _ m.seen_at.ensures.0 e.if1.false
-    _ v.lowest-at.ensures f.if2.false _ r.search.ensures
-    x.x.given.0.0 x.x.given.0.1.0 x.x.given.1 _ d.size-at.ensures c.if3.false
-    (omega (arith, m.before.shared-slice-known.given (v.lowest-at.result * 4 + 2)))
+    gives-fell _ _ _ _ _ _ m.seen_at.ensures.0 e.if-seen_at-to.false
+    _ v.lowest_at-v.ensures f.if-n-v.false _ r.search.ensures
+    x.x-1.given.0.0 x.x-1.given.0.1.0 x.x-1.given.1 _ d.size_at-d.ensures c.if-c-d.false
+    (omega (arith, m.before.shared_slice_known-1.given (v.lowest_at-v.result * 4 + 2)))
 
-pub next-drop-spec : {M : Type 1} → statement M
-next-drop-spec =
+pub next_drop_spec : {M : Type 1} → statement M
+next_drop_spec =
     tie.close
     (tie.spec (λ c κs. search rules) returns (λ c κs. search rules) returns-2 (λ c κs. search rules)
     (λ c. search rules) (λ c. search rules) size-at-requires returns-3 returns-4 returns-5)

@@ -12,33 +12,33 @@ use Rattle.tables.proofs.node_tables.moves.depth_at.Reads as depth-at-reads
 use Rattle.tables.proofs.node_tables.moves.size_at.Reads as size-at-reads
 
 -- a depth is a 16-bit number
-bound : (c : tie.After-depth-at) → c.depth-at.result ≤ 65535
+bound : (c : tie.After-depth_at-d) → c.depth_at-d.result ≤ 65535
 bound c =
     let s = c.before.before in
-    omega (arith, c.depth-at.ensures, c.before.shared-slice-known.given (s.args.v * 4 + 2))
+    omega (arith, c.depth_at-d.ensures, c.before.shared_slice_known-1.given (s.args.v * 4 + 2))
 
-add-result : tie.Need-overflow-add-result
+add-result : tie.Need-overflow_add-result
 add-result c = omega (arith, bound c.before.before)
 
-returns : tie.Need-returns
+returns : tie.Need-returns-then-size_at-c
 returns c =
     let g = c.before.before.before.before.args in (
       seen-fell (cell_forest g.n g.table.now) (size_cell g.table.now) g.c g.v _
-          c.before.size-at.ensures _
-          c.before.before.depth-at.ensures c.if1.true,
+          c.before.size_at.ensures _
+          c.before.before.depth_at-d.ensures c.if-size_at-c.true,
       omega (arith, bound c.before.before),
     )
 
-returns-2 : tie.Need-returns-2
+returns-2 : tie.Need-returns
 returns-2 c =
     let g = c.before.before.before.before.args in (
       seen-kept (cell_forest g.n g.table.now) (size_cell g.table.now) g.c g.v _
-          c.before.size-at.ensures _
-          c.before.before.depth-at.ensures c.if1.false,
+          c.before.size_at.ensures _
+          c.before.before.depth_at-d.ensures c.if-size_at-c.false,
       omega (arith, bound c.before.before),
     )
 
-pub seen-at-spec : {M : Type 1} → statement M
-seen-at-spec =
+pub seen_at_spec : {M : Type 1} → statement M
+seen_at_spec =
     tie.close
     (tie.spec (λ c κs. search rules) (λ c κs. search rules) add-result returns returns-2)

@@ -17,45 +17,45 @@ use Rattle.questions.proofs.changed_roots.roots_left.Reads as roots-left-reads
 heads : (s : tie.Start) → let g = s.args in Headers 20 g.plan.now g.rules.now
 heads s = (passed_are _ _ _ _ _ _ _ _ s.requires.passed).fits.headed.headers
 
-read32-requires : tie.Need-read32-requires
+read32-requires : tie.Need-read32-n-requires
 read32-requires c κs =
     let s = c.before.before.before.before.before.before.before.before in
     omega (arith, (heads s).plan-long)
 
-read32-requires-2 : tie.Need-read32-requires-2
+read32-requires-2 : tie.Need-read32-s-requires
 read32-requires-2 c κs =
     let s = c.before.before.before.before.before.before.before.before.before in
     omega (arith, (heads s).table-long)
 
-read32-requires-3 : tie.Need-read32-requires-3
+read32-requires-3 : tie.Need-read32-k-requires
 read32-requires-3 c κs =
     let s = c.before.before.before.before.before.before.before.before.before.before in
     omega (arith, (heads s).table-long)
 
-roots-left-requires : tie.Need-roots-left-requires
+roots-left-requires : tie.Need-roots_left-found-requires
 roots-left-requires c κs =
     let y = c.before in
     let x = y.before in
     let s = x.before.before.before.before.before.before.before.before.before in
-    let h = (lent-passed _ _ _ _ _ _ _ _ s.requires _ _ _ x.read32.ensures y.read322.ensures c.read323.ensures).fits.headed in
+    let h = (lent-passed _ _ _ _ _ _ _ _ s.requires _ _ _ x.read32-n.ensures y.read32-s.ensures c.read32-k.ensures).fits.headed in
     record {
-      most = omega (arith, h.headers.in-limits.most, x.read32.ensures);
-      labels = omega (arith, h.plan_exact, x.read32.ensures);
-      numbers = omega (arith, h.node_table_room, x.read32.ensures);
+      most = omega (arith, h.headers.in-limits.most, x.read32-n.ensures);
+      labels = omega (arith, h.plan_exact, x.read32-n.ensures);
+      numbers = omega (arith, h.node_table_room, x.read32-n.ensures);
     }
 
-returns : tie.Need-returns
+returns : tie.Need-returns-then-not-found
 returns c =
     let q = c.before.before in
     let z = q.before in
     let y = z.before in
     let x = y.before in
     let s = x.before.before.before.before.before.before.before.before.before in (
-      lent-lost _ _ _ _ _ _ _ _ s.requires x.read32.result _ _ x.read32.ensures y.read322.ensures z.read323.ensures _ q.roots-left.ensures (not-true _ c.if1.true),
+      lent-lost _ _ _ _ _ _ _ _ s.requires x.read32-n.result _ _ x.read32-n.ensures y.read32-s.ensures z.read32-k.ensures _ q.roots_left-found.ensures (not-true _ c.if-not-found.true),
       tt,
     )
 
-array-share-prefix-list : tie.Need-array-share-prefix-list
+array-share-prefix-list : tie.Need-slice_bounds-list-end
 array-share-prefix-list c =
     let e = c.before in
     let q = e.before.before in
@@ -63,9 +63,9 @@ array-share-prefix-list c =
     let y = z.before in
     let x = y.before in
     let s = x.before.before.before.before.before.before.before.before.before in
-    rooted-room _ _ _ _ _ _ _ _ s.requires _ _ _ x.read32.ensures y.read322.ensures z.read323.ensures _ q.roots-left.ensures (not-false _ e.if1.false)
+    rooted-room _ _ _ _ _ _ _ _ s.requires _ _ _ x.read32-n.ensures y.read32-s.ensures z.read32-k.ensures _ q.roots_left-found.ensures (not-false _ e.if-not-found.false)
 
-slice-aggregate-answer-roots : tie.Need-slice-aggregate-answer-roots
+slice-aggregate-answer-roots : tie.Need-slice_bounds-answer_roots-end
 slice-aggregate-answer-roots c =
     let e = c.before.before in
     let q = e.before.before in
@@ -73,9 +73,9 @@ slice-aggregate-answer-roots c =
     let y = z.before in
     let x = y.before in
     let s = x.before.before.before.before.before.before.before.before.before in
-    sym (length-take-le _ _ (rooted-room _ _ _ _ _ _ _ _ s.requires _ _ _ x.read32.ensures y.read322.ensures z.read323.ensures _ q.roots-left.ensures (not-false _ e.if1.false)))
+    sym (length-take-le _ _ (rooted-room _ _ _ _ _ _ _ _ s.requires _ _ _ x.read32-n.ensures y.read32-s.ensures z.read32-k.ensures _ q.roots_left-found.ensures (not-false _ e.if-not-found.false)))
 
-answer-roots-requires : tie.Need-answer-roots-requires
+answer-roots-requires : tie.Need-answer_roots-requires
 answer-roots-requires c κs =
     let e = c.before.before in
     let q = e.before.before in
@@ -83,9 +83,9 @@ answer-roots-requires c κs =
     let y = z.before in
     let x = y.before in
     let s = x.before.before.before.before.before.before.before.before.before in
-    root-args _ _ _ _ _ _ _ _ s.requires _ _ _ x.read32.ensures y.read322.ensures z.read323.ensures _ q.roots-left.ensures (not-false _ e.if1.false)
+    root-args _ _ _ _ _ _ _ _ s.requires _ _ _ x.read32-n.ensures y.read32-s.ensures z.read32-k.ensures _ q.roots_left-found.ensures (not-false _ e.if-not-found.false)
 
-returns-2 : tie.Need-returns-2
+returns-2 : tie.Need-returns
 returns-2 c =
     let e = c.before.before.before in
     let q = e.before.before in
@@ -93,13 +93,13 @@ returns-2 c =
     let y = z.before in
     let x = y.before in
     let s = x.before.before.before.before.before.before.before.before.before in (
-      lent-answer _ _ _ _ _ _ _ _ s.requires x.read32.result _ _ x.read32.ensures y.read322.ensures z.read323.ensures _ q.roots-left.ensures (not-false _ e.if1.false)
-          _ c.answer-roots.ensures.0,
-      c.answer-roots.ensures.1,
+      lent-answer _ _ _ _ _ _ _ _ s.requires x.read32-n.result _ _ x.read32-n.ensures y.read32-s.ensures z.read32-k.ensures _ q.roots_left-found.ensures (not-false _ e.if-not-found.false)
+          _ c.answer_roots.ensures.0,
+      c.answer_roots.ensures.1,
     )
 
-pub answer-lent-spec : {M : Type 1} → statement M
-answer-lent-spec =
+pub answer_lent_spec : {M : Type 1} → statement M
+answer_lent_spec =
     tie.close
     (tie.spec read32-requires read32-requires-2 read32-requires-3 roots-left-requires returns array-share-prefix-list
     slice-aggregate-answer-roots answer-roots-requires returns-2)

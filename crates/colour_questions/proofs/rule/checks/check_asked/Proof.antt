@@ -15,55 +15,55 @@ use Rattle.formats.proofs.bytes.read32.Reads as read32-reads
 use Rattle.formats.proofs.lists.check_list.Reads as check-list-reads
 use Rattle.colour_questions.proofs.rule.checks.tables_fit.Reads as tables-fit-reads
 
-fits : (c : tie.Else1) → let g = c.before.before.before.before.before.before.args in
-    rule_colours_fit g.plan.now g.rules.now g.node-table g.state-table g.numbers g.bytes ≡ true
-fits c = sym c.before.tables-fit.ensures ∙ not-false _ c.if1.false
+fits : (c : tie.Else-not-tables_fit) → let g = c.before.before.before.before.before.before.args in
+    rule_colours_fit g.plan.now g.rules.now g.node_table g.state_table g.numbers g.bytes ≡ true
+fits c = sym c.before.tables_fit.ensures ∙ not-false _ c.if-not-tables_fit.false-raw
 
-heads : (c : tie.Else1) → let g = c.before.before.before.before.before.before.args in
+heads : (c : tie.Else-not-tables_fit) → let g = c.before.before.before.before.before.before.args in
     Headers 20 g.plan.now g.rules.now
 heads c = (fits-are _ _ _ _ _ _ (fits c)).headed.headers
 
-returns : tie.Need-returns
+returns : tie.Need-returns-then-not-tables_fit
 returns c =
     let g = c.before.before.before.before.before.before.args in
-    no-17 g.plan.now g.rules.now g.node-table g.state-table g.numbers g.bytes g.nodes.now g.labels.now
-    (sym c.before.tables-fit.ensures ∙ not-true _ c.if1.true)
+    no-17 g.plan.now g.rules.now g.node_table g.state_table g.numbers g.bytes g.nodes.now g.labels.now
+    (sym c.before.tables_fit.ensures ∙ not-true _ c.if-not-tables_fit.true-raw)
 
-read32-requires : tie.Need-read32-requires
+read32-requires : tie.Need-read32-n-requires
 read32-requires c κs =
     omega (arith, (heads c).plan-long)
 
-read32-requires-2 : tie.Need-read32-requires-2
+read32-requires-2 : tie.Need-read32-s-requires
 read32-requires-2 c κs =
     omega (arith, (heads c.before).table-long)
 
-read32-requires-3 : tie.Need-read32-requires-3
+read32-requires-3 : tie.Need-read32-k-requires
 read32-requires-3 c κs =
     omega (arith, (heads c.before.before).table-long)
 
-returns-2 : tie.Need-returns-2
+returns-2 : tie.Need-returns-then-s-gt4
 returns-2 c =
     let z = c.before in
     let y = z.before in
     let x = y.before in
     let e = x.before in
     let g = e.before.before.before.before.before.before.args in
-    no-27 g.plan.now g.rules.now g.node-table g.state-table g.numbers g.bytes g.nodes.now g.labels.now (fits e) y.read322.result y.read322.ensures c.if2.true
+    no-27 g.plan.now g.rules.now g.node_table g.state_table g.numbers g.bytes g.nodes.now g.labels.now (fits e) y.read32-s.result y.read32-s.ensures c.if-s-gt4.true
 
-returns-3 : tie.Need-returns-3
+returns-3 : tie.Need-returns
 returns-3 c =
     let z = c.before.before in
     let y = z.before in
     let x = y.before in
     let e = x.before in
     let g = e.before.before.before.before.before.before.args in
-    c.check-list.ensures
-    ∙ then-list g.plan.now g.rules.now g.node-table g.state-table g.numbers g.bytes g.nodes.now
-    g.labels.now (fits e) y.read322.result
-    y.read322.ensures x.read32.result z.read323.result x.read32.ensures z.read323.ensures c.before.if2.false
+    c.check_list.ensures
+    ∙ then-list g.plan.now g.rules.now g.node_table g.state_table g.numbers g.bytes g.nodes.now
+    g.labels.now (fits e) y.read32-s.result
+    y.read32-s.ensures x.read32-n.result z.read32-k.result x.read32-n.ensures z.read32-k.ensures c.before.if-s-gt4.false
 
-pub check-asked-spec : {M : Type 1} → statement M
-check-asked-spec =
+pub check_asked_spec : {M : Type 1} → statement M
+check_asked_spec =
     tie.close
     (tie.spec (λ c κs. search rules) returns read32-requires read32-requires-2 read32-requires-3 returns-2
     (λ c κs. search rules) returns-3)

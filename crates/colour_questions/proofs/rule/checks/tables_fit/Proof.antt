@@ -16,55 +16,55 @@ use Rattle.formats.proofs.buffers.rule_buffers_fit.Reads as rule-buffers-fit-rea
 use Rattle.formats.proofs.bytes.read32.Reads as read32-reads
 use Rattle.colour_tables.proofs.rule.build.set_colours_fit.Reads as set-colours-fit-reads
 
-fits : (c : tie.Else1) → let g = c.before.before.before.before.args in
+fits : (c : tie.Else-not-headers_fit) → let g = c.before.before.before.before.args in
     headers_fit 20 g.plan.now g.rules.now ≡ true
-fits c = sym c.before.headers-fit.ensures ∙ not-false _ c.if1.false
+fits c = sym c.before.headers_fit.ensures ∙ not-false _ c.if-not-headers_fit.false-raw
 
-heads : (c : tie.Else1) → let g = c.before.before.before.before.args in Headers 20 g.plan.now g.rules.now
+heads : (c : tie.Else-not-headers_fit) → let g = c.before.before.before.before.args in Headers 20 g.plan.now g.rules.now
 heads c = headers-are 20 _ _ (fits c)
 
-returns : tie.Need-returns
-returns c = fit-no _ _ _ _ _ _ (sym c.before.headers-fit.ensures ∙ not-true _ c.if1.true)
+returns : tie.Need-returns-then-not-headers_fit
+returns c = fit-no _ _ _ _ _ _ (sym c.before.headers_fit.ensures ∙ not-true _ c.if-not-headers_fit.true-raw)
 
-read32-requires : tie.Need-read32-requires
+read32-requires : tie.Need-read32-n-requires
 read32-requires c κs =
     omega (arith, (heads c).plan-long)
 
-read32-requires-2 : tie.Need-read32-requires-2
+read32-requires-2 : tie.Need-read32-s-requires
 read32-requires-2 c κs =
     omega (arith, (heads c.before).table-long)
 
-read32-requires-3 : tie.Need-read32-requires-3
+read32-requires-3 : tie.Need-read32-k-requires
 read32-requires-3 c κs =
     omega (arith, (heads c.before.before).table-long)
 
-rule-buffers-fit-requires : tie.Need-rule-buffers-fit-requires
+rule-buffers-fit-requires : tie.Need-rule_buffers_fit-requires
 rule-buffers-fit-requires c κs =
     let l = (heads c.before.before.before).in-limits in
     record {
-      most = omega (arith, l.most, c.before.before.read32.ensures);
-      few = omega (arith, l.few, c.before.read322.ensures);
-      labels = omega (arith, l.labels_most, c.read323.ensures);
+      most = omega (arith, l.most, c.before.before.read32-n.ensures);
+      few = omega (arith, l.few, c.before.read32-s.ensures);
+      labels = omega (arith, l.labels_most, c.read32-k.ensures);
     }
 
-returns-2 : tie.Need-returns-2
+returns-2 : tie.Need-returns-then-not-rule_buffers_fit
 returns-2 c =
     let t = c.before in
     let z = t.before in
     let y = z.before in
     let x = y.before in
-    lengths-no _ _ _ _ _ _ (fits x.before) x.read32.result _ _ x.read32.ensures y.read322.ensures z.read323.ensures (sym t.rule-buffers-fit.ensures ∙ not-true _ c.if2.true)
+    lengths-no _ _ _ _ _ _ (fits x.before) x.read32-n.result _ _ x.read32-n.ensures y.read32-s.ensures z.read32-k.ensures (sym t.rule_buffers_fit.ensures ∙ not-true _ c.if-not-rule_buffers_fit.true-raw)
 
-returns-3 : tie.Need-returns-3
+returns-3 : tie.Need-returns-then-s-gt4
 returns-3 c =
     let u = c.before in
     let t = u.before in
     let z = t.before in
     let y = z.before in
     let x = y.before in
-    many-states _ _ _ _ _ _ (fits x.before) x.read32.result _ _ x.read32.ensures y.read322.ensures z.read323.ensures (sym t.rule-buffers-fit.ensures ∙ not-false _ u.if2.false) c.if3.true
+    many-states _ _ _ _ _ _ (fits x.before) x.read32-n.result _ _ x.read32-n.ensures y.read32-s.ensures z.read32-k.ensures (sym t.rule_buffers_fit.ensures ∙ not-false _ u.if-not-rule_buffers_fit.false-raw) c.if-s-gt4.true
 
-set-colours-fit-requires : tie.Need-set-colours-fit-requires
+set-colours-fit-requires : tie.Need-set_colours_fit-requires
 set-colours-fit-requires c κs =
     let u = c.before in
     let t = u.before in
@@ -73,9 +73,9 @@ set-colours-fit-requires c κs =
     let x = y.before in
     let e = x.before in
     let g = e.before.before.before.before.args in
-    record { nodes = omega (arith, (heads e).in-limits.most, x.read32.ensures); states = c.if3.false }
+    record { nodes = omega (arith, (heads e).in-limits.most, x.read32-n.ensures); states = c.if-s-gt4.false }
 
-returns-4 : tie.Need-returns-4
+returns-4 : tie.Need-returns
 returns-4 c =
     let w = c.before in
     let u = w.before in
@@ -83,10 +83,10 @@ returns-4 c =
     let z = t.before in
     let y = z.before in
     let x = y.before in
-    c.set-colours-fit.ensures ∙ few-states _ _ _ _ _ _ (fits x.before) x.read32.result _ _ x.read32.ensures y.read322.ensures z.read323.ensures (sym t.rule-buffers-fit.ensures ∙ not-false _ u.if2.false) w.if3.false
+    c.set_colours_fit.ensures ∙ few-states _ _ _ _ _ _ (fits x.before) x.read32-n.result _ _ x.read32-n.ensures y.read32-s.ensures z.read32-k.ensures (sym t.rule_buffers_fit.ensures ∙ not-false _ u.if-not-rule_buffers_fit.false-raw) w.if-s-gt4.false
 
-pub tables-fit-spec : {M : Type 1} → statement M
-tables-fit-spec =
+pub tables_fit_spec : {M : Type 1} → statement M
+tables_fit_spec =
     tie.close
     (tie.spec (λ c κs. search rules) returns read32-requires read32-requires-2 read32-requires-3
     rule-buffers-fit-requires returns-2 returns-3 set-colours-fit-requires returns-4)

@@ -11,5 +11,5 @@ use Rattle.colour_questions.proofs.target_states.trials.single.Lts as lts
 returns : tie.Need-returns
 returns c = rw one-mul (mod-eq_of_lt (omega (arith, pow-lt {i = c.args.x} {j = 8} c.requires)))
 
-pub single-spec : {M : Type 1} → statement M
-single-spec = tie.close (tie.spec (λ c. search rules) (λ c. search rules) returns)
+pub single_spec : {M : Type 1} → statement M
+single_spec = tie.close (tie.spec (λ c. search rules) (λ c. search rules) returns)

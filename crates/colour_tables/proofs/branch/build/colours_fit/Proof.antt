@@ -6,17 +6,17 @@ use Rattle.colour_tables.proofs.branch.build.colours_fit.Tie as tie
 use Rattle.colour_tables.proofs.branch.build.colours_fit.Reads as reads
 use Rattle.colour_tables.proofs.branch.build.colours_fit.Lts as lts
 
-mul-if1-2 : tie.Need-overflow-mul-if1-2
+mul-if1-2 : tie.Need-overflow_mul-s
 mul-if1-2 c =
     let b = c in omega (arith, (products b.args.n b.args.s b.requires.nodes b.requires.states).0)
 
-returns : tie.Need-returns
+returns : tie.Need-returns-then-numbers-s
 returns c =
-    let a = c.before.args in fit-numbers a.n a.s a.numbers a.bytes c.if1.true
+    let a = c.before.args in fit-numbers a.n a.s a.numbers a.bytes c.if-numbers-s.true
 
-returns-2 : tie.Need-returns-2
+returns-2 : tie.Need-returns
 returns-2 c =
-    let a = c.before.args in fit-bytes a.n a.s a.numbers a.bytes c.if1.false
+    let a = c.before.args in fit-bytes a.n a.s a.numbers a.bytes c.if-numbers-s.false
 
-pub colours-fit-spec : {M : Type 1} → statement M
-colours-fit-spec = tie.close (tie.spec (λ c. search rules) mul-if1-2 returns (λ c. search rules) returns-2)
+pub colours_fit_spec : {M : Type 1} → statement M
+colours_fit_spec = tie.close (tie.spec (λ c. search rules) mul-if1-2 returns (λ c. search rules) returns-2)

@@ -9,30 +9,30 @@ use Rattle.colour_tables.proofs.branch.fill.fill_colours.Lts as lts
 use Rattle.colour_tables.proofs.states.words.write_words.Reads as write-words-reads
 use Rattle.tables.proofs.node_tables.build.build_node_table.Reads as build-node-table-reads
 
-build-node-table-requires : tie.Need-build-node-table-requires
+build-node-table-requires : tie.Need-build_node_table-requires
 build-node-table-requires c κs =
     node-args _ _ _ _ _ _ _ c.before.before.before.before.before.before.requires
 
-write-words-requires : tie.Need-write-words-requires
+write-words-requires : tie.Need-write_words-requires
 write-words-requires c κs =
     let b = c.before.before.before.before in
     let s = b.before.before.before.before.before.before.before in
-    let t = b.build-node-table in
-    word-args _ _ _ _ _ _ _ s.requires s.args.numbers.now t.new.1.0 t.ensures t.auto.1.0
-    s.args.bytes.now refl
+    let t = b.build_node_table in
+    word-args _ _ _ _ _ _ _ s.requires s.args.numbers-1.now t.new.1.0 t.ensures t.auto.1.0
+    s.args.bytes-1.now refl
 
 returns : tie.Need-returns
 returns c =
     let a = c.before.before.before.before in
     let b = a.before.before.before.before.before in
     let s = b.before.before.before.before.before.before.before in
-    let t = b.build-node-table in
-    let w = a.write-words in
-    filled _ _ _ _ _ _ _ s.requires s.args.numbers.now t.new.1.0 t.ensures t.auto.1.0
-    s.args.bytes.now w.new.1.1.1.1.1.0 w.new.1.1.1.1.0 w.ensures refl
+    let t = b.build_node_table in
+    let w = a.write_words in
+    filled _ _ _ _ _ _ _ s.requires s.args.numbers-1.now t.new.1.0 t.ensures t.auto.1.0
+    s.args.bytes-1.now w.new.1.1.1.1.1.0 w.new.1.1.1.1.0 w.ensures refl
     (w.auto.1.1.1.1.0 ∙ t.auto.1.0) refl w.auto.1.1.1.1.1.0
 
-pub fill-colours-spec : {M : Type 1} → statement M
-fill-colours-spec =
+pub fill_colours_spec : {M : Type 1} → statement M
+fill_colours_spec =
     tie.close
     (tie.spec build-node-table-requires write-words-requires (λ c. search rules) (λ c. search rules) returns)

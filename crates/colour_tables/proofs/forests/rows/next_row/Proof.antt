@@ -23,30 +23,30 @@ part-is s =
     let e : g.c * (g.n * 4) + g.n * 4 - g.c * (g.n * 4) ≡ g.n * 4 = omega arith in
     ap (λ (k : ℕ). take k (drop (g.c * (g.n * 4)) g.nums.now)) e
 
-returns : tie.Need-returns
+returns : tie.Need-returns-then-v-n
 returns c =
     let g = c.before.before.args in
-    sym (next-root g.nums.now g.n g.c g.v c.if1.true)
+    sym (next-root g.nums.now g.n g.c g.v c.if-v-n.true)
 
-row-below-requires : tie.Need-row-below-requires
+row-below-requires : tie.Need-row_below-requires
 row-below-requires c κs =
     let m = c.before in
     let e = m.before in
     let s = e.before.before in
-    rw (part-is s, m.parent-at.ensures) (s.requires.below e.if1.false)
+    rw (part-is s, m.parent_at-p.ensures) (s.requires.below e.if-v-n.false)
 
-returns-2 : tie.Need-returns-2
+returns-2 : tie.Need-returns
 returns-2 c =
     let m = c.before.before in
     let e = m.before in
     let s = e.before.before in
     let g = s.args in
     c.row_below.ensures
-    ∙ ap₂ (λ (b : List ℕ) (p : ℕ). row_below b g.c g.v p) (part-is s) m.parent-at.ensures
-    ∙ sym (next-below g.nums.now g.n g.c g.v e.if1.false)
+    ∙ ap₂ (λ (b : List ℕ) (p : ℕ). row_below b g.c g.v p) (part-is s) m.parent_at-p.ensures
+    ∙ sym (next-below g.nums.now g.n g.c g.v e.if-v-n.false)
 
-pub next-row-spec : {M : Type 1} → statement M
-next-row-spec =
+pub next_row_spec : {M : Type 1} → statement M
+next_row_spec =
     tie.close
     (tie.spec (λ c. search rules) (λ c. search rules) (λ c. search rules) returns (λ c κs. search rules)
     (λ c. search rules) (λ c. search rules) (λ c. search rules) (λ c. search rules) (λ c. search rules)

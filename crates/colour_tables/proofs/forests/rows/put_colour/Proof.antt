@@ -16,54 +16,54 @@ use Rattle.colour_tables.proofs.forests.rows.next_row.Reads as next-row-reads
 use Rattle.colour_tables.proofs.forests.rows.put_row.Reads as put-row-reads
 
 -- the row is inside, and its place fits a word
-fits : (c : tie.After-put-row-arg) → let g = c.before.before.before.before.before.args in
-    (g.c * (g.n * 4) + g.n * 4 ≤ length g.nums.now) × (g.c * (g.n * 4) ≤ 3932100)
+fits : (c : tie.After-put_row-arg-1) → let g = c.before.before.before.before.before.args in
+    (g.c * (g.n * 4) + g.n * 4 ≤ length g.nums-1.now) × (g.c * (g.n * 4) ≤ 3932100)
     × (g.v * 4 + 4 ≤ g.n * 4) × (g.n ≤ 65535)
 fits c =
     let i = c.before.before.before in
     let s = i.before.before in
-    let A : NextArgs s.args.nums.now s.args.n s.args.c s.args.v = s.requires i.if1.false in (
+    let A : NextArgs s.args.nums-1.now s.args.n s.args.c s.args.v = s.requires i.if-c-lt1.false in (
       A.room,
       omega (arith, A.most, mul-le-mul_right (s.args.n * 4) A.few),
       omega (arith, A.at),
       A.most,
     )
 
-returns : tie.Need-returns
+returns : tie.Need-returns-then-c-lt1
 returns c =
     let g = c.before.before.args in
-    sym (colour-none g.nums.now g.n g.c g.v g.lands c.if1.true)
+    sym (colour-none g.nums-1.now g.n g.c g.v g.lands c.if-c-lt1.true)
 
-next-row-requires : tie.Need-next-row-requires
-next-row-requires c κs = c.before.before.before.requires c.before.if1.false
+next-row-requires : tie.Need-next_row-row-requires
+next-row-requires c κs = c.before.before.before.requires c.before.if-c-lt1.false
 
-mul-put-row : tie.Need-overflow-mul-put-row
+mul-put-row : tie.Need-overflow_mul-n
 mul-put-row c = omega (arith, fits c)
 
-mul-put-row-2 : tie.Need-overflow-mul-put-row-2
+mul-put-row-2 : tie.Need-overflow_mul-c
 mul-put-row-2 c = omega (arith, fits c)
 
-mul-put-row-3 : tie.Need-overflow-mul-put-row-3
+mul-put-row-3 : tie.Need-overflow_mul-v
 mul-put-row-3 c = omega (arith, fits c)
 
-add-put-row : tie.Need-overflow-add-put-row
+add-put-row : tie.Need-overflow_add-c
 add-put-row c = omega (arith, fits c)
 
-put-row-requires : tie.Need-put-row-requires
+put-row-requires : tie.Need-put_row-requires
 put-row-requires c κs = omega (arith, fits c)
 
-returns-2 : tie.Need-returns-2
+returns-2 : tie.Need-returns
 returns-2 c =
     let m = c.before.before in
     let r = m.before.before in
     let i = r.before.before in
     let g = i.before.before.args in
-    m.put-row.ensures
-    ∙ ap (λ (x : Row). put_row g.nums.now (g.c * (g.n * 4) + g.v * 4) x g.lands) r.next_row.ensures
-    ∙ sym (colour-put g.nums.now g.n g.c g.v g.lands i.if1.false)
+    m.put_row.ensures
+    ∙ ap (λ (x : Row). put_row g.nums-1.now (g.c * (g.n * 4) + g.v * 4) x g.lands) r.next_row-row.ensures
+    ∙ sym (colour-put g.nums-1.now g.n g.c g.v g.lands i.if-c-lt1.false)
 
-pub put-colour-spec : {M : Type 1} → statement M
-put-colour-spec =
+pub put_colour_spec : {M : Type 1} → statement M
+put_colour_spec =
     tie.close
     (tie.spec returns next-row-requires mul-put-row mul-put-row-2 mul-put-row-3 add-put-row put-row-requires
     (λ c. search rules) returns-2)

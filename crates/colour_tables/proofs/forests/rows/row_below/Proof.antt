@@ -12,34 +12,34 @@ use Rattle.colour_tables.proofs.forests.rows.row_below.Lts as lts
 use Rattle.tables.proofs.node_tables.down.by_distances.Reads as by-distances-reads
 use Rattle.tables.proofs.node_tables.moves.size_at.Reads as size-at-reads
 
-returns : tie.Need-returns
+returns : tie.Need-returns-then-size_at-c
 returns c =
     let j = c.before in
     let e = j.before in
     let m = e.before in
     let g = m.before.before.args in
-    ap (λ (x : ℕ). row g.p x (depth_cell g.table.now g.p + 1)) j.by-distances.ensures
-    ∙ sym (below-marked g.table.now g.c g.v g.p m.size-at.result m.size-at.ensures e.if1.true)
+    ap (λ (x : ℕ). row g.p x (depth_cell g.table.now g.p + 1)) j.by_distances-jump.ensures
+    ∙ sym (below-marked g.table.now g.c g.v g.p m.size_at.result m.size_at.ensures e.if-size_at-c.true)
 
-returns-2 : tie.Need-returns-2
+returns-2 : tie.Need-returns-then-table-p-eq0
 returns-2 c =
     let e = c.before.before in
     let m = e.before in
     let g = m.before.before.args in
-    sym (below_none g.table.now g.c g.v g.p m.size-at.result m.size-at.ensures e.if1.false
-    c.if2.true)
+    sym (below_none g.table.now g.c g.v g.p m.size_at.result m.size_at.ensures e.if-size_at-c.false
+    c.if-table-p-eq0.true)
 
-returns-3 : tie.Need-returns-3
+returns-3 : tie.Need-returns
 returns-3 c =
     let f = c.before.before.before in
     let e = f.before.before in
     let m = e.before in
     let g = m.before.before.args in
-    sym (below-same g.table.now g.c g.v g.p m.size-at.result m.size-at.ensures e.if1.false
-    f.if2.false)
+    sym (below-same g.table.now g.c g.v g.p m.size_at.result m.size_at.ensures e.if-size_at-c.false
+    f.if-table-p-eq0.false)
 
-pub row-below-spec : {M : Type 1} → statement M
-row-below-spec =
+pub row_below_spec : {M : Type 1} → statement M
+row_below_spec =
     tie.close
     (tie.spec (λ c κs. search rules) (λ c κs. search rules) (λ c. search rules) (λ c. search rules)
     (λ c. search rules) (λ c. search rules) (λ c. search rules) (λ c. search rules) returns (λ c. search rules)

@@ -9,5 +9,5 @@ use Rattle.colour_tables.proofs.rows.turns.place_of_bit.Lts as lts
 returns : tie.Need-returns
 returns c = λ x h e. place_found x c.args.b h e
 
-pub place-of-bit-spec : {M : Type 1} → statement M
-place-of-bit-spec = tie.close (tie.spec (λ c. search rules) (λ c. search rules) returns)
+pub place_of_bit_spec : {M : Type 1} → statement M
+place_of_bit_spec = tie.close (tie.spec (λ c. search rules) (λ c. search rules) returns)

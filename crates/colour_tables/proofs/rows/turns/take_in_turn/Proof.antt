@@ -15,62 +15,62 @@ use Rattle.colour_tables.proofs.rows.turns.take_in_turn.Lts as lts
 use Rattle.colour_tables.proofs.forests.rows.put_colour.Reads as put-colour-reads
 use Rattle.colour_tables.proofs.rows.turns.place_of_bit.Reads as place-of-bit-reads
 
-abbrev invariant-loop : tie.invariant-loop
+abbrev invariant-loop : tie.invariant-loop-c
 invariant-loop successors bytes₀ numbers₀ n at v owners₀ taken₀ c₀ bytes numbers owners taken c =
     (length bytes ≡ length bytes₀) × (length numbers ≡ length numbers₀)
     × Taking successors bytes₀ numbers₀ n at v bytes numbers owners taken c
 
-abbrev decreases-loop : tie.decreases-loop
+abbrev decreases-loop : tie.decreases-loop-c
 decreases-loop successors bytes₀ numbers₀ n at v owners₀ taken₀ c₀ bytes numbers owners taken c = length successors - c
 
-loop-holds : tie.Need-loop-init invariant-loop decreases-loop
+loop-holds : tie.Need-loop-c-init invariant-loop decreases-loop
 loop-holds c =
     let s = c.before.before.before in (
       refl,
       refl,
-      take-start s.args.successors.now s.args.bytes.now s.args.numbers.now s.args.n s.args.at
+      take-start s.args.successors.now s.args.bytes.now s.args.numbers-1.now s.args.n s.args.at
           s.args.v s.requires.node _ refl,
     )
 
 -- the state led to is below 16
-successors-small : (c : tie.After-shared-slice-known2 invariant-loop decreases-loop)
-    → let a = c.before.before in get_or a.before.before.before.before.args.successors.now a.loop.c 0 < 16
+successors-small : (c : tie.After-shared_slice_known-in-loop-c-1 invariant-loop decreases-loop)
+    → let a = c.before.before in get_or a.before.before.before.before.args.successors.now a.loop-c.c 0 < 16
 successors-small c =
     let a = c.before.before in
-    a.before.before.before.before.requires.turns.small a.loop.c c.before.loop-test.true
+    a.before.before.before.before.requires.turns.small a.loop-c.c c.before.loop-c-test.true
 
-taken-small : (c : tie.After-shared-slice-known2 invariant-loop decreases-loop) → c.before.before.loop.taken < 65536
+taken-small : (c : tie.After-shared_slice_known-in-loop-c-1 invariant-loop decreases-loop) → c.before.before.loop-c.taken < 65536
 taken-small c =
     let a = c.before.before in
-    let o = a.loop in
+    let o = a.loop-c in
     let s = a.before.before.before.before in
     below s.args.successors.now o.invariant.2.row o.invariant.2.landed o.owners o.taken o.c
-    o.invariant.2.turns s.requires.turns c.before.loop-test.true
+    o.invariant.2.turns s.requires.turns c.before.loop-c-test.true
 
 -- the bit that is taken
-bit_is : (c : tie.Joined1 invariant-loop decreases-loop)
+bit_is : (c : tie.Joined-taken-q-eq0 invariant-loop decreases-loop)
     → let a = c.before.before.before in
-    c.if1.bit
-    ≡ 2 ^ takes (take a.loop.c a.loop.invariant.2.row)
-    (get_or a.before.before.before.before.args.successors.now a.loop.c 0)
+    c.if-taken-q-eq0.bit
+    ≡ 2 ^ takes (take a.loop-c.c a.loop-c.invariant.2.row)
+    (get_or a.before.before.before.before.args.successors.now a.loop-c.c 0)
 bit_is c =
     let a = c.before.before.before in
-    let o = a.loop in
+    let o = a.loop-c in
     let s = a.before.before.before.before in
-    let h = c.before.before.loop-test.true in
+    let h = c.before.before.loop-c-test.true in
     ⊎_elim
     (λ w. w.1 ∙ bit-own s.args.successors.now o.invariant.2.row o.invariant.2.landed o.owners o.taken o.c
     o.invariant.2.turns s.requires.turns h w.0.taken)
     (λ w. w.1 ∙ bit-low s.args.successors.now o.invariant.2.row o.invariant.2.landed o.owners o.taken o.c
     o.invariant.2.turns s.requires.turns h w.0.left)
-    c.if1.branch
+    c.if-taken-q-eq0.branch
 
-bit-small : (c : tie.Joined1 invariant-loop decreases-loop) → c.if1.bit ≤ 65536
+bit-small : (c : tie.Joined-taken-q-eq0 invariant-loop decreases-loop) → c.if-taken-q-eq0.bit ≤ 65536
 bit-small c =
     let a = c.before.before.before in
-    let o = a.loop in
+    let o = a.loop-c in
     let s = a.before.before.before.before in
-    let h = c.before.before.loop-test.true in
+    let h = c.before.before.loop-c-test.true in
     omega (
       arith,
       bit_is c,
@@ -79,93 +79,93 @@ bit-small c =
     )
 
 -- the state that is taken
-place_is : (c : tie.After-place-of-bit invariant-loop decreases-loop)
+place_is : (c : tie.After-place_of_bit-x invariant-loop decreases-loop)
     → let a = c.before.before.before.before.before in
-    (c.place-of-bit.result
-    ≡ takes (take a.loop.c a.loop.invariant.2.row)
-    (get_or a.before.before.before.before.args.successors.now a.loop.c 0))
-    × (c.place-of-bit.result < 16)
+    (c.place_of_bit-x.result-1
+    ≡ takes (take a.loop-c.c a.loop-c.invariant.2.row)
+    (get_or a.before.before.before.before.args.successors.now a.loop-c.c 0))
+    × (c.place_of_bit-x.result-1 < 16)
 place_is c =
     let a = c.before.before.before.before.before in
-    let o = a.loop in
+    let o = a.loop-c in
     let s = a.before.before.before.before in
-    let h = c.before.before.before.before.loop-test.true in
+    let h = c.before.before.before.before.loop-c-test.true in
     let l : takes (take o.c o.invariant.2.row) (get_or s.args.successors.now o.c 0) < 16 =
     takes-small s.args.successors.now o.invariant.2.row o.invariant.2.landed o.owners o.taken o.c
     o.invariant.2.turns s.requires.turns h in
-    let e : c.place-of-bit.result ≡ takes (take o.c o.invariant.2.row) (get_or s.args.successors.now o.c 0) =
-    c.place-of-bit.ensures _ l (bit_is c.before.before) in
+    let e : c.place_of_bit-x.result-1 ≡ takes (take o.c o.invariant.2.row) (get_or s.args.successors.now o.c 0) =
+    c.place_of_bit-x.ensures _ l (bit_is c.before.before) in
     (e, omega arith)
 
-cast-q : tie.Need-overflow-cast-q invariant-loop decreases-loop
+cast-q : tie.Need-overflow_cast-q invariant-loop decreases-loop
 cast-q c = omega (arith, successors-small c)
 
-add_low : tie.Need-overflow-add-low invariant-loop decreases-loop
+add_low : tie.Need-overflow_add-low invariant-loop decreases-loop
 add_low c = omega (arith, taken-small c)
 
-sub_low : tie.Need-overflow-sub-low invariant-loop decreases-loop
+sub_low : tie.Need-overflow_sub-low invariant-loop decreases-loop
 sub_low c = omega (arith, taken-small c)
 
-shr-if1 : tie.Need-overflow-shr-if1 invariant-loop decreases-loop
+shr-if1 : tie.Need-overflow_shr-taken invariant-loop decreases-loop
 shr-if1 c = omega (arith, successors-small c)
 
-shl-bit : tie.Need-overflow-shl-bit invariant-loop decreases-loop
+shl-bit : tie.Need-overflow_shl-bit invariant-loop decreases-loop
 shl-bit c = omega (arith, successors-small c.before)
 
-add-taken : tie.Need-overflow-add-taken invariant-loop decreases-loop
+add-taken : tie.Need-overflow_add-taken invariant-loop decreases-loop
 add-taken c = omega (arith, taken-small c.before.before, bit-small c.before)
 
-place-of-bit-requires : tie.Need-place-of-bit-requires invariant-loop decreases-loop
+place-of-bit-requires : tie.Need-place_of_bit-x-requires invariant-loop decreases-loop
 place-of-bit-requires c κs = omega (arith, bit-small c.before)
 
-array-write-owners : tie.Need-array-write-owners invariant-loop decreases-loop
+array-write-owners : tie.Need-bounds-owners-x invariant-loop decreases-loop
 array-write-owners c = (place_is c).1
 
-slice-write-bytes : tie.Need-slice-write-bytes invariant-loop decreases-loop
+slice-write-bytes : tie.Need-bounds-bytes-at invariant-loop decreases-loop
 slice-write-bytes c =
     let a = c.before.before.before.before.before in
     let s = a.before.before.before.before in
-    omega (arith, s.requires.room, a.loop.invariant.0, c.before.before.before.before.loop-test.true)
+    omega (arith, s.requires.room, a.loop-c.invariant.0, c.before.before.before.before.loop-c-test.true)
 
-array-read-put-colour : tie.Need-array-read-put-colour invariant-loop decreases-loop
+array-read-put-colour : tie.Need-bounds-owners-q invariant-loop decreases-loop
 array-read-put-colour c = successors-small c.before.before.before.before
 
-put-colour-requires : tie.Need-put-colour-requires invariant-loop decreases-loop
+put-colour-requires : tie.Need-put_colour-requires invariant-loop decreases-loop
 put-colour-requires c κs =
     let a = c.before.before.before.before.before.before in
-    let o = a.loop in
+    let o = a.loop-c in
     let s = a.before.before.before.before in
-    take-args s.args.successors.now s.args.bytes.now s.args.numbers.now s.args.n s.args.at
-    s.args.v s.requires.node s.requires o.bytes o.numbers o.owners o.taken o.c o.invariant.2
-    c.before.before.before.before.before.loop-test.true o.invariant.0 o.invariant.1
+    take-args s.args.successors.now s.args.bytes.now s.args.numbers-1.now s.args.n s.args.at
+    s.args.v s.requires.node s.requires o.bytes o.numbers-1 o.owners o.taken o.c o.invariant.2
+    c.before.before.before.before.before.loop-c-test.true o.invariant.0 o.invariant.1
 
-loop-again : tie.Need-loop-preserved invariant-loop decreases-loop
+loop-again : tie.Need-loop-c-preserved invariant-loop decreases-loop
 loop-again c =
     let m = c.before.before in
     let p = m.before.before in
     let a = p.before.before.before.before.before in
-    let o = a.loop in
+    let o = a.loop-c in
     let s = a.before.before.before.before in
-    let h = p.before.before.before.before.loop-test.true in (
+    let h = p.before.before.before.before.loop-c-test.true in (
       length-set o.bytes _ _ ∙ o.invariant.0,
-      m.put-colour.auto.0 ∙ o.invariant.1,
-      take-turn s.args.successors.now s.args.bytes.now s.args.numbers.now s.args.n s.args.at
-          s.args.v s.requires.node s.requires o.bytes o.numbers o.owners o.taken o.c o.invariant.2
-          h o.invariant.0 o.invariant.1 p.place-of-bit.result p.before.before.if1.bit m.put-colour.new.0
-          (bit_is p.before.before) (place_is p).0 m.put-colour.ensures,
+      m.put_colour.auto.0 ∙ o.invariant.1,
+      take-turn s.args.successors.now s.args.bytes.now s.args.numbers-1.now s.args.n s.args.at
+          s.args.v s.requires.node s.requires o.bytes o.numbers-1 o.owners o.taken o.c o.invariant.2
+          h o.invariant.0 o.invariant.1 p.place_of_bit-x.result-1 p.before.before.if-taken-q-eq0.bit m.put_colour.new.0
+          (bit_is p.before.before) (place_is p).0 m.put_colour.ensures,
     )
 
 returns : tie.Need-returns invariant-loop decreases-loop
 returns c =
     let a = c.before in
-    let o = a.loop in
+    let o = a.loop-c in
     let s = a.before.before.before.before in
-    take_done s.args.successors.now s.args.bytes.now s.args.numbers.now s.args.n s.args.at
-    s.args.v s.requires.node o.bytes o.numbers o.owners o.taken o.c o.invariant.2
-    c.loop-test.false
+    take_done s.args.successors.now s.args.bytes.now s.args.numbers-1.now s.args.n s.args.at
+    s.args.v s.requires.node o.bytes o.numbers-1 o.owners o.taken o.c o.invariant.2
+    c.loop-c-test.false
 
-pub take-in-turn-spec : {M : Type 1} → statement M
-take-in-turn-spec =
+pub take_in_turn_spec : {M : Type 1} → statement M
+take_in_turn_spec =
     tie.close
     (tie.spec invariant-loop decreases-loop loop-holds (λ c. search rules) cast-q add_low sub_low shr-if1 shl-bit add-taken
     place-of-bit-requires (λ c. search rules) (λ c. search rules) array-write-owners (λ c. search rules)

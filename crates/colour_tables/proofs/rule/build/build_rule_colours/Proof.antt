@@ -16,52 +16,52 @@ use Rattle.colour_tables.proofs.rule.build.check_rule_colours.Reads as check-rul
 use Rattle.colour_tables.proofs.rule.fill.write_rule_colours.Reads as write-rule-colours-reads
 
 -- all checks pass
-passed : (c : tie.Else1) → let g = c.before.before.before.before.before.before.args in
-    first_no (rule_colour_checks g.plan.now g.rules.now (length g.numbers.now) (length g.bytes.now)) ≡ 0
-passed c = sym c.before.check-rule-colours.ensures ∙ c.if1.false
+passed : (c : tie.Else-no-ne0) → let g = c.before.before.before.before.before.before.args in
+    first_no (rule_colour_checks g.plan.now g.rules.now (length g.numbers-1.now) (length g.bytes-1.now)) ≡ 0
+passed c = sym c.before.check_rule_colours-no.ensures ∙ c.if-no-ne0.false
 
-accepts : (c : tie.Else1) → let g = c.before.before.before.before.before.before.args in
-    Accepted g.plan.now g.rules.now (length g.numbers.now) (length g.bytes.now)
+accepts : (c : tie.Else-no-ne0) → let g = c.before.before.before.before.before.before.args in
+    Accepted g.plan.now g.rules.now (length g.numbers-1.now) (length g.bytes-1.now)
 accepts c =
     let g = c.before.before.before.before.before.before.args in
-    accepted g.plan.now g.rules.now (length g.numbers.now) (length g.bytes.now) (passed c)
+    accepted g.plan.now g.rules.now (length g.numbers-1.now) (length g.bytes-1.now) (passed c)
 
-returns : tie.Need-returns
+returns : tie.Need-returns-then-no-ne0
 returns c =
     let g = c.before.before.before.before.before.before.args in
-    let r = c.before.check-rule-colours in
+    let r = c.before.check_rule_colours-no in
     build-refused (built_set_numbers g.plan.now g.rules.now) (built_set_bytes g.plan.now g.rules.now)
-    g.numbers.now g.bytes.now _ r.result r.ensures c.if1.true
+    g.numbers-1.now g.bytes-1.now _ r.result r.ensures c.if-no-ne0.true
 
-read32-requires : tie.Need-read32-requires
+read32-requires : tie.Need-read32-n-requires
 read32-requires c κs = omega (arith, (accepts c).0.long)
 
-read32-requires-2 : tie.Need-read32-requires-2
+read32-requires-2 : tie.Need-read32-s-requires
 read32-requires-2 c κs = omega (arith, (accepts c.before).1.long)
 
-read32-requires-3 : tie.Need-read32-requires-3
+read32-requires-3 : tie.Need-read32-k-requires
 read32-requires-3 c κs = omega (arith, (accepts c.before.before).1.long)
 
-write-rule-colours-requires : tie.Need-write-rule-colours-requires
+write-rule-colours-requires : tie.Need-write_rule_colours-requires
 write-rule-colours-requires c κs =
     let i = c.before.before.before.before.before in
     let g = i.before.before.before.before.before.before.args in
-    part-args g.plan.now g.rules.now (length g.numbers.now) (length g.bytes.now) (passed i) _ _ _
-    c.before.before.before.before.read32.ensures c.before.before.before.read322.ensures
-    c.before.before.read323.ensures
+    part-args g.plan.now g.rules.now (length g.numbers-1.now) (length g.bytes-1.now) (passed i) _ _ _
+    c.before.before.before.before.read32-n.ensures c.before.before.before.read32-s.ensures
+    c.before.before.read32-k.ensures
 
-returns-2 : tie.Need-returns-2
+returns-2 : tie.Need-returns
 returns-2 c =
     let w = c.before.before.before.before in
     let i = w.before.before.before.before.before.before in
     let g = i.before.before.before.before.before.before.args in
     build-done (built_set_numbers g.plan.now g.rules.now) (built_set_bytes g.plan.now g.rules.now)
-    g.numbers.now g.bytes.now _
-    w.write-rule-colours.new.1.1.1.1.1.0 w.write-rule-colours.new.1.1.1.1.1.1.0 (passed i)
-    w.write-rule-colours.ensures.numbers_are w.write-rule-colours.ensures.bytes_are
+    g.numbers-1.now g.bytes-1.now _
+    w.write_rule_colours.new.1.1.1.1.1.0 w.write_rule_colours.new.1.1.1.1.1.1.0 (passed i)
+    w.write_rule_colours.ensures.numbers_are w.write_rule_colours.ensures.bytes_are
 
-pub build-rule-colours-spec : {M : Type 1} → statement M
-build-rule-colours-spec =
+pub build_rule_colours_spec : {M : Type 1} → statement M
+build_rule_colours_spec =
     tie.close
     (tie.spec (λ c κs. search rules) returns read32-requires read32-requires-2 read32-requires-3
     write-rule-colours-requires (λ c. search rules) (λ c. search rules) returns-2)

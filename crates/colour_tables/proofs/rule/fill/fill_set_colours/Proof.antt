@@ -10,24 +10,24 @@ use Rattle.colour_tables.proofs.rule.fill.fill_set_colours.Lts as lts
 use Rattle.colour_tables.proofs.set_states.sets.set_count.Reads as set-count-reads
 use Rattle.colour_tables.proofs.set_states.sets.write_sets.Reads as write-sets-reads
 
-write-sets-requires : tie.Need-write-sets-requires
+write-sets-requires : tie.Need-write_sets-requires
 write-sets-requires c κs =
     let k = c.before.before in
     let s = k.before.before.before.before.before in
-    set-args s.args.labels.now s.args.inner.now s.args.s s.args.k s.args.numbers.now
-    s.args.bytes.now s.requires k.set-count.result _ k.set-count.ensures.0 refl
+    set-args s.args.labels.now s.args.inner.now s.args.s s.args.k s.args.numbers-1.now
+    s.args.bytes-1.now s.requires k.set_count-count.result _ k.set_count-count.ensures.0 refl
 
 returns : tie.Need-returns
 returns c =
     let w = c.before.before.before.before in
     let k = w.before.before.before in
     let s = k.before.before.before.before.before in
-    filled s.args.labels.now s.args.inner.now s.args.s s.args.k s.args.numbers.now
-    s.args.bytes.now s.requires k.set-count.result _ k.set-count.ensures.0 refl
-    w.write-sets.new.1.1.1.1.1.1.1.0 w.write-sets.new.1.1.1.1.1.1.0 w.write-sets.ensures
+    filled s.args.labels.now s.args.inner.now s.args.s s.args.k s.args.numbers-1.now
+    s.args.bytes-1.now s.requires k.set_count-count.result _ k.set_count-count.ensures.0 refl
+    w.write_sets.new.1.1.1.1.1.1.1.0 w.write_sets.new.1.1.1.1.1.1.0 w.write_sets.ensures
 
-pub fill-set-colours-spec : {M : Type 1} → statement M
-fill-set-colours-spec =
+pub fill_set_colours_spec : {M : Type 1} → statement M
+fill_set_colours_spec =
     tie.close
     (tie.spec (λ c κs. search rules) (λ c. search rules) (λ c. search rules) write-sets-requires
     (λ c. search rules) (λ c. search rules) returns)

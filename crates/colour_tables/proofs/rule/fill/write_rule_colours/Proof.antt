@@ -6,22 +6,22 @@ use borrow.Author.Rules.{rules}
 use Rattle.colour_tables.proofs.rule.fill.write_rule_colours.Statement.{statement}
 use Rattle.colour_tables.proofs.rule.fill.write_rule_colours.Tie as tie
 
-write-tables-requires : tie.Need-write-tables-requires
+write-tables-requires : tie.Need-write_tables-requires
 write-tables-requires c κs =
     let s = c.before.before.before.before.before.before in
-    table-args s.args.plan.now s.args.rules.now s.args.n s.args.s s.args.k s.args.numbers.now
-    s.args.bytes.now s.requires
+    table-args s.args.plan.now s.args.rules.now s.args.n s.args.s s.args.k s.args.numbers-1.now
+    s.args.bytes-1.now s.requires
 
-fill-set-colours-requires : tie.Need-fill-set-colours-requires
+fill-set-colours-requires : tie.Need-fill_set_colours-requires
 fill-set-colours-requires c κs =
     let i = c.before.before.before.before in
     let b = i.before.before.before.before.before in
     let s = b.before.before.before.before.before.before.before in
     parts-filled s.args.plan.now s.args.rules.now s.args.n s.args.s s.args.k
-    s.args.numbers.now
-    s.args.bytes.now s.requires b.write-tables.new.1.1.1.1.1.0 b.write-tables.new.1.1.1.1.1.1.0
-    b.write-tables.ensures i.inner_count.result i.inner_count.ensures.value
-    b.write-tables.auto.1.1.1.1.1.0 b.write-tables.auto.1.1.1.1.1.1.0
+    s.args.numbers-1.now
+    s.args.bytes-1.now s.requires b.write_tables.new.1.1.1.1.1.0 b.write_tables.new.1.1.1.1.1.1.0
+    b.write_tables.ensures i.inner_count.result i.inner_count.ensures.value
+    b.write_tables.auto.1.1.1.1.1.0 b.write_tables.auto.1.1.1.1.1.1.0
 
 returns : tie.Need-returns
 returns c =
@@ -30,15 +30,15 @@ returns c =
     let b = i.before.before.before.before.before in
     let s = b.before.before.before.before.before.before.before in
     parts-written s.args.plan.now s.args.rules.now s.args.n s.args.s s.args.k
-    s.args.numbers.now
-    s.args.bytes.now s.requires b.write-tables.new.1.1.1.1.1.0 b.write-tables.new.1.1.1.1.1.1.0
-    b.write-tables.ensures i.inner_count.result i.inner_count.ensures.value
-    f.fill-set-colours.new.1.1.1.1.0 f.fill-set-colours.new.1.1.1.1.1.0
-    (f.fill-set-colours.auto.1.1.1.1.0 ∙ b.write-tables.auto.1.1.1.1.1.0)
-    (f.fill-set-colours.auto.1.1.1.1.1.0 ∙ b.write-tables.auto.1.1.1.1.1.1.0) f.fill-set-colours.ensures
+    s.args.numbers-1.now
+    s.args.bytes-1.now s.requires b.write_tables.new.1.1.1.1.1.0 b.write_tables.new.1.1.1.1.1.1.0
+    b.write_tables.ensures i.inner_count.result i.inner_count.ensures.value
+    f.fill_set_colours.new.1.1.1.1.0 f.fill_set_colours.new.1.1.1.1.1.0
+    (f.fill_set_colours.auto.1.1.1.1.0 ∙ b.write_tables.auto.1.1.1.1.1.0)
+    (f.fill_set_colours.auto.1.1.1.1.1.0 ∙ b.write_tables.auto.1.1.1.1.1.1.0) f.fill_set_colours.ensures
 
-pub write-rule-colours-spec : {M : Type 1} → statement M
-write-rule-colours-spec =
+pub write_rule_colours_spec : {M : Type 1} → statement M
+write_rule_colours_spec =
     tie.close
     (tie.spec write-tables-requires (λ c. search rules) (λ c κs. search rules) (λ c. search rules) (λ c. search rules)
     (λ c. search rules) (λ c. search rules) (λ c. search rules) (λ c. search rules) (λ c. search rules)

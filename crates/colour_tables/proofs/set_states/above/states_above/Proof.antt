@@ -14,54 +14,54 @@ use Rattle.tables.proofs.node_tables.moves.size_at.Reads as size-at-reads
 use Rattle.colour_tables.proofs.set_states.above.states_above_from.Reads as states-above-from-reads
 
 -- the sibling of a left child
-left : (e : tie.Else1) → e.before.before.parent-at.result - 1 < e.before.before.parent-at.result
+left : (e : tie.Else-v-p) → e.before.before.parent_at-p.result - 1 < e.before.before.parent_at-p.result
 left e =
     let p = e.before.before in
     let s = p.before.before.before.before.before in
-    omega (arith, s.requires.above, p.parent-at.ensures)
+    omega (arith, s.requires.above, p.parent_at-p.ensures)
 
 -- the sibling of a right child
-right : (z : tie.After-size-at)
-    → z.before.before.before.before.before.before.before.before.args.v - z.size-at.result
-    < z.before.before.before.parent-at.result
+right : (z : tie.After-size_at)
+    → z.before.before.before.before.before.before.before.before.args.v - z.size_at.result
+    < z.before.before.before.parent_at-p.result
 right z =
     let p = z.before.before.before in
     let s = p.before.before.before.before.before in
-    omega (arith, z.before.if1.true)
+    omega (arith, z.before.if-v-p.true)
 
-cast-a : tie.Need-overflow-cast-a
+cast-a : tie.Need-overflow_cast-a
 cast-a c =
     let p = c.before in
     let s = p.before.before.before.before.before in
-    omega (arith, c.shared-slice-known5.given p.parent-at.result)
+    omega (arith, c.shared_slice_known-5-1.given p.parent_at-p.result)
 
-sub-u : tie.Need-overflow-sub-u
+sub-u : tie.Need-overflow_sub-u
 sub-u c =
     let p = c.before.before.before in
     let s = p.before.before.before.before.before in
-    omega (arith, s.requires.size_in (c.before.if1.true ∙ p.parent-at.ensures), c.size-at.ensures)
+    omega (arith, s.requires.size_in (c.before.if-v-p.true ∙ p.parent_at-p.ensures), c.size_at.ensures)
 
-mul-x : tie.Need-overflow-mul-x
+mul-x : tie.Need-overflow_mul-x
 mul-x c =
     let p = c.before.before.before in
     let s = p.before.before.before.before.before in
     omega (
       arith,
       place-small s.args.labels.now s.args.numbers.now s.args.inner.now
-          s.args.bytes.now s.args.s s.args.k s.args.v s.requires p.parent-at.result
-          p.parent-at.ensures (s.args.v - c.size-at.result) (right c),
+          s.args.bytes.now s.args.s s.args.k s.args.v s.requires p.parent_at-p.result
+          p.parent_at-p.ensures (s.args.v - c.size_at.result) (right c),
     )
 
-shared-slice-read-x : tie.Need-shared-slice-read-x
+shared-slice-read-x : tie.Need-bounds-bytes-u
 shared-slice-read-x c =
     let z = c.before in
     let p = z.before.before.before in
     let s = p.before.before.before.before.before in
     place_in s.args.labels.now s.args.numbers.now s.args.inner.now s.args.bytes.now s.args.s
-    s.args.k s.args.v s.requires p.parent-at.result p.parent-at.ensures
-    (s.args.v - z.size-at.result) (right z)
+    s.args.k s.args.v s.requires p.parent_at-p.result p.parent_at-p.ensures
+    (s.args.v - z.size_at.result) (right z)
 
-cast-x : tie.Need-overflow-cast-x
+cast-x : tie.Need-overflow_cast-x
 cast-x c =
     let z = c.before in
     let p = z.before.before.before in
@@ -69,12 +69,12 @@ cast-x c =
     omega (
       arith,
       state_in s.args.labels.now s.args.numbers.now s.args.inner.now s.args.bytes.now
-          s.args.s s.args.k s.args.v s.requires p.parent-at.result p.parent-at.ensures
-          (s.args.v - z.size-at.result) (right z),
+          s.args.s s.args.k s.args.v s.requires p.parent_at-p.result p.parent_at-p.ensures
+          (s.args.v - z.size_at.result) (right z),
       s.requires.few,
     )
 
-mul-states-above-from : tie.Need-overflow-mul-states-above-from
+mul-states-above-from : tie.Need-overflow_mul-x-then-v-p
 mul-states-above-from c =
     let z = c.before in
     let p = z.before.before.before in
@@ -82,11 +82,11 @@ mul-states-above-from c =
     omega (
       arith,
       (sums s.args.labels.now s.args.numbers.now s.args.inner.now s.args.bytes.now
-          s.args.s s.args.k s.args.v s.requires p.parent-at.result p.parent-at.ensures
-          (s.args.v - z.size-at.result) (right z)).0,
+          s.args.s s.args.k s.args.v s.requires p.parent_at-p.result p.parent_at-p.ensures
+          (s.args.v - z.size_at.result) (right z)).0,
     )
 
-add-states-above-from : tie.Need-overflow-add-states-above-from
+add-states-above-from : tie.Need-overflow_add-x-then-v-p
 add-states-above-from c =
     let z = c.before in
     let p = z.before.before.before in
@@ -94,15 +94,15 @@ add-states-above-from c =
     omega (
       arith,
       (sums s.args.labels.now s.args.numbers.now s.args.inner.now s.args.bytes.now s.args.s
-          s.args.k s.args.v s.requires p.parent-at.result p.parent-at.ensures
-          (s.args.v - z.size-at.result) (right z)).0,
+          s.args.k s.args.v s.requires p.parent_at-p.result p.parent_at-p.ensures
+          (s.args.v - z.size_at.result) (right z)).0,
       label_in s.args.labels.now s.args.numbers.now s.args.inner.now s.args.bytes.now s.args.s
-          s.args.k s.args.v s.requires p.parent-at.result p.parent-at.ensures
-          (s.args.v - z.size-at.result) (right z),
+          s.args.k s.args.v s.requires p.parent_at-p.result p.parent_at-p.ensures
+          (s.args.v - z.size_at.result) (right z),
       s.requires.labels,
     )
 
-mul-states-above-from-2 : tie.Need-overflow-mul-states-above-from-2
+mul-states-above-from-2 : tie.Need-overflow_mul-x-then-v-p-2
 mul-states-above-from-2 c =
     let z = c.before in
     let p = z.before.before.before in
@@ -110,30 +110,30 @@ mul-states-above-from-2 c =
     omega (
       arith,
       (sums s.args.labels.now s.args.numbers.now s.args.inner.now s.args.bytes.now
-          s.args.s s.args.k s.args.v s.requires p.parent-at.result p.parent-at.ensures
-          (s.args.v - z.size-at.result) (right z)).1,
+          s.args.s s.args.k s.args.v s.requires p.parent_at-p.result p.parent_at-p.ensures
+          (s.args.v - z.size_at.result) (right z)).1,
     )
 
-states-above-from-requires : tie.Need-states-above-from-requires
+states-above-from-requires : tie.Need-states_above_from-requires
 states-above-from-requires c κs =
     let z = c.before in
     let p = z.before.before.before in
     let s = p.before.before.before.before.before in
     right-args s.args.labels.now s.args.numbers.now s.args.inner.now s.args.bytes.now s.args.s
-    s.args.k s.args.v s.requires p.parent-at.result p.parent-at.ensures
-    (s.args.v - z.size-at.result) (right z)
+    s.args.k s.args.v s.requires p.parent_at-p.result p.parent_at-p.ensures
+    (s.args.v - z.size_at.result) (right z)
 
-returns : tie.Need-returns
+returns : tie.Need-returns-then-v-p
 returns c =
     let z = c.before.before in
     let p = z.before.before.before in
     let s = p.before.before.before.before.before in
     above-right s.args.labels.now s.args.numbers.now s.args.inner.now s.args.bytes.now s.args.s
     s.args.k
-    s.args.v p.parent-at.result _ p.parent-at.ensures refl c.states-above-from.result z.before.if1.true
-    z.size-at.result z.size-at.ensures c.states-above-from.ensures
+    s.args.v p.parent_at-p.result _ p.parent_at-p.ensures refl c.states_above_from.result z.before.if-v-p.true
+    z.size_at.result z.size_at.ensures c.states_above_from.ensures
 
-mul-y : tie.Need-overflow-mul-y
+mul-y : tie.Need-overflow_mul-y
 mul-y c =
     let e = c in
     let p = e.before.before in
@@ -141,20 +141,20 @@ mul-y c =
     omega (
       arith,
       place-small s.args.labels.now s.args.numbers.now s.args.inner.now
-          s.args.bytes.now s.args.s s.args.k s.args.v s.requires p.parent-at.result
-          p.parent-at.ensures (p.parent-at.result - 1) (left e),
+          s.args.bytes.now s.args.s s.args.k s.args.v s.requires p.parent_at-p.result
+          p.parent_at-p.ensures (p.parent_at-p.result - 1) (left e),
     )
 
-shared-slice-read-y : tie.Need-shared-slice-read-y
+shared-slice-read-y : tie.Need-bounds-bytes-p
 shared-slice-read-y c =
     let e = c.before in
     let p = e.before.before in
     let s = p.before.before.before.before.before in
     place_in s.args.labels.now s.args.numbers.now s.args.inner.now s.args.bytes.now s.args.s
-    s.args.k s.args.v s.requires p.parent-at.result p.parent-at.ensures (p.parent-at.result - 1)
+    s.args.k s.args.v s.requires p.parent_at-p.result p.parent_at-p.ensures (p.parent_at-p.result - 1)
     (left e)
 
-cast-y : tie.Need-overflow-cast-y
+cast-y : tie.Need-overflow_cast-y
 cast-y c =
     let e = c.before in
     let p = e.before.before in
@@ -162,12 +162,12 @@ cast-y c =
     omega (
       arith,
       state_in s.args.labels.now s.args.numbers.now s.args.inner.now s.args.bytes.now
-          s.args.s s.args.k s.args.v s.requires p.parent-at.result p.parent-at.ensures
-          (p.parent-at.result - 1) (left e),
+          s.args.s s.args.k s.args.v s.requires p.parent_at-p.result p.parent_at-p.ensures
+          (p.parent_at-p.result - 1) (left e),
       s.requires.few,
     )
 
-mul-states-above-from-3 : tie.Need-overflow-mul-states-above-from-3
+mul-states-above-from-3 : tie.Need-overflow_mul-a
 mul-states-above-from-3 c =
     let e = c.before in
     let p = e.before.before in
@@ -175,11 +175,11 @@ mul-states-above-from-3 c =
     omega (
       arith,
       (sums s.args.labels.now s.args.numbers.now s.args.inner.now s.args.bytes.now
-          s.args.s s.args.k s.args.v s.requires p.parent-at.result p.parent-at.ensures
-          (p.parent-at.result - 1) (left e)).2,
+          s.args.s s.args.k s.args.v s.requires p.parent_at-p.result p.parent_at-p.ensures
+          (p.parent_at-p.result - 1) (left e)).2,
     )
 
-add-states-above-from-2 : tie.Need-overflow-add-states-above-from-2
+add-states-above-from-2 : tie.Need-overflow_add-a
 add-states-above-from-2 c =
     let e = c.before in
     let p = e.before.before in
@@ -187,16 +187,16 @@ add-states-above-from-2 c =
     omega (
       arith,
       (sums s.args.labels.now s.args.numbers.now s.args.inner.now s.args.bytes.now
-          s.args.s s.args.k s.args.v s.requires p.parent-at.result p.parent-at.ensures
-          (p.parent-at.result - 1) (left e)).2,
+          s.args.s s.args.k s.args.v s.requires p.parent_at-p.result p.parent_at-p.ensures
+          (p.parent_at-p.result - 1) (left e)).2,
       state_in s.args.labels.now s.args.numbers.now
           s.args.inner.now s.args.bytes.now s.args.s s.args.k s.args.v s.requires
-          p.parent-at.result
-          p.parent-at.ensures (p.parent-at.result - 1) (left e),
+          p.parent_at-p.result
+          p.parent_at-p.ensures (p.parent_at-p.result - 1) (left e),
       s.requires.few,
     )
 
-mul-states-above-from-4 : tie.Need-overflow-mul-states-above-from-4
+mul-states-above-from-4 : tie.Need-overflow_mul-k
 mul-states-above-from-4 c =
     let e = c.before in
     let p = e.before.before in
@@ -204,31 +204,31 @@ mul-states-above-from-4 c =
     omega (
       arith,
       (sums s.args.labels.now s.args.numbers.now s.args.inner.now s.args.bytes.now
-          s.args.s s.args.k s.args.v s.requires p.parent-at.result p.parent-at.ensures
-          (p.parent-at.result - 1) (left e)).3,
+          s.args.s s.args.k s.args.v s.requires p.parent_at-p.result p.parent_at-p.ensures
+          (p.parent_at-p.result - 1) (left e)).3,
     )
 
-states-above-from-requires-2 : tie.Need-states-above-from-requires-2
+states-above-from-requires-2 : tie.Need-states_above_from-requires-2
 states-above-from-requires-2 c κs =
     let e = c.before in
     let p = e.before.before in
     let s = p.before.before.before.before.before in
     left-args s.args.labels.now s.args.numbers.now s.args.inner.now s.args.bytes.now s.args.s
-    s.args.k s.args.v s.requires p.parent-at.result p.parent-at.ensures (p.parent-at.result - 1)
+    s.args.k s.args.v s.requires p.parent_at-p.result p.parent_at-p.ensures (p.parent_at-p.result - 1)
     (left e)
 
-returns-2 : tie.Need-returns-2
+returns-2 : tie.Need-returns
 returns-2 c =
     let e = c.before.before in
     let p = e.before.before in
     let s = p.before.before.before.before.before in
     above-left s.args.labels.now s.args.numbers.now s.args.inner.now s.args.bytes.now s.args.s
     s.args.k
-    s.args.v p.parent-at.result _ p.parent-at.ensures refl c.states-above-from2.result e.if1.false
-    c.states-above-from2.ensures
+    s.args.v p.parent_at-p.result _ p.parent_at-p.ensures refl c.states_above_from-2.result e.if-v-p.false
+    c.states_above_from-2.ensures
 
-pub states-above-spec : {M : Type 1} → statement M
-states-above-spec =
+pub states_above_spec : {M : Type 1} → statement M
+states_above_spec =
     tie.close
     (tie.spec (λ c κs. search rules) (λ c. search rules) cast-a (λ c. search rules) (λ c κs. search rules) sub-u
     (λ c. search rules) mul-x shared-slice-read-x cast-x mul-states-above-from add-states-above-from

@@ -18,5 +18,5 @@ returns c =
     in
     (e, omega arith)
 
-pub set-count-spec : {M : Type 1} → statement M
-set-count-spec = tie.close (tie.spec (λ c. search rules) returns)
+pub set_count_spec : {M : Type 1} → statement M
+set_count_spec = tie.close (tie.spec (λ c. search rules) returns)

@@ -9,5 +9,5 @@ use Rattle.colour_tables.proofs.sets.bits.bit_of.Lts as lts
 returns : tie.Need-returns
 returns c = bit_is c.args.t c.args.k
 
-pub bit-of-spec : {M : Type 1} → statement M
-bit-of-spec = tie.close (tie.spec (λ c. search rules) returns)
+pub bit_of_spec : {M : Type 1} → statement M
+bit_of_spec = tie.close (tie.spec (λ c. search rules) returns)

@@ -12,5 +12,5 @@ returns c =
     let e = joined a.r a.b a.i c.requires.one c.requires.few c.requires.low in
     (e, rw e (bound a.b a.i a.r c.requires.one c.requires.low))
 
-pub with-bit-spec : {M : Type 1} → statement M
-with-bit-spec = tie.close (tie.spec (λ c. search rules) (λ c. search rules) returns)
+pub with_bit_spec : {M : Type 1} → statement M
+with_bit_spec = tie.close (tie.spec (λ c. search rules) (λ c. search rules) returns)

@@ -11,22 +11,22 @@ use Rattle.colour_tables.proofs.sets.successors.successors_by_set.Reads as reads
 use Rattle.colour_tables.proofs.sets.successors.successors_by_set.Lts as lts
 use Rattle.colour_tables.proofs.sets.bits.preimage.Reads as preimage-reads
 
-abbrev invariant-loop : tie.invariant-loop
+abbrev invariant-loop : tie.invariant-loop-c
 invariant-loop above k row led₀ c₀ successors c = (c ≤ k) × SuccessorsBy above row c successors
 
-abbrev decreases-loop : tie.decreases-loop
+abbrev decreases-loop : tie.decreases-loop-c
 decreases-loop above k row led₀ c₀ successors c = k - c
 
-loop-holds : tie.Need-loop-init invariant-loop decreases-loop
+loop-holds : tie.Need-loop-c-init invariant-loop decreases-loop
 loop-holds c = (omega arith, successors-start c.before.args.above.now c.before.args.t1 _ refl)
 
-loop-again : tie.Need-loop-preserved invariant-loop decreases-loop
+loop-again : tie.Need-loop-c-preserved invariant-loop decreases-loop
 loop-again c =
     let a = c.before.before in
     let s = a.before.before in
-    let l = c.before.loop-test.true in (
+    let l = c.before.loop-c-test.true in (
       omega arith,
-      successors_next s.args.above.now s.args.t1 a.loop.c c.preimage.result a.loop.successors a.loop.invariant.1
+      successors_next s.args.above.now s.args.t1 a.loop-c.c c.preimage.result a.loop-c.successors a.loop-c.invariant.1
           (omega (arith, s.requires.1)) c.preimage.ensures,
     )
 
@@ -34,11 +34,11 @@ returns : tie.Need-returns invariant-loop decreases-loop
 returns c =
     let a = c.before in
     let s = a.before.before in
-    successors-all s.args.above.now s.args.t1 a.loop.c s.args.k a.loop.successors a.loop.invariant.1
-    (omega (arith, c.loop-test.false))
+    successors-all s.args.above.now s.args.t1 a.loop-c.c s.args.k a.loop-c.successors a.loop-c.invariant.1
+    (omega (arith, c.loop-c-test.false))
 
-pub successors-by-set-spec : {M : Type 1} → statement M
-successors-by-set-spec =
+pub successors_by_set_spec : {M : Type 1} → statement M
+successors_by_set_spec =
     tie.close
     (tie.spec invariant-loop decreases-loop loop-holds (λ c. search rules) (λ c κs. search rules) (λ c. search rules)
     (λ c. search rules) (λ c. search rules) loop-again returns)

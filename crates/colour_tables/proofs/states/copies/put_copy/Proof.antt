@@ -12,15 +12,15 @@ use Rattle.colour_tables.proofs.states.copies.put_copy.Reads as reads
 use Rattle.colour_tables.proofs.states.copies.put_copy.Lts as lts
 use Rattle.colour_tables.proofs.rows.turns.take_in_turn.Reads as take-in-turn-reads
 
-prefix : (c : tie.After-successors) → let g = c.before.before.before.args in length (take g.k g.t1) ≡ g.k
+prefix : (c : tie.After-successors-1) → let g = c.before.before.before.args in length (take g.k g.t1) ≡ g.k
 prefix c =
     let s = c.before.before.before in
     length-take-le s.args.k s.args.t1 (omega (arith, s.requires.long, s.requires.few))
 
-slice-aggregate-take-in-turn : tie.Need-slice-aggregate-take-in-turn
+slice-aggregate-take-in-turn : tie.Need-slice_bounds-take_in_turn-end
 slice-aggregate-take-in-turn c = sym (prefix c)
 
-take-in-turn-requires : tie.Need-take-in-turn-requires
+take-in-turn-requires : tie.Need-take_in_turn-requires
 take-in-turn-requires c κs =
     let p = c.before.before in
     let s = p.before.before.before in
@@ -41,11 +41,11 @@ returns c =
     let p = m.before.before.before in
     let s = p.before.before.before in
     subst (λ (j : ℕ). TakenTo (take s.args.k s.args.t1) s.args.n (s.args.base + s.args.v * s.args.k) j
-    s.args.v s.args.bytes.now s.args.numbers.now m.take-in-turn.new.1.0
-    m.take-in-turn.new.1.1.0) (prefix p) m.take-in-turn.ensures
+    s.args.v s.args.bytes-1.now s.args.numbers-1.now m.take_in_turn.new.1.0
+    m.take_in_turn.new.1.1.0) (prefix p) m.take_in_turn.ensures
 
-pub put-copy-spec : {M : Type 1} → statement M
-put-copy-spec =
+pub put_copy_spec : {M : Type 1} → statement M
+put_copy_spec =
     tie.close
     (tie.spec (λ c. search rules) slice-aggregate-take-in-turn (λ c. search rules) (λ c. search rules)
     take-in-turn-requires (λ c. search rules) (λ c. search rules) returns)

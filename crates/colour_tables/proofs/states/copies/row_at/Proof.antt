@@ -10,29 +10,29 @@ use Rattle.colour_tables.proofs.states.copies.row_at.Tie as tie
 use Rattle.colour_tables.proofs.states.copies.row_at.Reads as reads
 use Rattle.colour_tables.proofs.states.copies.row_at.Lts as lts
 
-abbrev invariant-loop : tie.invariant-loop
+abbrev invariant-loop : tie.invariant-loop-c
 invariant-loop bytes at k row₀ c₀ row c = (c ≤ k) × RowOf c (λ j. get_or bytes (at + j) 0) row
 
-abbrev decreases-loop : tie.decreases-loop
+abbrev decreases-loop : tie.decreases-loop-c
 decreases-loop bytes at k row₀ c₀ row c = k - c
 
-loop-holds : tie.Need-loop-init invariant-loop decreases-loop
+loop-holds : tie.Need-loop-c-init invariant-loop decreases-loop
 loop-holds c = (omega arith, row-start _ _ refl)
 
-loop-again : tie.Need-loop-preserved invariant-loop decreases-loop
+loop-again : tie.Need-loop-c-preserved invariant-loop decreases-loop
 loop-again c =
     let a = c.before.before in
     let s = a.before in
-    let l = c.before.loop-test.true in
-    (omega arith, row_next _ a.loop.c _ a.loop.row a.loop.invariant.1 (omega (arith, s.requires.few)) refl)
+    let l = c.before.loop-c-test.true in
+    (omega arith, row_next _ a.loop-c.c _ a.loop-c.row a.loop-c.invariant.1 (omega (arith, s.requires.few)) refl)
 
 returns : tie.Need-returns invariant-loop decreases-loop
 returns c =
     let a = c.before in
-    row-all _ a.loop.c a.before.args.k a.loop.row a.loop.invariant.1 (omega (arith, c.loop-test.false))
+    row-all _ a.loop-c.c a.before.args.k a.loop-c.row a.loop-c.invariant.1 (omega (arith, c.loop-c-test.false))
 
-pub row-at-spec : {M : Type 1} → statement M
-row-at-spec =
+pub row_at_spec : {M : Type 1} → statement M
+row_at_spec =
     tie.close
     (tie.spec invariant-loop decreases-loop loop-holds (λ c. search rules) (λ c. search rules) (λ c. search rules)
     (λ c. search rules) (λ c. search rules) loop-again returns)

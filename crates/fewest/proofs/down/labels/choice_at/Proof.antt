@@ -29,8 +29,8 @@ returns : tie.Need-returns
 returns c =
     c.choose.ensures
 
-pub choice-at-spec : {M : Type 1} → statement M
-choice-at-spec =
+pub choice_at_spec : {M : Type 1} → statement M
+choice_at_spec =
     tie.close
     (tie.spec (λ c. search rules) (λ c. search rules) (λ c. search rules) (λ c. search rules) (λ c. search rules)
     (λ c. search rules) (λ c. search rules) (λ c. search rules) (λ c. search rules) (λ c. search rules)

@@ -7,14 +7,14 @@ use Rattle.fewest.proofs.down.labels.inner_down.Tie as tie
 use Rattle.fewest.proofs.down.labels.inner_down.Reads as reads
 use Rattle.fewest.proofs.down.labels.inner_down.Lts as lts
 
-choice-at-requires : tie.Need-choice-at-requires
+choice-at-requires : tie.Need-choice_at-d-requires
 choice-at-requires c κs =
     c.before.before.before.requires
 
 place-requires : tie.Need-place-requires
 place-requires c κs =
     let p = c.before.before.before.before.before.requires in
-    let d = c.before.choice-at.ensures in
+    let d = c.before.choice_at-d.ensures in
     record {
       few = p.few;
       pos = p.pos;
@@ -29,10 +29,10 @@ place-requires c κs =
 
 returns : tie.Need-returns
 returns c =
-    let d = c.before.before.before.before.choice-at.result in
-    record { left = d.left; right = d.right; label = d.label; chosen = c.before.before.before.before.choice-at.ensures; is = c.before.before.place.ensures }
+    let d = c.before.before.before.before.choice_at-d.result in
+    record { left = d.left; right = d.right; label = d.label; chosen = c.before.before.before.before.choice_at-d.ensures; is = c.before.before.place.ensures }
 
-pub inner-down-spec : {M : Type 1} → statement M
-inner-down-spec =
+pub inner_down_spec : {M : Type 1} → statement M
+inner_down_spec =
     tie.close
     (tie.spec choice-at-requires place-requires (λ c. search rules) returns)

@@ -8,20 +8,20 @@ use Rattle.fewest.proofs.down.labels.leaf_down.Tie as tie
 use Rattle.fewest.proofs.down.labels.leaf_down.Reads as reads
 use Rattle.fewest.proofs.down.labels.leaf_down.Lts as lts
 
-find-leaf-label-requires : tie.Need-find-leaf-label-requires
+find-leaf-label-requires : tie.Need-find_leaf_label-b-requires
 find-leaf-label-requires c κs =
     (c.before.before.before.before.requires.0.leaf, c.before.before.before.before.requires.1)
 
-cast-work : tie.Need-overflow-cast-work
+cast-work : tie.Need-overflow_cast-work
 cast-work c =
-    omega (arith, c.find-leaf-label.ensures.most, c.before.before.before.before.before.requires.0.labels)
+    omega (arith, c.find_leaf_label-b.ensures.most, c.before.before.before.before.before.requires.0.labels)
 
 returns : tie.Need-returns
 returns c =
-    record { label = c.find-leaf-label.result; first = c.find-leaf-label.ensures; is = refl }
+    record { label = c.find_leaf_label-b.result; first = c.find_leaf_label-b.ensures; is = refl }
 
-pub leaf-down-spec : {M : Type 1} → statement M
-leaf-down-spec =
+pub leaf_down_spec : {M : Type 1} → statement M
+leaf_down_spec =
     tie.close
     (tie.spec (λ c. search rules) (λ c. search rules) (λ c. search rules) (λ c. search rules) (λ c. search rules)
     (λ c. search rules) (λ c. search rules) (λ c. search rules) (λ c. search rules) find-leaf-label-requires cast-work

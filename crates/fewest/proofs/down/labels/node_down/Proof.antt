@@ -11,32 +11,32 @@ use Rattle.fewest.proofs.down.labels.node_down.Tie as tie
 use Rattle.fewest.proofs.down.labels.node_down.Reads as reads
 use Rattle.fewest.proofs.down.labels.node_down.Lts as lts
 
-returns : tie.Need-returns
+returns : tie.Need-returns-then-kinds-v-eq0
 returns c =
     let g = c.before.before.before.before.before.before.before.before.before.before.before.before.before.before.args in
     record {
-      leaf = λ z. subst (λ (m : ℕ). LeafDown g.work.now g.leaves.now g.s g.k g.v (get_or g.labels.now g.v 0) (member m)
-          c.before.before.leaf-down.new.0) c.before.before.before.before.before.before.stock.ensures c.before.before.leaf-down.ensures;
-      inner = λ z. absurd (z c.before.before.before.before.if1.true);
+      leaf = λ z. subst (λ (m : ℕ). LeafDown g.work-1.now g.leaves.now g.s g.k g.v (get_or g.labels.now g.v 0) (member m)
+          c.before.before.leaf_down.new.0) c.before.before.before.before.before.before.stock-m.ensures c.before.before.leaf_down.ensures;
+      inner = λ z. absurd (z c.before.before.before.before.if-kinds-v-eq0.true);
     }
 
-inner-down-requires : tie.Need-inner-down-requires
+inner-down-requires : tie.Need-inner_down-requires
 inner-down-requires c κs =
     let g = c.before.before.before.before.before.before.before.before.before.before.before.args in
-    subst (λ (m : ℕ). InnerDownArgs g.work.now g.inner.now g.s g.k g.v (get_or g.labels.now g.v 0) (member m))
-    (sym c.before.before.before.stock.ensures) (c.before.before.before.before.before.before.before.before.before.before.before.requires.inner c.before.if1.false)
+    subst (λ (m : ℕ). InnerDownArgs g.work-1.now g.inner.now g.s g.k g.v (get_or g.labels.now g.v 0) (member m))
+    (sym c.before.before.before.stock-m.ensures) (c.before.before.before.before.before.before.before.before.before.before.before.requires.inner c.before.if-kinds-v-eq0.false)
 
-returns-2 : tie.Need-returns-2
+returns-2 : tie.Need-returns
 returns-2 c =
     let g = c.before.before.before.before.before.before.before.before.before.before.before.before.before.before.args in
     record {
-      leaf = λ z. absurd (c.before.before.before.before.if1.false z);
-      inner = λ z. subst (λ (m : ℕ). InnerDown g.work.now g.inner.now g.s g.k g.v (get_or g.labels.now g.v 0) (member m)
-          c.before.before.inner-down.new.0) c.before.before.before.before.before.before.stock.ensures c.before.before.inner-down.ensures;
+      leaf = λ z. absurd (c.before.before.before.before.if-kinds-v-eq0.false z);
+      inner = λ z. subst (λ (m : ℕ). InnerDown g.work-1.now g.inner.now g.s g.k g.v (get_or g.labels.now g.v 0) (member m)
+          c.before.before.inner_down.new.0) c.before.before.before.before.before.before.stock-m.ensures c.before.before.inner_down.ensures;
     }
 
-pub node-down-spec : {M : Type 1} → statement M
-node-down-spec =
+pub node_down_spec : {M : Type 1} → statement M
+node_down_spec =
     tie.close
     (tie.spec (λ c. search rules) (λ c. search rules) (λ c κs. search rules) (λ c. search rules)
     (λ c κs. search rules) (λ c. search rules) returns inner-down-requires (λ c. search rules) returns-2)

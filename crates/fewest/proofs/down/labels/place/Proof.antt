@@ -10,11 +10,11 @@ use Rattle.fewest.proofs.down.labels.place.Tie as tie
 use Rattle.fewest.proofs.down.labels.place.Reads as reads
 use Rattle.fewest.proofs.down.labels.place.Lts as lts
 
-slice-write-work-2 : tie.Need-slice-write-work-2
+slice-write-work-2 : tie.Need-bounds-work-left
 slice-write-work-2 c =
     simp length-set (omega (arith, c.before.requires.left_room))
 
-slice-write-work-3 : tie.Need-slice-write-work-3
+slice-write-work-3 : tie.Need-bounds-work-v
 slice-write-work-3 c =
     simp (length-set, length-set) (omega (arith, c.before.requires.room))
 
@@ -23,8 +23,8 @@ unfolding placed
 returns c =
     refl
 
-pub place-spec : {M : Type 1} → statement M
-place-spec =
+pub place_spec : {M : Type 1} → statement M
+place_spec =
     tie.close
     (tie.spec (λ c. search rules) (λ c. search rules) (λ c. search rules) (λ c. search rules) (λ c. search rules)
     (λ c. search rules) (λ c. search rules) (λ c. search rules) (λ c. search rules) (λ c. search rules)

@@ -10,19 +10,19 @@ use Rattle.fewest.proofs.down.root.root_cost.Tie as tie
 use Rattle.fewest.proofs.down.root.root_cost.Reads as reads
 use Rattle.fewest.proofs.down.root.root_cost.Lts as lts
 
-returns : tie.Need-returns
+returns : tie.Need-returns-then-marks-j
 unfolding root_cost
 returns c =
     let g = c.before.before.before.args in
-    rw (eq-eqb (get_or g.marks.now g.j 0) g.mark c.before.if1.true)
+    rw (eq-eqb (get_or g.marks.now g.j 0) g.mark c.before.if-marks-j.true)
 
-returns-2 : tie.Need-returns-2
+returns-2 : tie.Need-returns
 unfolding root_cost
 returns-2 c =
     let g = c.before.before.args in
-    rw (ne_eqb (get_or g.marks.now g.j 0) g.mark c.if1.false)
+    rw (ne_eqb (get_or g.marks.now g.j 0) g.mark c.if-marks-j.false)
 
-pub root-cost-spec : {M : Type 1} → statement M
-root-cost-spec =
+pub root_cost_spec : {M : Type 1} → statement M
+root_cost_spec =
     tie.close
     (tie.spec (λ c. search rules) (λ c. search rules) (λ c. search rules) (λ c. search rules) returns returns-2)

@@ -11,34 +11,34 @@ use Rattle.fewest.proofs.down.root.root_least.Tie as tie
 use Rattle.fewest.proofs.down.root.root_least.Reads as reads
 use Rattle.fewest.proofs.down.root.root_least.Lts as lts
 
-abbrev invariant-loop : tie.invariant-loop
+abbrev invariant-loop : tie.invariant-loop-j
 invariant-loop work marks s at mark r₀ j₀ r j =
     (j ≤ s) × (r ≡ least_to 65536 j (root_cost work marks at mark))
 
-abbrev decreases-loop : tie.decreases-loop
+abbrev decreases-loop : tie.decreases-loop-j
 decreases-loop work marks s at mark r₀ j₀ r j = s - j
 
-loop-holds : tie.Need-loop-init invariant-loop decreases-loop
+loop-holds : tie.Need-loop-j-init invariant-loop decreases-loop
 unfolding least_to
 loop-holds c =
     (omega arith, refl)
 
-loop-again : tie.Need-loop-preserved invariant-loop decreases-loop
+loop-again : tie.Need-loop-j-preserved invariant-loop decreases-loop
 unfolding least_to
 loop-again c =
     let g = c.before.before.before.before.before.before.args in
-    let l = c.before.before.before.loop in
-    (omega (arith, c.before.before.loop-test.true), rw (add-one l.j) (c.lesser.ensures ∙ omega (arith, l.invariant.1, c.before.root-cost.ensures)))
+    let l = c.before.before.before.loop-j in
+    (omega (arith, c.before.before.loop-j-test.true), rw (add-one l.j) (c.lesser-r.ensures ∙ omega (arith, l.invariant.1, c.before.root_cost-c.ensures)))
 
 returns : tie.Need-returns invariant-loop decreases-loop
 returns c =
     let g = c.before.before.before.before.args in
-    let l = c.before.loop in
-    let e : l.j ≡ g.s = omega (arith, l.invariant.0, c.loop-test.false) in
+    let l = c.before.loop-j in
+    let e : l.j ≡ g.s = omega (arith, l.invariant.0, c.loop-j-test.false) in
     l.invariant.1 ∙ ap (λ (i : ℕ). least_to 65536 i (root_cost g.work.now g.marks.now g.at g.mark)) e
 
-pub root-least-spec : {M : Type 1} → statement M
-root-least-spec =
+pub root_least_spec : {M : Type 1} → statement M
+root_least_spec =
     tie.close
     (tie.spec invariant-loop decreases-loop loop-holds (λ c κs. search rules) (λ c κs. search rules) (λ c. search rules)
     (λ c. search rules) loop-again returns)

@@ -11,29 +11,29 @@ use Rattle.fewest.proofs.down.search.find_label.Tie as tie
 use Rattle.fewest.proofs.down.search.find_label.Reads as reads
 use Rattle.fewest.proofs.down.search.find_label.Lts as lts
 
-own-label-requires : tie.Need-own-label-requires
+own-label-requires : tie.Need-own_label-requires
 own-label-requires c κs =
     let t = c.before.before in
-    (t.requires.0, omega (arith, c.if1.true, t.requires.1), t.requires.2)
+    (t.requires.0, omega (arith, c.if-base-c.true, t.requires.1), t.requires.2)
 
-returns : tie.Need-returns
+returns : tie.Need-returns-then-base-c
 returns c =
     let g = c.before.before.before.args in
-    subst (λ (x : ℕ). First g.k (label_hit g.inner.now g.s g.k g.p g.q g.a (member g.labels) g.base g.j x) c.own-label.result) c.before.if1.true c.own-label.ensures
+    subst (λ (x : ℕ). First g.k (label_hit g.inner.now g.s g.k g.p g.q g.a (member g.labels) g.base g.j x) c.own_label.result) c.before.if-base-c.true c.own_label.ensures
 
-returns-2 : tie.Need-returns-2
+returns-2 : tie.Need-returns-then-base-c-2
 returns-2 c =
     let t = c.before.before.before in
     let g = t.args in
-    cost-none g.inner.now g.s g.k g.p g.q g.a (member g.labels) g.base g.j g.c t.requires.1 c.before.if1.false c.if2.true
+    cost-none g.inner.now g.s g.k g.p g.q g.a (member g.labels) g.base g.j g.c t.requires.1 c.before.if-base-c.false c.if-base-c-2.true
 
-try-labels-requires : tie.Need-try-labels-requires
+try-labels-requires : tie.Need-try_labels-requires
 try-labels-requires c κs = c.before.before.before.requires.0
 
-returns-3 : tie.Need-returns-3
-returns-3 c = c.try-labels.ensures
+returns-3 : tie.Need-returns
+returns-3 c = c.try_labels.ensures
 
-pub find-label-spec : {M : Type 1} → statement M
-find-label-spec =
+pub find_label_spec : {M : Type 1} → statement M
+find_label_spec =
     tie.close
     (tie.spec own-label-requires returns (λ c. search rules) returns-2 try-labels-requires returns-3)

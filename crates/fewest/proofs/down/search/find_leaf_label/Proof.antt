@@ -12,19 +12,19 @@ use Rattle.fewest.proofs.down.search.find_leaf_label.Tie as tie
 use Rattle.fewest.proofs.down.search.find_leaf_label.Reads as reads
 use Rattle.fewest.proofs.down.search.find_leaf_label.Lts as lts
 
-returns : tie.Need-returns
+returns : tie.Need-returns-then-c-eq0
 returns c =
     let g = c.before.before.before.args in
-    subst (λ (x : ℕ). First g.k (λ b. eqb (leaf_cost g.leaves.now g.a (member g.labels) g.j b) x) c.own-leaf-label.result)
-    (sym c.before.if1.true) c.own-leaf-label.ensures
+    subst (λ (x : ℕ). First g.k (λ b. eqb (leaf_cost g.leaves.now g.a (member g.labels) g.j b) x) c.own_leaf_label.result)
+    (sym c.before.if-c-eq0.true) c.own_leaf_label.ensures
 
-try-leaf-labels-requires : tie.Need-try-leaf-labels-requires
+try-leaf-labels-requires : tie.Need-try_leaf_labels-requires
 try-leaf-labels-requires c κs = c.before.before.requires.0
 
-returns-2 : tie.Need-returns-2
-returns-2 c = c.try-leaf-labels.ensures
+returns-2 : tie.Need-returns
+returns-2 c = c.try_leaf_labels.ensures
 
-pub find-leaf-label-spec : {M : Type 1} → statement M
-find-leaf-label-spec =
+pub find_leaf_label_spec : {M : Type 1} → statement M
+find_leaf_label_spec =
     tie.close
     (tie.spec (λ c κs. search rules) returns try-leaf-labels-requires returns-2)

@@ -13,9 +13,9 @@ use Rattle.fewest.proofs.down.search.label_hits.Lts as lts
 returns : tie.Need-returns
 returns c =
     let g = c.before.before.args in
-    any-first g.k (label_hit g.inner.now g.s g.k g.p g.q g.a (member g.labels) g.base g.j g.c) c.find-label.result c.find-label.ensures
+    any-first g.k (label_hit g.inner.now g.s g.k g.p g.q g.a (member g.labels) g.base g.j g.c) c.find_label.result c.find_label.ensures
 
-pub label-hits-spec : {M : Type 1} → statement M
-label-hits-spec =
+pub label_hits_spec : {M : Type 1} → statement M
+label_hits_spec =
     tie.close
     (tie.spec (λ c κs. search rules) returns)

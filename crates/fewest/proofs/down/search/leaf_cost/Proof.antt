@@ -9,21 +9,21 @@ use Rattle.fewest.proofs.down.search.leaf_cost.Tie as tie
 use Rattle.fewest.proofs.down.search.leaf_cost.Reads as reads
 use Rattle.fewest.proofs.down.search.leaf_cost.Lts as lts
 
-cast-to : tie.Need-overflow-cast-to
+cast-to : tie.Need-overflow_cast-to
 cast-to c =
     omega (arith, c.before.before.requires.0.few, c.before.before.requires.0.below c.before.before.args.b)
 
-returns : tie.Need-returns
+returns : tie.Need-returns-then-to-j
 returns c =
     let g = c.before.before.before.args in
-    leaf-not g.leaves.now g.a (member g.labels) g.j g.b c.if1.true
+    leaf-not g.leaves.now g.a (member g.labels) g.j g.b c.if-to-j.true
 
-returns-2 : tie.Need-returns-2
+returns-2 : tie.Need-returns
 returns-2 c =
     let g = c.before.before.before.before.args in
-    leaf-yes g.leaves.now g.a (member g.labels) g.j g.b c.before.if1.false c.change-cost.result c.change-cost.ensures.0
+    leaf-yes g.leaves.now g.a (member g.labels) g.j g.b c.before.if-to-j.false c.change_cost.result c.change_cost.ensures.0
 
-pub leaf-cost-spec : {M : Type 1} → statement M
-leaf-cost-spec =
+pub leaf_cost_spec : {M : Type 1} → statement M
+leaf_cost_spec =
     tie.close
     (tie.spec (λ c. search rules) cast-to returns (λ c κs. search rules) returns-2)

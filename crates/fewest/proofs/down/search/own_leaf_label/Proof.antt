@@ -8,24 +8,24 @@ use Rattle.fewest.proofs.down.search.own_leaf_label.Tie as tie
 use Rattle.fewest.proofs.down.search.own_leaf_label.Reads as reads
 use Rattle.fewest.proofs.down.search.own_leaf_label.Lts as lts
 
-shared-slice-read-to : tie.Need-shared-slice-read-to
+shared-slice-read-to : tie.Need-bounds-leaves-a
 shared-slice-read-to c = omega (arith, c.before.requires.0.count, c.before.requires.1)
 
-cast-to : tie.Need-overflow-cast-to
+cast-to : tie.Need-overflow_cast-to
 cast-to c = omega (arith, c.before.requires.0.few, c.before.requires.0.below c.before.args.a)
 
-returns : tie.Need-returns
+returns : tie.Need-returns-then-to-j
 returns c =
     let t = c.before.before in
     let g = t.args in
-    leaf-own-first g.leaves.now g.k g.a (member g.labels) g.j t.requires.1 c.if1.true
+    leaf-own-first g.leaves.now g.k g.a (member g.labels) g.j t.requires.1 c.if-to-j.true
 
-returns-2 : tie.Need-returns-2
+returns-2 : tie.Need-returns
 returns-2 c =
     let g = c.before.before.args in
-    leaf-own-none g.leaves.now g.k g.a (member g.labels) g.j c.if1.false
+    leaf-own-none g.leaves.now g.k g.a (member g.labels) g.j c.if-to-j.false
 
-pub own-leaf-label-spec : {M : Type 1} → statement M
-own-leaf-label-spec =
+pub own_leaf_label_spec : {M : Type 1} → statement M
+own_leaf_label_spec =
     tie.close
     (tie.spec shared-slice-read-to cast-to returns returns-2)

@@ -14,43 +14,43 @@ use Rattle.fewest.proofs.down.search.try_labels.Tie as tie
 use Rattle.fewest.proofs.down.search.try_labels.Reads as reads
 use Rattle.fewest.proofs.down.search.try_labels.Lts as lts
 
-abbrev invariant-loop : tie.invariant-loop
+abbrev invariant-loop : tie.invariant-loop-b
 invariant-loop inner s k p q a labels base j c b₀ b =
     (b ≤ k) × ((i : ℕ) → i < b → label_hit inner s k p q a (member labels) base j c i ≡ false)
 
-abbrev decreases-loop : tie.decreases-loop
+abbrev decreases-loop : tie.decreases-loop-b
 decreases-loop inner s k p q a labels base j c b₀ b = k - b
 
-loop-holds : tie.Need-loop-init invariant-loop decreases-loop
+loop-holds : tie.Need-loop-b-init invariant-loop decreases-loop
 loop-holds c =
     let g = c.before.args in
     (omega arith, first-start (label_hit g.inner.now g.s g.k g.p g.q g.a (member g.labels) g.base g.j g.c))
 
-label-cost-requires : tie.Need-label-cost-requires invariant-loop decreases-loop
+label-cost-requires : tie.Need-label_cost-requires invariant-loop decreases-loop
 label-cost-requires c κs =
-    (c.before.before.before.requires, c.loop-test.true)
+    (c.before.before.before.requires, c.loop-b-test.true)
 
-returns : tie.Need-returns invariant-loop decreases-loop
+returns : tie.Need-returns-then-label_cost-c invariant-loop decreases-loop
 returns c =
     let g = c.before.before.before.before.before.args in
-    let l = c.before.before.before.loop in
-    first-here g.k (label_hit g.inner.now g.s g.k g.p g.q g.a (member g.labels) g.base g.j g.c) l.b c.before.before.loop-test.true l.invariant.1 (eq-eqb (label_cost g.inner.now g.s g.k g.p g.q g.a (member g.labels) g.base g.j l.b) g.c (sym c.before.label-cost.ensures ∙ c.if1.true))
+    let l = c.before.before.before.loop-b in
+    first-here g.k (label_hit g.inner.now g.s g.k g.p g.q g.a (member g.labels) g.base g.j g.c) l.b c.before.before.loop-b-test.true l.invariant.1 (eq-eqb (label_cost g.inner.now g.s g.k g.p g.q g.a (member g.labels) g.base g.j l.b) g.c (sym c.before.label_cost.ensures ∙ c.if-label_cost-c.true))
 
-loop-again : tie.Need-loop-preserved invariant-loop decreases-loop
+loop-again : tie.Need-loop-b-preserved invariant-loop decreases-loop
 loop-again c =
     let g = c.before.before.before.before.before.args in
-    let l = c.before.before.before.loop in
-    (omega (arith, c.before.before.loop-test.true), first_next (label_hit g.inner.now g.s g.k g.p g.q g.a (member g.labels) g.base g.j g.c) l.b l.invariant.1 (ne_eqb (label_cost g.inner.now g.s g.k g.p g.q g.a (member g.labels) g.base g.j l.b) g.c (λ z. c.if1.false (c.before.label-cost.ensures ∙ z))))
+    let l = c.before.before.before.loop-b in
+    (omega (arith, c.before.before.loop-b-test.true), first_next (label_hit g.inner.now g.s g.k g.p g.q g.a (member g.labels) g.base g.j g.c) l.b l.invariant.1 (ne_eqb (label_cost g.inner.now g.s g.k g.p g.q g.a (member g.labels) g.base g.j l.b) g.c (λ z. c.if-label_cost-c.false (c.before.label_cost.ensures ∙ z))))
 
-returns-2 : tie.Need-returns-2 invariant-loop decreases-loop
+returns-2 : tie.Need-returns invariant-loop decreases-loop
 returns-2 c =
     let g = c.before.before.before.args in
-    let l = c.before.loop in
-    let e : l.b ≡ g.k = omega (arith, l.invariant.0, c.loop-test.false) in
+    let l = c.before.loop-b in
+    let e : l.b ≡ g.k = omega (arith, l.invariant.0, c.loop-b-test.false) in
     first-none g.k (label_hit g.inner.now g.s g.k g.p g.q g.a (member g.labels) g.base g.j g.c) l.b e l.invariant.1
 
-pub try-labels-spec : {M : Type 1} → statement M
-try-labels-spec =
+pub try_labels_spec : {M : Type 1} → statement M
+try_labels_spec =
     tie.close
     (tie.spec invariant-loop decreases-loop loop-holds label-cost-requires returns (λ c. search rules) (λ c. search rules)
     loop-again returns-2)

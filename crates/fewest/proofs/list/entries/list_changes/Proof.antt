@@ -13,81 +13,81 @@ use Rattle.fewest.proofs.list.entries.list_changes.Tie as tie
 use Rattle.fewest.proofs.list.entries.list_changes.Reads as reads
 use Rattle.fewest.proofs.list.entries.list_changes.Lts as lts
 
-abbrev invariant-loop : tie.invariant-loop
+abbrev invariant-loop : tie.invariant-loop-v
 invariant-loop labels work s nodes₀ out₀ n c₀ v₀ nodes out c v =
     (v ≤ n) × (length nodes ≡ length nodes₀) × (length out ≡ length out₀)
     × Listed (λ i. get_or labels i 0) (size_cell s work) v nodes₀ out₀ c nodes out
 
-abbrev decreases-loop : tie.decreases-loop
+abbrev decreases-loop : tie.decreases-loop-v
 decreases-loop labels work s nodes₀ out₀ n c₀ v₀ nodes out c v = n - v
 
-loop-holds : tie.Need-loop-init invariant-loop decreases-loop
+loop-holds : tie.Need-loop-v-init invariant-loop decreases-loop
 loop-holds c =
     let g = c.before.before.before.before.args in
-    (omega arith, refl, refl, list-start (λ i. get_or g.labels.now i 0) (size_cell g.s g.work.now) g.nodes.now g.out.now)
+    (omega arith, refl, refl, list-start (λ i. get_or g.labels.now i 0) (size_cell g.s g.work.now) g.nodes-1.now g.out-1.now)
 
-cast-a : tie.Need-overflow-cast-a invariant-loop decreases-loop
+cast-a : tie.Need-overflow_cast-a invariant-loop decreases-loop
 cast-a c =
-    omega (arith, c.shared-slice-known3.given c.before.before.loop.v)
+    omega (arith, c.shared_slice_known-in-loop-v-1.given c.before.before.loop-v.v)
 
-mul-b : tie.Need-overflow-mul-b invariant-loop decreases-loop
+mul-b : tie.Need-overflow_mul-b invariant-loop decreases-loop
 mul-b c =
-    omega (arith, c.before.before.before.before.before.before.before.requires.room, stride (c.before.before.before.before.before.before.before.args.s + 1) c.before.before.loop.v (length c.before.before.before.before.before.before.before.args.labels.now) c.before.loop-test.true)
+    omega (arith, c.before.before.before.before.before.before.before.requires.room, stride (c.before.before.before.before.before.before.before.args.s + 1) c.before.before.loop-v.v (length c.before.before.before.before.before.before.before.args.labels.now) c.before.loop-v-test.true)
 
-mul-b-2 : tie.Need-overflow-mul-b-2 invariant-loop decreases-loop
+mul-b-2 : tie.Need-offset_bounds-work-v invariant-loop decreases-loop
 mul-b-2 c =
-    omega (arith, c.before.before.before.before.before.before.before.requires.room, stride (c.before.before.before.before.before.before.before.args.s + 1) c.before.before.loop.v (length c.before.before.before.before.before.before.before.args.labels.now) c.before.loop-test.true)
+    omega (arith, c.before.before.before.before.before.before.before.requires.room, stride (c.before.before.before.before.before.before.before.args.s + 1) c.before.before.loop-v.v (length c.before.before.before.before.before.before.before.args.labels.now) c.before.loop-v-test.true)
 
-shared-slice-read-b : tie.Need-shared-slice-read-b invariant-loop decreases-loop
+shared-slice-read-b : tie.Need-bounds-work-v invariant-loop decreases-loop
 shared-slice-read-b c =
-    omega (arith, c.before.before.before.before.before.before.before.before.requires.room, stride (c.before.before.before.before.before.before.before.before.args.s + 1) c.before.before.before.loop.v (length c.before.before.before.before.before.before.before.before.args.labels.now) c.before.before.loop-test.true)
+    omega (arith, c.before.before.before.before.before.before.before.before.requires.room, stride (c.before.before.before.before.before.before.before.before.args.s + 1) c.before.before.before.loop-v.v (length c.before.before.before.before.before.before.before.before.args.labels.now) c.before.before.loop-v-test.true)
 
-put-change-requires : tie.Need-put-change-requires invariant-loop decreases-loop
+put-change-requires : tie.Need-put_change-c-requires invariant-loop decreases-loop
 put-change-requires c κs =
     let g = c.before.before.before.before.before.before.before.before.before.before.args in
-    let l = c.before.before.before.before.before.loop in
-    let h = c.before.before.before.before.loop-test.true in
+    let l = c.before.before.before.before.before.loop-v in
+    let h = c.before.before.before.before.loop-v-test.true in
     record {
       node_low = omega (arith, h, c.before.before.before.before.before.before.before.before.before.before.requires.most);
       label_low = c.before.before.before.before.before.before.before.before.before.before.requires.labels_low l.v h;
       nodes_room = λ e. omega (
         arith,
-        entry_in (λ i. get_or g.labels.now i 0) (size_cell g.s g.work.now) l.v (length g.labels.now) (length g.nodes.now) h c.before.before.before.before.before.before.before.before.before.before.requires.nodes_room e,
+        entry_in (λ i. get_or g.labels.now i 0) (size_cell g.s g.work.now) l.v (length g.labels.now) (length g.nodes-1.now) h c.before.before.before.before.before.before.before.before.before.before.requires.nodes_room e,
         l.invariant.3.count,
         l.invariant.1,
       );
       labels_room = λ e. omega (
         arith,
-        entry_in (λ i. get_or g.labels.now i 0) (size_cell g.s g.work.now) l.v (length g.labels.now) (length g.out.now) h c.before.before.before.before.before.before.before.before.before.before.requires.labels_room e,
+        entry_in (λ i. get_or g.labels.now i 0) (size_cell g.s g.work.now) l.v (length g.labels.now) (length g.out-1.now) h c.before.before.before.before.before.before.before.before.before.before.requires.labels_room e,
         l.invariant.3.count,
         l.invariant.2,
       );
     }
 
-loop-again : tie.Need-loop-preserved invariant-loop decreases-loop
+loop-again : tie.Need-loop-v-preserved invariant-loop decreases-loop
 loop-again c =
     let g = c.before.before.before.before.before.before.before.before.before.before.before.before.before.before.before.args in
-    let l = c.before.before.before.before.before.before.before.before.before.before.loop in
-    let h = c.before.before.before.before.before.before.before.before.before.loop-test.true in (
+    let l = c.before.before.before.before.before.before.before.before.before.before.loop-v in
+    let h = c.before.before.before.before.before.before.before.before.before.loop-v-test.true in (
       omega (arith, h),
       omega (arith, l.invariant.1),
       omega (arith, l.invariant.2),
-      list-next (λ i. get_or g.labels.now i 0) (size_cell g.s g.work.now) l.v g.nodes.now g.out.now l.c l.nodes l.out c.before.before.before.before.put-change.result c.before.before.before.before.put-change.new.0
-          c.before.before.before.before.put-change.new.1.0 l.invariant.3
-          (λ e. omega (arith, entry_in (λ i. get_or g.labels.now i 0) (size_cell g.s g.work.now) l.v (length g.labels.now) (length g.nodes.now) h c.before.before.before.before.before.before.before.before.before.before.before.before.before.before.before.requires.nodes_room e, l.invariant.3.count))
-          (λ e. omega (arith, entry_in (λ i. get_or g.labels.now i 0) (size_cell g.s g.work.now) l.v (length g.labels.now) (length g.out.now) h c.before.before.before.before.before.before.before.before.before.before.before.before.before.before.before.requires.labels_room e, l.invariant.3.count))
-          c.before.before.before.before.put-change.ensures,
+      list-next (λ i. get_or g.labels.now i 0) (size_cell g.s g.work.now) l.v g.nodes-1.now g.out-1.now l.c l.nodes-1 l.out-1 c.before.before.before.before.put_change-c.result c.before.before.before.before.put_change-c.new.0
+          c.before.before.before.before.put_change-c.new.1.0 l.invariant.3
+          (λ e. omega (arith, entry_in (λ i. get_or g.labels.now i 0) (size_cell g.s g.work.now) l.v (length g.labels.now) (length g.nodes-1.now) h c.before.before.before.before.before.before.before.before.before.before.before.before.before.before.before.requires.nodes_room e, l.invariant.3.count))
+          (λ e. omega (arith, entry_in (λ i. get_or g.labels.now i 0) (size_cell g.s g.work.now) l.v (length g.labels.now) (length g.out-1.now) h c.before.before.before.before.before.before.before.before.before.before.before.before.before.before.before.requires.labels_room e, l.invariant.3.count))
+          c.before.before.before.before.put_change-c.ensures,
     )
 
 returns : tie.Need-returns invariant-loop decreases-loop
 returns c =
     let g = c.before.before.before.before.before.before.args in
-    let l = c.before.loop in
-    let e : l.v ≡ length g.labels.now = omega (arith, l.invariant.0, c.loop-test.false) in
-    subst (λ (i : ℕ). Listed (λ i. get_or g.labels.now i 0) (size_cell g.s g.work.now) i g.nodes.now g.out.now l.c l.nodes l.out) e l.invariant.3
+    let l = c.before.loop-v in
+    let e : l.v ≡ length g.labels.now = omega (arith, l.invariant.0, c.loop-v-test.false) in
+    subst (λ (i : ℕ). Listed (λ i. get_or g.labels.now i 0) (size_cell g.s g.work.now) i g.nodes-1.now g.out-1.now l.c l.nodes-1 l.out-1) e l.invariant.3
 
-pub list-changes-spec : {M : Type 1} → statement M
-list-changes-spec =
+pub list_changes_spec : {M : Type 1} → statement M
+list_changes_spec =
     tie.close
     (tie.spec invariant-loop decreases-loop loop-holds (λ c. search rules) cast-a (λ c. search rules) mul-b mul-b-2
     shared-slice-read-b put-change-requires (λ c. search rules) (λ c. search rules) loop-again (λ c. search rules)

@@ -8,32 +8,32 @@ use Rattle.fewest.proofs.list.entries.put_change.Tie as tie
 use Rattle.fewest.proofs.list.entries.put_change.Reads as reads
 use Rattle.fewest.proofs.list.entries.put_change.Lts as lts
 
-returns : tie.Need-returns
+returns : tie.Need-returns-then-a-b
 returns c =
-    record { same = λ e. (refl, refl, refl); other = λ e. absurd (e c.if1.true) }
+    record { same = λ e. (refl, refl, refl); other = λ e. absurd (e c.if-a-b.true) }
 
-mul-nodes : tie.Need-overflow-mul-nodes
+mul-nodes : tie.Need-offset_bounds-nodes-c
 mul-nodes c =
-    omega (arith, c.before.requires.nodes_room c.if1.false)
+    omega (arith, c.before.requires.nodes_room c.if-a-b.false)
 
-slice-write-nodes : tie.Need-slice-write-nodes
+slice-write-nodes : tie.Need-bounds-nodes-c
 slice-write-nodes c =
-    omega (arith, c.before.requires.nodes_room c.if1.false)
+    omega (arith, c.before.requires.nodes_room c.if-a-b.false)
 
-slice-write-out : tie.Need-slice-write-out
+slice-write-out : tie.Need-bounds-out-c
 slice-write-out c =
-    omega (arith, c.before.requires.labels_room c.if1.false)
+    omega (arith, c.before.requires.labels_room c.if-a-b.false)
 
-add-result : tie.Need-overflow-add-result
+add-result : tie.Need-overflow_add-result
 add-result c =
-    omega (arith, c.before.requires.nodes_room c.if1.false)
+    omega (arith, c.before.requires.nodes_room c.if-a-b.false)
 
-returns-2 : tie.Need-returns-2
+returns-2 : tie.Need-returns
 returns-2 c =
-    record { same = λ e. absurd (c.if1.false e); other = λ e. (refl, refl, refl) }
+    record { same = λ e. absurd (c.if-a-b.false e); other = λ e. (refl, refl, refl) }
 
-pub put-change-spec : {M : Type 1} → statement M
-put-change-spec =
+pub put_change_spec : {M : Type 1} → statement M
+put_change_spec =
     tie.close
     (tie.spec returns (λ c. search rules) mul-nodes slice-write-nodes (λ c. search rules) slice-write-out add-result
     (λ c. search rules) (λ c. search rules) returns-2)

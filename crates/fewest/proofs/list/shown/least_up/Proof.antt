@@ -10,11 +10,11 @@ use Rattle.fewest.proofs.list.shown.least_up.Tie as tie
 use Rattle.fewest.proofs.list.shown.least_up.Reads as reads
 use Rattle.fewest.proofs.list.shown.least_up.Lts as lts
 
-costs-up-requires : tie.Need-costs-up-requires
+costs-up-requires : tie.Need-costs_up-requires
 costs-up-requires c κs =
     c.before.before.before.before.before.before.before.before.requires.up
 
-sub-root-least : tie.Need-overflow-sub-root-least
+sub-root-least : tie.Need-overflow_sub-kinds
 sub-root-least c =
     let g = c.before.before.before.before.before.before.before.before.before.before.before.before.args in
     let p = c.before.before.before.before.before.before.before.before.before.before.before.before.requires.up in
@@ -22,7 +22,7 @@ sub-root-least c =
     let z = some_node g.kinds.now p.runs.postorder in
     omega (arith, z)
 
-mul-root-least : tie.Need-overflow-mul-root-least
+mul-root-least : tie.Need-overflow_mul-kinds
 mul-root-least c =
     let g = c.before.before.before.before.before.before.before.before.before.before.before.before.args in
     let p = c.before.before.before.before.before.before.before.before.before.before.before.before.requires.up in
@@ -30,7 +30,7 @@ mul-root-least c =
     let z = some_node g.kinds.now p.runs.postorder in
     omega (arith, stride (g.s + 1) (length g.kinds.now - 1) (length g.kinds.now) (omega (arith, z)), p.room)
 
-add-root-least-2 : tie.Need-overflow-add-root-least-2
+add-root-least-2 : tie.Need-overflow_add-kinds
 add-root-least-2 c =
     let g = c.before.before.before.before.before.before.before.before.before.before.before.before.args in
     let p = c.before.before.before.before.before.before.before.before.before.before.before.before.requires.up in
@@ -38,7 +38,7 @@ add-root-least-2 c =
     let z = some_node g.kinds.now p.runs.postorder in
     omega (arith, stride (g.s + 1) (length g.kinds.now - 1) (length g.kinds.now) (omega (arith, z)), p.room)
 
-root-least-requires : tie.Need-root-least-requires
+root-least-requires : tie.Need-root_least-requires
 root-least-requires c κs =
     let g = c.before.before.before.before.before.before.before.before.before.before.before.before.args in
     let p = c.before.before.before.before.before.before.before.before.before.before.before.before.requires.up in
@@ -48,10 +48,10 @@ root-least-requires c κs =
 
 returns : tie.Need-returns
 returns c =
-    record { up = c.before.before.before.before.costs-up.ensures; least = c.root-least.ensures }
+    record { up = c.before.before.before.before.costs_up.ensures; least = c.root_least.ensures }
 
-pub least-up-spec : {M : Type 1} → statement M
-least-up-spec =
+pub least_up_spec : {M : Type 1} → statement M
+least_up_spec =
     tie.close
     (tie.spec costs-up-requires sub-root-least (λ c. search rules) mul-root-least add-root-least-2 root-least-requires
     (λ c. search rules) returns)

@@ -11,44 +11,44 @@ use Rattle.fewest.proofs.list.shown.show.Tie as tie
 use Rattle.fewest.proofs.list.shown.show.Reads as reads
 use Rattle.fewest.proofs.list.shown.show.Lts as lts
 
-sub-tell-root : tie.Need-overflow-sub-tell-root
+sub-tell-root : tie.Need-overflow_sub-kinds
 sub-tell-root c =
     let g = c.before.before.before.before.before.before.before.before.before.before.args in
     let p = c.before.before.before.before.before.before.before.before.before.before.requires.given.up in
     let z = some_node g.kinds.now p.runs.postorder in
     omega (arith, z)
 
-tell-root-requires : tie.Need-tell-root-requires
+tell-root-requires : tie.Need-tell_root-requires
 tell-root-requires c κs =
     let g = c.before.before.before.before.before.before.before.before.before.before.args in
     let p = c.before.before.before.before.before.before.before.before.before.before.requires.given.up in
     let z = some_node g.kinds.now p.runs.postorder in
     record { few = p.runs.few; marks = c.before.before.before.before.before.before.before.before.before.before.requires.given.marks; room = omega (arith, stride (g.s + 1) (length g.kinds.now - 1) (length g.kinds.now) (omega (arith, z)), p.room) }
 
-labels-down-requires : tie.Need-labels-down-requires
+labels-down-requires : tie.Need-labels_down-requires
 labels-down-requires c κs =
     let g = c.before.before.before.before.before.before.before.before.before.before.before.before.before.before.args in
-    down-given g.kinds.now g.labels.now g.leaves.now g.inner.now g.marks.now g.may.now g.s g.k g.mark g.m g.work.now (length g.nodes.now) (length g.out.now) c.before.before.before.before.before.before.before.before.before.before.before.before.before.before.requires c.before.before.before.tell-root.new.0 c.before.before.before.tell-root.ensures (omega arith)
+    down-given g.kinds.now g.labels.now g.leaves.now g.inner.now g.marks.now g.may.now g.s g.k g.mark g.m g.work-1.now (length g.nodes-1.now) (length g.out-1.now) c.before.before.before.before.before.before.before.before.before.before.before.before.before.before.requires c.before.before.before.tell_root.new.0 c.before.before.before.tell_root.ensures (omega arith)
 
-list-changes-requires : tie.Need-list-changes-requires
+list-changes-requires : tie.Need-list_changes-requires
 list-changes-requires c κs =
     let g = c.before.before.before.before.before.before.before.before.before.before.before.before.before.before.before.before.before.before.before.before.args in
-    show-list-args g.kinds.now g.labels.now g.leaves.now g.inner.now g.marks.now g.may.now g.s g.k g.mark g.m g.work.now (length g.nodes.now) (length g.out.now) c.before.before.before.before.before.before.before.before.before.before.before.before.before.before.before.before.before.before.before.before.requires c.before.before.before.before.before.before.before.before.before.tell-root.new.0 c.before.before.before.before.before.before.before.before.before.tell-root.ensures (omega arith) c.before.before.before.before.before.labels_down.new.1.1.1.1.1.1.1.0 c.before.before.before.before.before.labels_down.ensures (omega arith)
+    show-list-args g.kinds.now g.labels.now g.leaves.now g.inner.now g.marks.now g.may.now g.s g.k g.mark g.m g.work-1.now (length g.nodes-1.now) (length g.out-1.now) c.before.before.before.before.before.before.before.before.before.before.before.before.before.before.before.before.before.before.before.before.requires c.before.before.before.before.before.before.before.before.before.tell_root.new.0 c.before.before.before.before.before.before.before.before.before.tell_root.ensures (omega arith) c.before.before.before.before.before.labels_down.new.1.1.1.1.1.1.1.0 c.before.before.before.before.before.labels_down.ensures (omega arith)
 
-cast-result : tie.Need-overflow-cast-result
+cast-result : tie.Need-overflow_cast-result
 cast-result c =
     let g = c.before.before.before.before.before.before.before.before.before.before.before.before.before.before.before.before.before.before.before.before.before.before.before.before.before.args in
-    let L = show-few g.kinds.now g.labels.now g.leaves.now g.inner.now g.marks.now g.may.now g.s g.k g.mark g.m g.work.now (length g.nodes.now) (length g.out.now) c.before.before.before.before.before.before.before.before.before.before.before.before.before.before.before.before.before.before.before.before.before.before.before.before.before.requires c.before.before.before.before.before.before.before.before.before.before.before.before.before.before.tell-root.new.0 c.before.before.before.before.before.before.before.before.before.before.before.before.before.before.tell-root.ensures (omega arith) c.before.before.before.before.before.before.before.before.before.before.labels_down.new.1.1.1.1.1.1.1.0 c.before.before.before.before.before.before.before.before.before.before.labels_down.ensures (omega arith) in
-    omega (arith, c.before.before.before.before.list-changes.ensures.count, L)
+    let L = show-few g.kinds.now g.labels.now g.leaves.now g.inner.now g.marks.now g.may.now g.s g.k g.mark g.m g.work-1.now (length g.nodes-1.now) (length g.out-1.now) c.before.before.before.before.before.before.before.before.before.before.before.before.before.before.before.before.before.before.before.before.before.before.before.before.before.requires c.before.before.before.before.before.before.before.before.before.before.before.before.before.before.tell_root.new.0 c.before.before.before.before.before.before.before.before.before.before.before.before.before.before.tell_root.ensures (omega arith) c.before.before.before.before.before.before.before.before.before.before.labels_down.new.1.1.1.1.1.1.1.0 c.before.before.before.before.before.before.before.before.before.before.labels_down.ensures (omega arith) in
+    omega (arith, c.before.before.before.before.list_changes.ensures.count, L)
 
 returns : tie.Need-returns
 returns c =
     let g = c.before.before.before.before.before.before.before.before.before.before.before.before.before.before.before.before.before.before.before.before.before.before.before.before.before.args in
-    show-done g.kinds.now g.labels.now g.leaves.now g.inner.now g.marks.now g.may.now g.s g.k g.mark g.m g.work.now (length g.nodes.now) (length g.out.now) c.before.before.before.before.before.before.before.before.before.before.before.before.before.before.before.before.before.before.before.before.before.before.before.before.before.requires c.before.before.before.before.before.before.before.before.before.before.before.before.before.before.tell-root.new.0 c.before.before.before.before.before.before.before.before.before.before.before.before.before.before.tell-root.ensures (omega arith) c.before.before.before.before.before.before.before.before.before.before.labels_down.new.1.1.1.1.1.1.1.0 c.before.before.before.before.before.before.before.before.before.before.labels_down.ensures (omega arith) g.nodes.now g.out.now c.before.before.before.before.list-changes.result
-    c.before.before.before.before.list-changes.new.1.1.1.0 c.before.before.before.before.list-changes.new.1.1.1.1.0 c.before.before.before.before.list-changes.ensures
+    show-done g.kinds.now g.labels.now g.leaves.now g.inner.now g.marks.now g.may.now g.s g.k g.mark g.m g.work-1.now (length g.nodes-1.now) (length g.out-1.now) c.before.before.before.before.before.before.before.before.before.before.before.before.before.before.before.before.before.before.before.before.before.before.before.before.before.requires c.before.before.before.before.before.before.before.before.before.before.before.before.before.before.tell_root.new.0 c.before.before.before.before.before.before.before.before.before.before.before.before.before.before.tell_root.ensures (omega arith) c.before.before.before.before.before.before.before.before.before.before.labels_down.new.1.1.1.1.1.1.1.0 c.before.before.before.before.before.before.before.before.before.before.labels_down.ensures (omega arith) g.nodes-1.now g.out-1.now c.before.before.before.before.list_changes.result
+    c.before.before.before.before.list_changes.new.1.1.1.0 c.before.before.before.before.list_changes.new.1.1.1.1.0 c.before.before.before.before.list_changes.ensures
 
-pub show-spec : {M : Type 1} → statement M
-show-spec =
+pub show_spec : {M : Type 1} → statement M
+show_spec =
     tie.close
     (tie.spec sub-tell-root tell-root-requires labels-down-requires list-changes-requires cast-result
     (λ c. search rules) (λ c. search rules) (λ c. search rules) returns)

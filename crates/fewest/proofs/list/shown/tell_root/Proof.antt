@@ -8,21 +8,21 @@ use Rattle.fewest.proofs.list.shown.tell_root.Tie as tie
 use Rattle.fewest.proofs.list.shown.tell_root.Reads as reads
 use Rattle.fewest.proofs.list.shown.tell_root.Lts as lts
 
-root-state-requires : tie.Need-root-state-requires
+root-state-requires : tie.Need-root_state-g-requires
 root-state-requires c κs =
     let p = c.before.before.before.requires in
     record { few = p.few; room = omega (arith, p.room); marks = p.marks }
 
-cast-work : tie.Need-overflow-cast-work
+cast-work : tie.Need-overflow_cast-work
 cast-work c =
-    omega (arith, c.root-state.ensures.most, c.before.before.before.before.requires.few)
+    omega (arith, c.root_state-g.ensures.most, c.before.before.before.before.requires.few)
 
 returns : tie.Need-returns
 returns c =
-    record { target = c.root-state.result; first = c.root-state.ensures; is = refl }
+    record { target = c.root_state-g.result; first = c.root_state-g.ensures; is = refl }
 
-pub tell-root-spec : {M : Type 1} → statement M
-tell-root-spec =
+pub tell_root_spec : {M : Type 1} → statement M
+tell_root_spec =
     tie.close
     (tie.spec (λ c. search rules) (λ c. search rules) (λ c. search rules) root-state-requires cast-work
     (λ c. search rules) (λ c. search rules) (λ c. search rules) returns)

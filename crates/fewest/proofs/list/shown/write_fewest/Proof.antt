@@ -8,16 +8,16 @@ use Rattle.fewest.proofs.list.shown.write_fewest.Tie as tie
 use Rattle.fewest.proofs.list.shown.write_fewest.Reads as reads
 use Rattle.fewest.proofs.list.shown.write_fewest.Lts as lts
 
-least-up-requires : tie.Need-least-up-requires
+least-up-requires : tie.Need-least_up-m-requires
 least-up-requires c κs =
     c.before.before.before.before.before.before.before.before.before.before.requires.given
 
-returns : tie.Need-returns
+returns : tie.Need-returns-then-m-gt-MOST_LISTED
 returns c =
     let g = c.before.before.before.before.before.before.before.before.before.before.before.before.before.before.args in
     let p = c.before.before.before.before.before.before.before.before.before.before.before.before.before.before.requires.given.up in
-    λ t x y. written-long g.kinds.now g.labels.now g.leaves.now g.inner.now g.marks.now g.may.now g.s g.k g.mark p.runs c.before.before.before.least-up.new.1.1.1.1.1.1.1.1.1.0 g.work.now (omega (arith, p.room)) c.before.before.before.least-up.ensures.up t x y c.before.before.before.least-up.result
-    c.before.before.before.least-up.ensures.least c.if1.true g.nodes.now g.out.now
+    λ t x y. written-long g.kinds.now g.labels.now g.leaves.now g.inner.now g.marks.now g.may.now g.s g.k g.mark p.runs c.before.before.before.least_up-m.new.1.1.1.1.1.1.1.1.1.0 g.work-1.now (omega (arith, p.room)) c.before.before.before.least_up-m.ensures.up t x y c.before.before.before.least_up-m.result
+    c.before.before.before.least_up-m.ensures.least c.if-m-gt-MOST_LISTED.true g.nodes-1.now g.out-1.now
 
 show-requires : tie.Need-show-requires
 show-requires c κs =
@@ -25,24 +25,24 @@ show-requires c κs =
     let p = c.before.before.before.before.before.before.before.before.before.before.before.before.before.before.before.before.before.requires.given.up in
     record {
       given = record { up = record { runs = p.runs; stocks = p.stocks; room = omega (arith, p.room) }; marks = c.before.before.before.before.before.before.before.before.before.before.before.before.before.before.before.before.before.requires.given.marks };
-      first = g.work.now;
-      up = c.before.before.before.before.before.before.least-up.ensures.up;
-      least = c.before.before.before.before.before.before.least-up.ensures.least;
-      few = omega (arith, c.before.before.before.if1.false);
+      first = g.work-1.now;
+      up = c.before.before.before.before.before.before.least_up-m.ensures.up;
+      least = c.before.before.before.before.before.before.least_up-m.ensures.least;
+      few = omega (arith, c.before.before.before.if-m-gt-MOST_LISTED.false);
       nodes_room = c.before.before.before.before.before.before.before.before.before.before.before.before.before.before.before.before.before.requires.nodes_room;
       labels_room = c.before.before.before.before.before.before.before.before.before.before.before.before.before.before.before.before.before.requires.labels_room;
     }
 
-returns-2 : tie.Need-returns-2
+returns-2 : tie.Need-returns
 returns-2 c =
     let g = c.before.before.before.before.before.before.before.before.before.before.before.before.before.before.before.before.before.before.before.before.before.before.before.before.args in
     let p = c.before.before.before.before.before.before.before.before.before.before.before.before.before.before.before.before.before.before.before.before.before.before.before.before.requires.given.up in
-    λ t x y. written-short g.kinds.now g.labels.now g.leaves.now g.inner.now g.marks.now g.may.now g.s g.k g.mark p.runs c.before.before.before.before.before.before.before.before.before.before.before.before.before.least-up.new.1.1.1.1.1.1.1.1.1.0 g.work.now (omega (arith, p.room)) c.before.before.before.before.before.before.before.before.before.before.before.before.before.least-up.ensures.up t x y c.before.before.before.before.before.before.before.before.before.before.before.before.before.least-up.result
-    c.before.before.before.before.before.before.before.before.before.before.before.before.before.least-up.ensures.least (omega (arith, c.before.before.before.before.before.before.before.before.before.before.if1.false)) g.nodes.now g.out.now c.before.before.before.before.before.before.show.result c.before.before.before.before.before.before.show.new.1.1.1.1.1.1.1.1.1.1.0 c.before.before.before.before.before.before.show.new.1.1.1.1.1.1.1.1.1.1.1.0 c.before.before.before.before.before.before.show.new.1.1.1.1.1.1.1.1.1.1.1.1.0
-    (c.before.before.before.before.before.before.show.ensures g.work.now t x y c.before.before.before.before.before.before.before.before.before.before.before.before.before.least-up.ensures.up)
+    λ t x y. written-short g.kinds.now g.labels.now g.leaves.now g.inner.now g.marks.now g.may.now g.s g.k g.mark p.runs c.before.before.before.before.before.before.before.before.before.before.before.before.before.least_up-m.new.1.1.1.1.1.1.1.1.1.0 g.work-1.now (omega (arith, p.room)) c.before.before.before.before.before.before.before.before.before.before.before.before.before.least_up-m.ensures.up t x y c.before.before.before.before.before.before.before.before.before.before.before.before.before.least_up-m.result
+    c.before.before.before.before.before.before.before.before.before.before.before.before.before.least_up-m.ensures.least (omega (arith, c.before.before.before.before.before.before.before.before.before.before.if-m-gt-MOST_LISTED.false)) g.nodes-1.now g.out-1.now c.before.before.before.before.before.before.show.result c.before.before.before.before.before.before.show.new.1.1.1.1.1.1.1.1.1.1.0 c.before.before.before.before.before.before.show.new.1.1.1.1.1.1.1.1.1.1.1.0 c.before.before.before.before.before.before.show.new.1.1.1.1.1.1.1.1.1.1.1.1.0
+    (c.before.before.before.before.before.before.show.ensures g.work-1.now t x y c.before.before.before.before.before.before.before.before.before.before.before.before.before.least_up-m.ensures.up)
 
-pub write-fewest-spec : {M : Type 1} → statement M
-write-fewest-spec =
+pub write_fewest_spec : {M : Type 1} → statement M
+write_fewest_spec =
     tie.close
     (tie.spec least-up-requires (λ c. search rules) returns show-requires (λ c. search rules) (λ c. search rules)
     (λ c. search rules) returns-2)

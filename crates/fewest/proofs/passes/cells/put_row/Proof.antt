@@ -9,36 +9,36 @@ use Rattle.fewest.proofs.passes.cells.put_row.Tie as tie
 use Rattle.fewest.proofs.passes.cells.put_row.Reads as reads
 use Rattle.fewest.proofs.passes.cells.put_row.Lts as lts
 
-abbrev invariant-loop : tie.invariant-loop
+abbrev invariant-loop : tie.invariant-loop-j
 invariant-loop work₀ s v z row at j₀ work j = (j ≤ s) × RowPart at j row work₀ work
 
-abbrev decreases-loop : tie.decreases-loop
+abbrev decreases-loop : tie.decreases-loop-j
 decreases-loop work₀ s v z row at j₀ work j = s - j
 
-loop-holds : tie.Need-loop-init invariant-loop decreases-loop
+loop-holds : tie.Need-loop-j-init invariant-loop decreases-loop
 loop-holds c =
     let g = c.args in
     (omega arith, part-start (g.v * (g.s + 1)) g.row.now g.work.now)
 
-loop-again : tie.Need-loop-preserved invariant-loop decreases-loop
+loop-again : tie.Need-loop-j-preserved invariant-loop decreases-loop
 loop-again c =
     let g = c.before.before.before.args in
-    let l = c.before.before.loop in (
-      omega (arith, c.before.loop-test.true),
+    let l = c.before.before.loop-j in (
+      omega (arith, c.before.loop-j-test.true),
       part-next (g.v * (g.s + 1)) l.j g.row.now g.work.now l.work l.invariant.1
-          (omega (arith, c.before.before.before.requires.room, c.before.loop-test.true)),
+          (omega (arith, c.before.before.before.requires.room, c.before.loop-j-test.true)),
     )
 
 returns : tie.Need-returns invariant-loop decreases-loop
 returns c =
     let g = c.before.before.args in
-    let l = c.before.loop in
-    let e : l.j ≡ g.s = omega (arith, l.invariant.0, c.loop-test.false) in
+    let l = c.before.loop-j in
+    let e : l.j ≡ g.s = omega (arith, l.invariant.0, c.loop-j-test.false) in
     part-done g.s g.v g.z g.row.now g.work.now l.work
     (subst (λ (i : ℕ). RowPart (g.v * (g.s + 1)) i g.row.now g.work.now l.work) e l.invariant.1) c.before.before.requires.room
 
-pub put-row-spec : {M : Type 1} → statement M
-put-row-spec =
+pub put_row_spec : {M : Type 1} → statement M
+put_row_spec =
     tie.close
     (tie.spec invariant-loop decreases-loop (λ c. search rules) (λ c. search rules) loop-holds (λ c. search rules)
     (λ c. search rules) (λ c. search rules) (λ c. search rules) (λ c. search rules) (λ c. search rules)

@@ -9,19 +9,19 @@ use Rattle.fewest.proofs.passes.cells.stock.Tie as tie
 use Rattle.fewest.proofs.passes.cells.stock.Reads as reads
 use Rattle.fewest.proofs.passes.cells.stock.Lts as lts
 
-returns : tie.Need-returns
+returns : tie.Need-returns-then-may-eq0
 unfolding stock_of
-returns c = rw (eq-eqb (length c.before.args.may.now) 0 c.if1.true)
+returns c = rw (eq-eqb (length c.before.args.may.now) 0 c.if-may-eq0.true)
 
-mul-result : tie.Need-overflow-mul-result
-mul-result c = omega (arith, c.before.requires c.if1.false)
+mul-result : tie.Need-offset_bounds-may-v
+mul-result c = omega (arith, c.before.requires c.if-may-eq0.false)
 
-shared-slice-read-result : tie.Need-shared-slice-read-result
-shared-slice-read-result c = c.before.before.requires c.before.if1.false
+shared-slice-read-result : tie.Need-bounds-may-v
+shared-slice-read-result c = c.before.before.requires c.before.if-may-eq0.false
 
-returns-2 : tie.Need-returns-2
+returns-2 : tie.Need-returns
 unfolding stock_of
-returns-2 c = rw (ne_eqb (length c.before.before.args.may.now) 0 c.before.if1.false)
+returns-2 c = rw (ne_eqb (length c.before.before.args.may.now) 0 c.before.if-may-eq0.false)
 
-pub stock-spec : {M : Type 1} → statement M
-stock-spec = tie.close (tie.spec returns mul-result shared-slice-read-result returns-2)
+pub stock_spec : {M : Type 1} → statement M
+stock_spec = tie.close (tie.spec returns mul-result shared-slice-read-result returns-2)

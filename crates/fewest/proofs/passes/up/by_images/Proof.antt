@@ -8,13 +8,13 @@ use Rattle.fewest.proofs.passes.up.by_images.Tie as tie
 use Rattle.fewest.proofs.passes.up.by_images.Reads as reads
 use Rattle.fewest.proofs.passes.up.by_images.Lts as lts
 
-returns : tie.Need-returns
+returns : tie.Need-returns-then-sets-gt0
 returns c = λ e. absurd (true-false (sym e))
 
-returns-2 : tie.Need-returns-2
-returns-2 c = λ e. omega (arith, c.if1.false)
+returns-2 : tie.Need-returns
+returns-2 c = λ e. omega (arith, c.if-sets-gt0.false)
 
-pub by-images-spec : {M : Type 1} → statement M
-by-images-spec =
+pub by_images_spec : {M : Type 1} → statement M
+by_images_spec =
     tie.close
     (tie.spec returns returns-2)

@@ -14,7 +14,7 @@ use Rattle.fewest.proofs.passes.up.costs_up.Tie as tie
 use Rattle.fewest.proofs.passes.up.costs_up.Reads as reads
 use Rattle.fewest.proofs.passes.up.costs_up.Lts as lts
 
-relax-leaf-requires : tie.Need-relax-leaf-requires
+relax-leaf-requires : tie.Need-relax_leaf-requires
 relax-leaf-requires c κs =
     let t = c.before.before.before.before.before.before.before in
     let p = t.requires.runs in (
@@ -23,7 +23,7 @@ relax-leaf-requires c κs =
       far-row t.args.s p.few,
     )
 
-some-images-requires : tie.Need-some-images-requires
+some-images-requires : tie.Need-some_images-m-requires
 some-images-requires c κs =
     let t = c.before.before.before.before.before.before.before.before.before.before in
     let p = t.requires.runs in
@@ -36,17 +36,17 @@ some-images-requires c κs =
       room = omega (arith, mul-le-mul_right t.args.s p.few, p.few);
     }
 
-slice-aggregate-pass-up : tie.Need-slice-aggregate-pass-up
+slice-aggregate-pass-up : tie.Need-slice_bounds-pass_up-end
 slice-aggregate-pass-up c =
-    let y = c.before.before.some-images in
+    let y = c.before.before.some_images-m in
     sym (length-take-le y.result y.new.0 y.ensures.0)
 
-pass-up-requires : tie.Need-pass-up-requires
+pass-up-requires : tie.Need-pass_up-requires
 pass-up-requires c κs =
     let t = c.before.before.before.before.before.before.before.before.before.before.before.before.before.before.before in
     let g = t.args in
-    let x = c.before.before.before.before.before.before.before.relax-leaf in
-    let y = c.before.before.before.before.some-images in (
+    let x = c.before.before.before.before.before.before.before.relax_leaf in
+    let y = c.before.before.before.before.some_images-m in (
       t.requires,
       record {
         own = t.requires.runs.below;
@@ -58,8 +58,8 @@ pass-up-requires c κs =
 returns : tie.Need-returns
 returns c = c.before.before.pass_up.ensures
 
-pub costs-up-spec : {M : Type 1} → statement M
-costs-up-spec =
+pub costs_up_spec : {M : Type 1} → statement M
+costs_up_spec =
     tie.close
     (tie.spec (λ c. search rules) relax-leaf-requires (λ c. search rules) some-images-requires (λ c. search rules)
     slice-aggregate-pass-up (λ c. search rules) pass-up-requires (λ c. search rules) returns)

@@ -12,7 +12,7 @@ use Rattle.fewest.proofs.passes.up.inner_row.Reads as reads
 use Rattle.fewest.proofs.passes.up.inner_row.Lts as lts
 use Rattle.fewest.proofs.rows.relax.relax_left.Reads as relax-left-reads
 
-relax-left-requires : tie.Need-relax-left-requires
+relax-left-requires : tie.Need-relax_left-requires
 relax-left-requires c κs =
     let g = c.before.before.before.before.before.before.before.before.args in
     let b = g.work.now in
@@ -37,11 +37,11 @@ returns c =
     let y = (g.v - 1) * (g.s + 1) + 1 in
     relaxed-as g.s (left_cost g.inner.now g.s g.k g.a (member g.labels) (part g.s b x) (part g.s b y))
     (inner_costs g.inner.now g.s g.k g.a (member g.labels) (cost_cell g.s b (left_within g.s b g.v))
-    (cost_cell g.s b (g.v - 1))) g.row.now c.before.before.relax-left.new.0
-    (parts-costs g.inner.now g.s g.k g.a (member g.labels) b x y) c.before.before.relax-left.ensures
+    (cost_cell g.s b (g.v - 1))) g.row-1.now c.before.before.relax_left.new.0
+    (parts-costs g.inner.now g.s g.k g.a (member g.labels) b x y) c.before.before.relax_left.ensures
 
-pub inner-row-spec : {M : Type 1} → statement M
-inner-row-spec =
+pub inner_row_spec : {M : Type 1} → statement M
+inner_row_spec =
     tie.close
     (tie.spec (λ c. search rules) (λ c. search rules) (λ c. search rules) (λ c. search rules) (λ c. search rules)
     (λ c. search rules) (λ c. search rules) (λ c. search rules) (λ c. search rules) (λ c. search rules)

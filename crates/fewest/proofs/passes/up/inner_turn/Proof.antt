@@ -16,7 +16,7 @@ use Rattle.fewest.proofs.passes.cells.put_row.Reads as put-row-reads
 use Rattle.fewest.proofs.passes.up.inner_row.Reads as inner-row-reads
 use Rattle.fewest.proofs.passes.up.inner_size.Reads as inner-size-reads
 
-inner-row-requires : tie.Need-inner-row-requires
+inner-row-requires : tie.Need-inner_row-requires
 inner-row-requires c κs =
     let t = c.before.before.before.before.before in
     (t.requires.0, far-row t.args.s t.requires.0.few, t.requires.1)
@@ -24,16 +24,16 @@ inner-row-requires c κs =
 returns : tie.Need-returns
 returns c =
     let g = c.before.before.before.before.before.before.before.before.before.before.before.before.before.before.args in
-    let b = g.work.now in
+    let b = g.work-1.now in
     subst (λ (z : ℕ). RowDone g.s g.v z (inner_costs g.inner.now g.s g.k g.a (member g.labels)
-    (cost_cell g.s b (left_within g.s b g.v)) (cost_cell g.s b (g.v - 1))) b c.before.before.put-row.new.0) c.before.before.before.before.before.inner-size.ensures
-    (row-filled g.s g.v c.before.before.before.before.before.inner-size.result (inner_costs g.inner.now g.s g.k g.a (member g.labels)
-    (cost_cell g.s b (left_within g.s b g.v)) (cost_cell g.s b (g.v - 1))) c.before.before.before.before.before.before.before.before.inner-row.new.0 b c.before.before.put-row.new.0 c.before.before.before.before.before.before.before.before.before.before.before.before.before.before.requires.0.few
+    (cost_cell g.s b (left_within g.s b g.v)) (cost_cell g.s b (g.v - 1))) b c.before.before.put_row.new.0) c.before.before.before.before.before.inner_size-z.ensures
+    (row-filled g.s g.v c.before.before.before.before.before.inner_size-z.result (inner_costs g.inner.now g.s g.k g.a (member g.labels)
+    (cost_cell g.s b (left_within g.s b g.v)) (cost_cell g.s b (g.v - 1))) c.before.before.before.before.before.before.before.before.inner_row.new.0 b c.before.before.put_row.new.0 c.before.before.before.before.before.before.before.before.before.before.before.before.before.before.requires.0.few
     (costs-low g.inner.now g.s g.k g.a (member g.labels) (cost_cell g.s b (left_within g.s b g.v)) (cost_cell g.s b (g.v - 1)))
-    c.before.before.before.before.before.before.before.before.inner-row.ensures c.before.before.put-row.ensures)
+    c.before.before.before.before.before.before.before.before.inner_row.ensures c.before.before.put_row.ensures)
 
-pub inner-turn-spec : {M : Type 1} → statement M
-inner-turn-spec =
+pub inner_turn_spec : {M : Type 1} → statement M
+inner_turn_spec =
     tie.close
     (tie.spec (λ c. search rules) inner-row-requires (λ c κs. search rules) (λ c. search rules) (λ c κs. search rules)
     (λ c. search rules) returns)

@@ -11,34 +11,34 @@ use Rattle.fewest.proofs.passes.cells.stock.Reads as stock-reads
 use Rattle.fewest.proofs.passes.up.inner_turn.Reads as inner-turn-reads
 use Rattle.fewest.proofs.passes.up.any_leaf_turn.Reads as any-leaf-turn-reads
 
-returns : tie.Need-returns
+returns : tie.Need-returns-then-kinds-v-eq0
 returns c =
     let g = c.before.before.before.before.before.before.before.before.before.before.before.before.before.before.before.before.args in
-    leaf-turned g.kinds.now g.labels.now g.leaves.now g.inner.now g.may.now g.s g.k g.work.now
-    c.before.before.any-leaf-turn.new.0 g.v c.before.before.before.before.if1.true c.before.before.before.before.before.before.stock.result c.before.before.before.before.before.before.stock.ensures c.before.before.any-leaf-turn.ensures
+    leaf-turned g.kinds.now g.labels.now g.leaves.now g.inner.now g.may.now g.s g.k g.work-1.now
+    c.before.before.any_leaf_turn.new.0 g.v c.before.before.before.before.if-kinds-v-eq0.true c.before.before.before.before.before.before.stock-m.result c.before.before.before.before.before.before.stock-m.ensures c.before.before.any_leaf_turn.ensures
 
-any-leaf-turn-requires : tie.Need-any-leaf-turn-requires
+any-leaf-turn-requires : tie.Need-any_leaf_turn-requires
 any-leaf-turn-requires c κs =
     let t = c.before.before.before.before.before.before.before.before.before.before.before.before.before in
-    (t.requires.0.leaf, t.requires.1.own t.args.v, c.before.before.before.stock.ensures, t.requires.2)
+    (t.requires.0.leaf, t.requires.1.own t.args.v, c.before.before.before.stock-m.ensures, t.requires.2)
 
-inner-turn-requires : tie.Need-inner-turn-requires
+inner-turn-requires : tie.Need-inner_turn-requires
 inner-turn-requires c κs =
     let t = c.before.before.before.before.before.before.before.before.before.before.before.before.before in
     let g = t.args in (
-      t.requires.0.inner c.before.if1.false,
-      images-fit g.inner.now g.s g.k g.labels.now g.may.now g.v c.before.before.before.stock.result g.images.now t.requires.0.leaf.labels
-          c.before.before.before.stock.ensures t.requires.1,
+      t.requires.0.inner c.before.if-kinds-v-eq0.false,
+      images-fit g.inner.now g.s g.k g.labels.now g.may.now g.v c.before.before.before.stock-m.result g.images.now t.requires.0.leaf.labels
+          c.before.before.before.stock-m.ensures t.requires.1,
     )
 
-returns-2 : tie.Need-returns-2
+returns-2 : tie.Need-returns
 returns-2 c =
     let g = c.before.before.before.before.before.before.before.before.before.before.before.before.before.before.before.before.args in
-    inner-turned g.kinds.now g.labels.now g.leaves.now g.inner.now g.may.now g.s g.k g.work.now
-    c.before.before.inner-turn.new.0 g.v c.before.before.before.before.if1.false c.before.before.before.before.before.before.stock.result c.before.before.before.before.before.before.stock.ensures c.before.before.inner-turn.ensures
+    inner-turned g.kinds.now g.labels.now g.leaves.now g.inner.now g.may.now g.s g.k g.work-1.now
+    c.before.before.inner_turn.new.0 g.v c.before.before.before.before.if-kinds-v-eq0.false c.before.before.before.before.before.before.stock-m.result c.before.before.before.before.before.before.stock-m.ensures c.before.before.inner_turn.ensures
 
-pub node-turn-spec : {M : Type 1} → statement M
-node-turn-spec =
+pub node_turn_spec : {M : Type 1} → statement M
+node_turn_spec =
     tie.close
     (tie.spec (λ c. search rules) (λ c. search rules) (λ c κs. search rules) (λ c. search rules) any-leaf-turn-requires
     (λ c. search rules) returns inner-turn-requires (λ c. search rules) returns-2)

@@ -12,48 +12,48 @@ use Rattle.fewest.proofs.passes.up.pass_up.Reads as reads
 use Rattle.fewest.proofs.passes.up.pass_up.Lts as lts
 use Rattle.fewest.proofs.passes.up.node_turn.Reads as node-turn-reads
 
-abbrev invariant-loop : tie.invariant-loop
+abbrev invariant-loop : tie.invariant-loop-v
 invariant-loop kinds labels leaves inner may images free s k work₀ n v₀ work v =
     (v ≤ n) × (length work ≡ length work₀) × Up kinds labels leaves inner may s k v work₀ work
 
-abbrev decreases-loop : tie.decreases-loop
+abbrev decreases-loop : tie.decreases-loop-v
 decreases-loop kinds labels leaves inner may images free s k work₀ n v₀ work v = n - v
 
-loop-holds : tie.Need-loop-init invariant-loop decreases-loop
+loop-holds : tie.Need-loop-v-init invariant-loop decreases-loop
 loop-holds c =
     let g = c.before.before.before.before.before.before.before.before.args in
-    (omega arith, refl, up_start g.kinds.now g.labels.now g.leaves.now g.inner.now g.may.now g.s g.k g.work.now)
+    (omega arith, refl, up_start g.kinds.now g.labels.now g.leaves.now g.inner.now g.may.now g.s g.k g.work-1.now)
 
-node-turn-requires : tie.Need-node-turn-requires invariant-loop decreases-loop
+node-turn-requires : tie.Need-node_turn-requires invariant-loop decreases-loop
 node-turn-requires c κs =
     let g = c.before.before.before.before.before.before.before.before.before.before.before.args in
-    let l = c.before.before.loop in (
+    let l = c.before.before.loop-v in (
       turn-args g.kinds.now g.labels.now g.leaves.now g.inner.now g.may.now g.s g.k c.before.before.before.before.before.before.before.before.before.before.before.requires.0.runs l.v
-          g.work.now l.work c.before.loop-test.true l.invariant.2 c.before.before.before.before.before.before.before.before.before.before.before.requires.0.stocks (omega (arith, c.before.before.before.before.before.before.before.before.before.before.before.requires.0.room, l.invariant.1)),
+          g.work-1.now l.work-1 c.before.loop-v-test.true l.invariant.2 c.before.before.before.before.before.before.before.before.before.before.before.requires.0.stocks (omega (arith, c.before.before.before.before.before.before.before.before.before.before.before.requires.0.room, l.invariant.1)),
       c.before.before.before.before.before.before.before.before.before.before.before.requires.1,
       c.before.before.before.before.before.before.before.before.before.before.before.requires.2,
     )
 
-loop-again : tie.Need-loop-preserved invariant-loop decreases-loop
+loop-again : tie.Need-loop-v-preserved invariant-loop decreases-loop
 loop-again c =
     let g = c.before.before.before.before.before.before.before.before.before.before.before.before.before.before.args in
-    let l = c.before.before.before.before.before.loop in (
-      omega (arith, c.before.before.before.before.loop-test.true),
-      c.before.before.node-turn.ensures.long ∙ l.invariant.1,
+    let l = c.before.before.before.before.before.loop-v in (
+      omega (arith, c.before.before.before.before.loop-v-test.true),
+      c.before.before.node_turn.ensures.long ∙ l.invariant.1,
       up_next g.kinds.now g.labels.now g.leaves.now g.inner.now g.may.now g.s g.k c.before.before.before.before.before.before.before.before.before.before.before.before.before.before.requires.0.runs l.v
-          g.work.now l.work c.before.before.before.before.loop-test.true l.invariant.2 c.before.before.node-turn.new.1.1.1.1.1.1.1.1.1.0 c.before.before.node-turn.ensures,
+          g.work-1.now l.work-1 c.before.before.before.before.loop-v-test.true l.invariant.2 c.before.before.node_turn.new.1.1.1.1.1.1.1.1.1.0 c.before.before.node_turn.ensures,
     )
 
 returns : tie.Need-returns invariant-loop decreases-loop
 returns c =
     let g = c.before.before.before.before.before.before.before.before.before.before.args in
-    let l = c.before.loop in
-    let e : l.v ≡ length g.kinds.now = omega (arith, l.invariant.0, c.loop-test.false) in
-    subst (λ (i : ℕ). Up g.kinds.now g.labels.now g.leaves.now g.inner.now g.may.now g.s g.k i g.work.now
-    l.work) e l.invariant.2
+    let l = c.before.loop-v in
+    let e : l.v ≡ length g.kinds.now = omega (arith, l.invariant.0, c.loop-v-test.false) in
+    subst (λ (i : ℕ). Up g.kinds.now g.labels.now g.leaves.now g.inner.now g.may.now g.s g.k i g.work-1.now
+    l.work-1) e l.invariant.2
 
-pub pass-up-spec : {M : Type 1} → statement M
-pass-up-spec =
+pub pass_up_spec : {M : Type 1} → statement M
+pass_up_spec =
     tie.close
     (tie.spec invariant-loop decreases-loop loop-holds node-turn-requires (λ c. search rules) (λ c. search rules) loop-again
     (λ c. search rules) returns)

@@ -8,25 +8,25 @@ use Rattle.fewest.proofs.passes.up.put_leaf.Tie as tie
 use Rattle.fewest.proofs.passes.up.put_leaf.Reads as reads
 use Rattle.fewest.proofs.passes.up.put_leaf.Lts as lts
 
-own-state-requires : tie.Need-own-state-requires
+own-state-requires : tie.Need-own_state-to-requires
 own-state-requires c κs =
     let p = c.before.before.before.before.before.before.before.requires in
     (record { few = p.0.few; labels = p.0.labels; count = p.0.leaf_count; below = p.0.leaf_below }, p.1)
 
-slice-write-work : tie.Need-slice-write-work
+slice-write-work : tie.Need-bounds-work-v
 slice-write-work c =
-    omega (arith, c.own-state.ensures.1, c.before.before.before.before.before.before.before.before.requires.0.room, c.before.before.before.put-row.ensures.long)
+    omega (arith, c.own_state-to.ensures.1, c.before.before.before.before.before.before.before.before.requires.0.room, c.before.before.before.put_row.ensures.long)
 
 returns : tie.Need-returns
 returns c =
     let t = c.before.before.before.before.before.before.before.before in
     let g = t.args in
-    let x = c.before.before.before.put-row in
-    leaf-done g.leaves.now g.s g.k g.a g.v (member g.labels) g.row.now g.work.now x.new.0 t.requires.1
-    (t.requires.0.leaf_below g.a) c.own-state.result c.own-state.ensures.0 t.requires.2 x.ensures t.requires.0.room
+    let x = c.before.before.before.put_row in
+    leaf-done g.leaves.now g.s g.k g.a g.v (member g.labels) g.row.now g.work-1.now x.new.0 t.requires.1
+    (t.requires.0.leaf_below g.a) c.own_state-to.result c.own_state-to.ensures.0 t.requires.2 x.ensures t.requires.0.room
 
-pub put-leaf-spec : {M : Type 1} → statement M
-put-leaf-spec =
+pub put_leaf_spec : {M : Type 1} → statement M
+put_leaf_spec =
     tie.close
     (tie.spec (λ c κs. search rules) own-state-requires (λ c. search rules) (λ c. search rules) (λ c. search rules)
     (λ c. search rules) (λ c. search rules) slice-write-work (λ c. search rules) returns)

@@ -7,13 +7,13 @@ use Rattle.fewest.proofs.passes.up.some_images.Tie as tie
 use Rattle.fewest.proofs.passes.up.some_images.Reads as reads
 use Rattle.fewest.proofs.passes.up.some_images.Lts as lts
 
-returns : tie.Need-returns
-returns c = (omega arith, λ e. (c.before.before.before.before.before.by-images.ensures c.before.before.before.before.if1.true, refl, c.before.before.fill-images.ensures))
+returns : tie.Need-returns-then-by_images
+returns c = (omega arith, λ e. (c.before.before.before.before.before.by_images.ensures c.before.before.before.before.if-by_images.true, refl, c.before.before.fill_images.ensures))
 
-returns-2 : tie.Need-returns-2
+returns-2 : tie.Need-returns
 returns-2 c = (omega arith, λ e. absurd (e refl))
 
-pub some-images-spec : {M : Type 1} → statement M
-some-images-spec =
+pub some_images_spec : {M : Type 1} → statement M
+some_images_spec =
     tie.close
     (tie.spec (λ c κs. search rules) (λ c κs. search rules) (λ c. search rules) returns returns-2)

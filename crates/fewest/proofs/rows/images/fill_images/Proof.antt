@@ -11,55 +11,55 @@ use Rattle.fewest.proofs.rows.images.fill_images.Tie as tie
 use Rattle.fewest.proofs.rows.images.fill_images.Reads as reads
 use Rattle.fewest.proofs.rows.images.fill_images.Lts as lts
 
-abbrev invariant-loop : tie.invariant-loop
+abbrev invariant-loop : tie.invariant-loop-i
 invariant-loop images₀ inner s k i₀ images i = (i ≤ s * s) × (length images ≡ length images₀) × FilledTo inner s k i images
 
-abbrev decreases-loop : tie.decreases-loop
+abbrev decreases-loop : tie.decreases-loop-i
 decreases-loop images₀ inner s k i₀ images i = s * s - i
 
-loop-holds : tie.Need-loop-init invariant-loop decreases-loop
+loop-holds : tie.Need-loop-i-init invariant-loop decreases-loop
 loop-holds c = (omega arith, refl, λ j h. absurd (omega arith))
 
-mul-loop : tie.Need-overflow-mul-loop invariant-loop decreases-loop
+mul-loop : tie.Need-overflow_mul-s invariant-loop decreases-loop
 mul-loop c = omega (arith, mul-le-mul_right c.before.before.before.args.s c.before.before.before.requires.few, c.before.before.before.requires.few)
 
-div-image-of : tie.Need-nonzero-div-image-of invariant-loop decreases-loop
+div-image-of : tie.Need-nonzero_div-i invariant-loop decreases-loop
 div-image-of c = omega (arith, c.before.before.before.before.requires.some)
 
-rem-image-of : tie.Need-nonzero-rem-image-of invariant-loop decreases-loop
+rem-image-of : tie.Need-nonzero_rem-i invariant-loop decreases-loop
 rem-image-of c = omega (arith, c.before.before.before.before.requires.some)
 
-image-of-requires : tie.Need-image-of-requires invariant-loop decreases-loop
+image-of-requires : tie.Need-image_of-x-requires invariant-loop decreases-loop
 image-of-requires c κs =
     let g = c.before.before.before.before.args in
-    pair-args g.inner.now g.s g.k (length g.images.now) c.before.before.before.before.requires c.before.loop.i c.loop-test.true
+    pair-args g.inner.now g.s g.k (length g.images.now) c.before.before.before.before.requires c.before.loop-i.i c.loop-i-test.true
 
-slice-write-images : tie.Need-slice-write-images invariant-loop decreases-loop
-slice-write-images c = omega (arith, c.before.loop-test.true, c.before.before.loop.invariant.1, c.before.before.before.before.before.requires.room)
+slice-write-images : tie.Need-bounds-images-i invariant-loop decreases-loop
+slice-write-images c = omega (arith, c.before.loop-i-test.true, c.before.before.loop-i.invariant.1, c.before.before.before.before.before.requires.room)
 
-loop-again : tie.Need-loop-preserved invariant-loop decreases-loop
+loop-again : tie.Need-loop-i-preserved invariant-loop decreases-loop
 loop-again c =
     let g = c.before.before.before.before.before.args in
-    let l = c.before.before.loop in (
-      omega (arith, c.before.loop-test.true),
-      length-set l.images l.i c.image-of.result ∙ l.invariant.1,
-      fill-next g.inner.now g.s g.k (length g.images.now) c.before.before.before.before.before.requires l.i c.image-of.result l.images
-          (omega (arith, c.before.loop-test.true, l.invariant.1, c.before.before.before.before.before.requires.room)) l.invariant.2 c.image-of.ensures,
+    let l = c.before.before.loop-i in (
+      omega (arith, c.before.loop-i-test.true),
+      length-set l.images l.i c.image_of-x.result ∙ l.invariant.1,
+      fill-next g.inner.now g.s g.k (length g.images.now) c.before.before.before.before.before.requires l.i c.image_of-x.result l.images
+          (omega (arith, c.before.loop-i-test.true, l.invariant.1, c.before.before.before.before.before.requires.room)) l.invariant.2 c.image_of-x.ensures,
     )
 
-same_length : tie.Need-same-length invariant-loop decreases-loop
-same_length c = omega (arith, c.before.loop.invariant.1)
+same_length : tie.Need-shape_of-images invariant-loop decreases-loop
+same_length c = omega (arith, c.before.loop-i.invariant.1)
 
 returns : tie.Need-returns invariant-loop decreases-loop
 returns c =
     let g = c.before.before.before.before.args in
-    let l = c.before.loop in
-    let e : l.i ≡ g.s * g.s = omega (arith, l.invariant.0, c.loop-test.false) in
+    let l = c.before.loop-i in
+    let e : l.i ≡ g.s * g.s = omega (arith, l.invariant.0, c.loop-i-test.false) in
     images-all g.inner.now g.s g.k (length g.images.now) c.before.before.before.before.requires l.images l.invariant.1
     (subst (λ (i : ℕ). FilledTo g.inner.now g.s g.k i l.images) e l.invariant.2)
 
-pub fill-images-spec : {M : Type 1} → statement M
-fill-images-spec =
+pub fill_images_spec : {M : Type 1} → statement M
+fill_images_spec =
     tie.close
     (tie.spec invariant-loop decreases-loop loop-holds mul-loop div-image-of rem-image-of image-of-requires (λ c. search rules)
     slice-write-images (λ c. search rules) (λ c. search rules) loop-again same_length returns)

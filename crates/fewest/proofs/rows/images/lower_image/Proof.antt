@@ -10,44 +10,44 @@ use Rattle.fewest.proofs.rows.images.lower_image.Tie as tie
 use Rattle.fewest.proofs.rows.images.lower_image.Reads as reads
 use Rattle.fewest.proofs.rows.images.lower_image.Lts as lts
 
-abbrev invariant-loop : tie.invariant-loop
+abbrev invariant-loop : tie.invariant-loop-j
 invariant-loop row₀ s states to base j₀ row j = (j ≤ s) × LoweredTo (image_cost states to base) j row₀ row
 
-abbrev decreases-loop : tie.decreases-loop
+abbrev decreases-loop : tie.decreases-loop-j
 decreases-loop row₀ s states to base j₀ row j = s - j
 
-loop-holds : tie.Need-loop-init invariant-loop decreases-loop
+loop-holds : tie.Need-loop-j-init invariant-loop decreases-loop
 loop-holds c = let g = c.before.args in (omega arith, set-start (image_cost g.states g.to g.base) g.row.now)
 
-image-cost-requires : tie.Need-image-cost-requires invariant-loop decreases-loop
-image-cost-requires c κs = (c.before.before.before.requires.1, omega (arith, c.loop-test.true, c.before.before.before.requires.0))
+image-cost-requires : tie.Need-image_cost-x-requires invariant-loop decreases-loop
+image-cost-requires c κs = (c.before.before.before.requires.1, omega (arith, c.loop-j-test.true, c.before.before.before.requires.0))
 
-slice-read-y : tie.Need-slice-read-y invariant-loop decreases-loop
-slice-read-y c = omega (arith, c.before.before.loop-test.true, c.before.before.before.before.before.requires.2.wide, c.before.before.before.loop.invariant.1.wide)
+slice-read-y : tie.Need-bounds-row-j invariant-loop decreases-loop
+slice-read-y c = omega (arith, c.before.before.loop-j-test.true, c.before.before.before.before.before.requires.2.wide, c.before.before.before.loop-j.invariant.1.wide)
 
-slice-write-row : tie.Need-slice-write-row invariant-loop decreases-loop
-slice-write-row c = omega (arith, c.before.before.before.loop-test.true, c.before.before.before.before.before.before.requires.2.wide, c.before.before.before.before.loop.invariant.1.wide)
+slice-write-row : tie.Need-bounds-row-j-in-loop-j invariant-loop decreases-loop
+slice-write-row c = omega (arith, c.before.before.before.loop-j-test.true, c.before.before.before.before.before.before.requires.2.wide, c.before.before.before.before.loop-j.invariant.1.wide)
 
-loop-again : tie.Need-loop-preserved invariant-loop decreases-loop
+loop-again : tie.Need-loop-j-preserved invariant-loop decreases-loop
 loop-again c =
     let g = c.before.before.before.before.before.before.args in
-    let l = c.before.before.before.before.loop in (
-      omega (arith, c.before.before.before.loop-test.true),
-      set_next (image_cost g.states g.to g.base) l.j g.row.now l.row c.before.before.image-cost.result c.lesser.result
-          (omega (arith, c.before.before.before.loop-test.true, c.before.before.before.before.before.before.requires.2.wide, l.invariant.1.wide)) l.invariant.1 c.before.before.image-cost.ensures c.lesser.ensures,
+    let l = c.before.before.before.before.loop-j in (
+      omega (arith, c.before.before.before.loop-j-test.true),
+      set_next (image_cost g.states g.to g.base) l.j g.row.now l.row c.before.before.image_cost-x.result c.lesser-z.result
+          (omega (arith, c.before.before.before.loop-j-test.true, c.before.before.before.before.before.before.requires.2.wide, l.invariant.1.wide)) l.invariant.1 c.before.before.image_cost-x.ensures c.lesser-z.ensures,
     )
 
-same_length : tie.Need-same-length invariant-loop decreases-loop
-same_length c = omega (arith, c.before.loop.invariant.1.wide)
+same_length : tie.Need-shape_of-row invariant-loop decreases-loop
+same_length c = omega (arith, c.before.loop-j.invariant.1.wide)
 
 returns : tie.Need-returns invariant-loop decreases-loop
 returns c =
     let g = c.before.before.before.args in
-    let l = c.before.loop in
-    set_all g.s (image_cost g.states g.to g.base) l.j g.row.now l.row (omega (arith, c.loop-test.false)) l.invariant.1
+    let l = c.before.loop-j in
+    set_all g.s (image_cost g.states g.to g.base) l.j g.row.now l.row (omega (arith, c.loop-j-test.false)) l.invariant.1
 
-pub lower-image-spec : {M : Type 1} → statement M
-lower-image-spec =
+pub lower_image_spec : {M : Type 1} → statement M
+lower_image_spec =
     tie.close
     (tie.spec invariant-loop decreases-loop loop-holds image-cost-requires (λ c. search rules) slice-read-y (λ c κs. search rules)
     (λ c. search rules) slice-write-row (λ c. search rules) (λ c. search rules) loop-again same_length returns)

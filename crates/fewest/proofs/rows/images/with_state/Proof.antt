@@ -10,7 +10,7 @@ use Rattle.fewest.proofs.rows.images.with_state.Lts as lts
 returns : tie.Need-returns
 returns c = member-with c.args.states c.args.j c.requires
 
-pub with-state-spec : {M : Type 1} → statement M
-with-state-spec =
+pub with_state_spec : {M : Type 1} → statement M
+with_state_spec =
     tie.close
     (tie.spec (λ c. search rules) (λ c. search rules) returns)

@@ -12,88 +12,88 @@ use Rattle.fewest.proofs.rows.leaves.relax_leaf.Tie as tie
 use Rattle.fewest.proofs.rows.leaves.relax_leaf.Reads as reads
 use Rattle.fewest.proofs.rows.leaves.relax_leaf.Lts as lts
 
-abbrev invariant-loop : tie.invariant-loop
+abbrev invariant-loop : tie.invariant-loop-m
 invariant-loop row₀ leaves s k labels m₀ row m = ByBits (λ b. get_or leaves b 0) s k (member labels) 1 m row₀ row
 
-abbrev decreases-loop : tie.decreases-loop
+abbrev decreases-loop : tie.decreases-loop-m
 decreases-loop row₀ leaves s k labels m₀ row m = m
 
-below-requires : tie.Need-below-requires invariant-loop decreases-loop
+below-requires : tie.Need-below-m-requires invariant-loop decreases-loop
 below-requires c κs = let t = c.before.before in (t.requires.1, t.requires.0.labels)
 
-loop-holds : tie.Need-loop-init invariant-loop decreases-loop
+loop-holds : tie.Need-loop-m-init invariant-loop decreases-loop
 loop-holds c =
     let t = c.before.before.before in
     let g = t.args in
-    bits-start (λ b. get_or g.leaves.now b 0) g.s g.k (member g.labels) 1 t.requires.0.below c.below.result
-    g.row.now c.below.ensures t.requires.2
+    bits-start (λ b. get_or g.leaves.now b 0) g.s g.k (member g.labels) 1 t.requires.0.below-m c.below-m.result
+    g.row.now c.below-m.ensures t.requires.2
 
-first-label-requires : tie.Need-first-label-requires invariant-loop decreases-loop
-first-label-requires c κs = c.loop-test.true
+first-label-requires : tie.Need-first_label-b-requires invariant-loop decreases-loop
+first-label-requires c κs = c.loop-m-test.true
 
-shared-slice-read-to : tie.Need-shared-slice-read-to invariant-loop decreases-loop
+shared-slice-read-to : tie.Need-bounds-leaves-b invariant-loop decreases-loop
 shared-slice-read-to c =
     let t = c.before.before.before.before.before.before.before in
     let g = t.args in
-    let l = c.before.before.before.loop in
+    let l = c.before.before.before.loop-m in
     omega (
       arith,
       t.requires.0.count,
-      (bits_in (λ b. get_or g.leaves.now b 0) g.s g.k (member g.labels) 1 t.requires.0.below l.m
-          c.before.first-label.result g.row.now l.row c.before.first-label.ensures.1 l.invariant).1,
+      (bits_in (λ b. get_or g.leaves.now b 0) g.s g.k (member g.labels) 1 t.requires.0.below-m l.m
+          c.before.first_label-b.result g.row.now l.row c.before.first_label-b.ensures.1 l.invariant).1,
     )
 
-cast-to : tie.Need-overflow-cast-to invariant-loop decreases-loop
+cast-to : tie.Need-overflow_cast-to invariant-loop decreases-loop
 cast-to c =
     let t = c.before.before.before.before.before.before.before in
-    omega (arith, t.requires.0.few, t.requires.0.below c.before.first-label.result)
+    omega (arith, t.requires.0.few, t.requires.0.below-m c.before.first_label-b.result)
 
-mul-y : tie.Need-overflow-mul-y invariant-loop decreases-loop
+mul-y : tie.Need-offset_bounds-row-to invariant-loop decreases-loop
 mul-y c =
     let t = c.before.before.before.before.before.before.before in
-    omega (arith, t.requires.0.few, t.requires.0.below c.before.first-label.result)
+    omega (arith, t.requires.0.few, t.requires.0.below-m c.before.first_label-b.result)
 
-slice-read-y : tie.Need-slice-read-y invariant-loop decreases-loop
+slice-read-y : tie.Need-bounds-row-to invariant-loop decreases-loop
 slice-read-y c =
     let t = c.before.before.before.before.before.before.before.before in
-    omega (arith, t.requires.0.below c.before.before.first-label.result, t.requires.2.wide, c.before.before.before.before.loop.invariant.row.wide)
+    omega (arith, t.requires.0.below-m c.before.before.first_label-b.result, t.requires.2.wide, c.before.before.before.before.loop-m.invariant.row.wide)
 
-mul-row : tie.Need-overflow-mul-row invariant-loop decreases-loop
+mul-row : tie.Need-offset_bounds-row-to-in-loop-m invariant-loop decreases-loop
 mul-row c =
     let t = c.before.before.before.before.before.before.before.before.before in
-    omega (arith, t.requires.0.few, t.requires.0.below c.before.before.before.first-label.result)
+    omega (arith, t.requires.0.few, t.requires.0.below-m c.before.before.before.first_label-b.result)
 
-slice-write-row : tie.Need-slice-write-row invariant-loop decreases-loop
+slice-write-row : tie.Need-bounds-row-to-in-loop-m invariant-loop decreases-loop
 slice-write-row c =
     let t = c.before.before.before.before.before.before.before.before.before in
-    omega (arith, t.requires.0.below c.before.before.before.first-label.result, t.requires.2.wide, c.before.before.before.before.before.loop.invariant.row.wide)
+    omega (arith, t.requires.0.below-m c.before.before.before.first_label-b.result, t.requires.2.wide, c.before.before.before.before.before.loop-m.invariant.row.wide)
 
-without-first-requires : tie.Need-without-first-requires invariant-loop decreases-loop
-without-first-requires c κs = c.before.before.before.before.loop-test.true
+without-first-requires : tie.Need-without_first-m-requires invariant-loop decreases-loop
+without-first-requires c κs = c.before.before.before.before.loop-m-test.true
 
-loop-less : tie.Need-loop-smaller invariant-loop decreases-loop
-loop-less c = c.without-first.ensures.less
+loop-less : tie.Need-loop-m-smaller invariant-loop decreases-loop
+loop-less c = c.without_first-m.ensures.less
 
-loop-again : tie.Need-loop-preserved invariant-loop decreases-loop
+loop-again : tie.Need-loop-m-preserved invariant-loop decreases-loop
 loop-again c =
     let t = c.before.before.before.before.before.before.before.before.before.before in
     let g = t.args in
-    let l = c.before.before.before.before.before.before.loop in
-    let f = c.before.before.before.before.first-label in
-    bits-next (λ b. get_or g.leaves.now b 0) g.s g.k (member g.labels) 1 t.requires.0.below l.m c.without-first.result
-    f.result g.row.now l.row f.ensures.1 c.without-first.ensures l.invariant (get_or g.leaves.now f.result 0)
-    c.before.lesser.result refl t.requires.2.wide c.before.lesser.ensures
+    let l = c.before.before.before.before.before.before.loop-m in
+    let f = c.before.before.before.before.first_label-b in
+    bits-next (λ b. get_or g.leaves.now b 0) g.s g.k (member g.labels) 1 t.requires.0.below-m l.m c.without_first-m.result
+    f.result g.row.now l.row f.ensures.1 c.without_first-m.ensures l.invariant (get_or g.leaves.now f.result 0)
+    c.before.lesser-x.result refl t.requires.2.wide c.before.lesser-x.ensures
 
 returns : tie.Need-returns invariant-loop decreases-loop
 returns c =
     let t = c.before.before.before.before.before in
     let g = t.args in
-    let l = c.before.loop in
-    bits-done (λ b. get_or g.leaves.now b 0) g.s g.k (member g.labels) 1 t.requires.0.below l.m g.row.now l.row
-    (omega (arith, c.loop-test.false)) l.invariant
+    let l = c.before.loop-m in
+    bits-done (λ b. get_or g.leaves.now b 0) g.s g.k (member g.labels) 1 t.requires.0.below-m l.m g.row.now l.row
+    (omega (arith, c.loop-m-test.false)) l.invariant
 
-pub relax-leaf-spec : {M : Type 1} → statement M
-relax-leaf-spec =
+pub relax_leaf_spec : {M : Type 1} → statement M
+relax_leaf_spec =
     tie.close
     (tie.spec invariant-loop decreases-loop below-requires loop-holds first-label-requires shared-slice-read-to cast-to mul-y slice-read-y
     (λ c κs. search rules) mul-row slice-write-row without-first-requires loop-less loop-again (λ c. search rules) returns)

@@ -8,14 +8,14 @@ use Rattle.fewest.proofs.rows.relax.change_cost.Tie as tie
 use Rattle.fewest.proofs.rows.relax.change_cost.Reads as reads
 use Rattle.fewest.proofs.rows.relax.change_cost.Lts as lts
 
-returns : tie.Need-returns
-returns c = let g = c.before.args in (change-same (member g.labels) g.a g.b c.if1.true, omega arith)
+returns : tie.Need-returns-then-a-b
+returns c = let g = c.before.args in (change-same (member g.labels) g.a g.b c.if-a-b.true, omega arith)
 
-returns-2 : tie.Need-returns-2
-returns-2 c = let g = c.before.before.args in (change-may g.labels g.a g.b c.before.if1.false c.if2.true, omega arith)
+returns-2 : tie.Need-returns-then-labels-b-eq1
+returns-2 c = let g = c.before.before.args in (change-may g.labels g.a g.b c.before.if-a-b.false c.if-labels-b-eq1.true, omega arith)
 
-returns-3 : tie.Need-returns-3
-returns-3 c = let g = c.before.before.args in (change-not g.labels g.a g.b c.before.if1.false c.if2.false, omega arith)
+returns-3 : tie.Need-returns
+returns-3 c = let g = c.before.before.args in (change-not g.labels g.a g.b c.before.if-a-b.false c.if-labels-b-eq1.false, omega arith)
 
-pub change-cost-spec : {M : Type 1} → statement M
-change-cost-spec = tie.close (tie.spec returns (λ c. search rules) returns-2 returns-3)
+pub change_cost_spec : {M : Type 1} → statement M
+change_cost_spec = tie.close (tie.spec returns (λ c. search rules) returns-2 returns-3)

@@ -13,10 +13,10 @@ use Rattle.fewest.proofs.rows.relax.relax_labels.Tie as tie
 use Rattle.fewest.proofs.rows.relax.relax_labels.Reads as reads
 use Rattle.fewest.proofs.rows.relax.relax_labels.Lts as lts
 
-add-relax-others : tie.Need-overflow-add-relax-others
+add-relax-others : tie.Need-overflow_add-base
 add-relax-others c = omega (arith, c.before.before.before.requires.1)
 
-relax-others-requires : tie.Need-relax-others-requires
+relax-others-requires : tie.Need-relax_others-requires
 relax-others-requires c κs =
     let t = c.before.before.before in
     let r = t.requires.0 in (
@@ -33,25 +33,25 @@ relax-others-requires c κs =
       t.requires.3,
     )
 
-lower-own-requires : tie.Need-lower-own-requires
+lower-own-requires : tie.Need-lower_own-requires
 lower-own-requires c κs =
     let t = c.before.before.before.before.before.before.before in
     let g = t.args in (
       t.requires.0,
       t.requires.2,
       row_kept g.s (others_cost (λ b. get_or g.inner.now ((g.p * g.k + b) * g.s + g.q) 0) g.k (member g.labels) (g.base + 1))
-          g.row.now c.before.before.before.relax-others.new.0 t.requires.3 c.before.before.before.relax-others.ensures,
+          g.row-1.now c.before.before.before.relax_others.new.0 t.requires.3 c.before.before.before.relax_others.ensures,
     )
 
 returns : tie.Need-returns
 returns c =
     let t = c.before.before.before.before.before.before.before.before.before.before in
     let g = t.args in
-    let x = c.before.before.before.before.before.before.relax-others in
+    let x = c.before.before.before.before.before.before.relax_others in
     labels-relaxed g.inner.now g.s g.k g.p g.q g.a (member g.labels) g.base t.requires.2 t.requires.1
-    g.row.now x.new.0 c.before.before.lower-own.new.0 x.ensures c.before.before.lower-own.ensures
+    g.row-1.now x.new.0 c.before.before.lower_own.new.0 x.ensures c.before.before.lower_own.ensures
 
-pub relax-labels-spec : {M : Type 1} → statement M
-relax-labels-spec =
+pub relax_labels_spec : {M : Type 1} → statement M
+relax_labels_spec =
     tie.close
     (tie.spec add-relax-others relax-others-requires lower-own-requires (λ c. search rules) returns)

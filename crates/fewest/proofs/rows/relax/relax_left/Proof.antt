@@ -14,56 +14,56 @@ use Rattle.fewest.proofs.rows.relax.relax_left.Reads as reads
 use Rattle.fewest.proofs.rows.relax.relax_left.Lts as lts
 use Rattle.fewest.proofs.rows.relax.relax_right.Reads as relax-right-reads
 
-abbrev invariant-loop : tie.invariant-loop
+abbrev invariant-loop : tie.invariant-loop-p
 invariant-loop row₀ inner images s k left right a labels p₀ row p =
     (p ≤ s)
     × Relaxed s (λ j. least_to no_way_out p (λ p. right_cost inner s k p a (member labels) (get_or left p 0) right j)) row₀ row
 
-abbrev decreases-loop : tie.decreases-loop
+abbrev decreases-loop : tie.decreases-loop-p
 decreases-loop row₀ inner images s k left right a labels p₀ row p = s - p
 
-loop-holds : tie.Need-loop-init invariant-loop decreases-loop
+loop-holds : tie.Need-loop-p-init invariant-loop decreases-loop
 loop-holds c =
     let t = c.before.before.before.before.before in
     let g = t.args in
-    (omega arith, step_start g.s (λ p j. right_cost g.inner.now g.s g.k p g.a (member g.labels) (get_or g.left.now p 0) g.right.now j) g.row.now t.requires.1)
+    (omega arith, step_start g.s (λ p j. right_cost g.inner.now g.s g.k p g.a (member g.labels) (get_or g.left.now p 0) g.right.now j) g.row-1.now t.requires.1)
 
-shared-slice-read-relax-right : tie.Need-shared-slice-read-relax-right invariant-loop decreases-loop
+shared-slice-read-relax-right : tie.Need-bounds-left-p invariant-loop decreases-loop
 shared-slice-read-relax-right c =
-    omega (arith, c.before.before.loop-test.true, c.before.before.before.before.before.before.before.before.before.requires.0.left.wide)
+    omega (arith, c.before.before.loop-p-test.true, c.before.before.before.before.before.before.before.before.before.requires.0.left.wide)
 
-relax-right-requires : tie.Need-relax-right-requires invariant-loop decreases-loop
+relax-right-requires : tie.Need-relax_right-requires invariant-loop decreases-loop
 relax-right-requires c κs =
     let t = c.before.before.before.before.before.before.before.before.before in
     let g = t.args in
-    let l = c.before.before.before.loop in (
-      right-args g.inner.now g.s g.k g.a g.left.now g.right.now t.requires.0 l.p c.before.before.loop-test.true,
-      row_kept g.s (λ j. least_to no_way_out l.p (λ p. right_cost g.inner.now g.s g.k p g.a (member g.labels) (get_or g.left.now p 0) g.right.now j)) g.row.now l.row t.requires.1 l.invariant.1,
+    let l = c.before.before.before.loop-p in (
+      right-args g.inner.now g.s g.k g.a g.left.now g.right.now t.requires.0 l.p c.before.before.loop-p-test.true,
+      row_kept g.s (λ j. least_to no_way_out l.p (λ p. right_cost g.inner.now g.s g.k p g.a (member g.labels) (get_or g.left.now p 0) g.right.now j)) g.row-1.now l.row-1 t.requires.1 l.invariant.1,
       t.requires.2,
     )
 
-loop-again : tie.Need-loop-preserved invariant-loop decreases-loop
+loop-again : tie.Need-loop-p-preserved invariant-loop decreases-loop
 loop-again c =
     let t = c.before.before.before.before.before.before.before.before.before.before.before.before in
     let g = t.args in
-    let l = c.before.before.before.before.before.before.loop in (
-      omega (arith, c.before.before.before.before.before.loop-test.true),
-      step-next g.s (λ p j. right_cost g.inner.now g.s g.k p g.a (member g.labels) (get_or g.left.now p 0) g.right.now j) l.p g.row.now l.row c.before.before.relax-right.new.0 l.invariant.1 c.before.before.relax-right.ensures,
+    let l = c.before.before.before.before.before.before.loop-p in (
+      omega (arith, c.before.before.before.before.before.loop-p-test.true),
+      step-next g.s (λ p j. right_cost g.inner.now g.s g.k p g.a (member g.labels) (get_or g.left.now p 0) g.right.now j) l.p g.row-1.now l.row-1 c.before.before.relax_right.new.0 l.invariant.1 c.before.before.relax_right.ensures,
     )
 
-same_length : tie.Need-same-length invariant-loop decreases-loop
-same_length c = omega (arith, c.before.loop.invariant.1.wide)
+same_length : tie.Need-shape_of-row invariant-loop decreases-loop
+same_length c = omega (arith, c.before.loop-p.invariant.1.wide)
 
 returns : tie.Need-returns invariant-loop decreases-loop
 returns c =
     let t = c.before.before.before.before.before.before.before in
     let g = t.args in
-    let l = c.before.loop in
-    let e : l.p ≡ g.s = omega (arith, l.invariant.0, c.loop-test.false) in
-    subst (λ (i : ℕ). Relaxed g.s (λ j. least_to no_way_out i (λ p. right_cost g.inner.now g.s g.k p g.a (member g.labels) (get_or g.left.now p 0) g.right.now j)) g.row.now l.row) e l.invariant.1
+    let l = c.before.loop-p in
+    let e : l.p ≡ g.s = omega (arith, l.invariant.0, c.loop-p-test.false) in
+    subst (λ (i : ℕ). Relaxed g.s (λ j. least_to no_way_out i (λ p. right_cost g.inner.now g.s g.k p g.a (member g.labels) (get_or g.left.now p 0) g.right.now j)) g.row-1.now l.row-1) e l.invariant.1
 
-pub relax-left-spec : {M : Type 1} → statement M
-relax-left-spec =
+pub relax_left_spec : {M : Type 1} → statement M
+relax_left_spec =
     tie.close
     (tie.spec invariant-loop decreases-loop loop-holds (λ c. search rules) shared-slice-read-relax-right relax-right-requires
     (λ c. search rules) (λ c. search rules) loop-again same_length returns)

@@ -14,92 +14,92 @@ use Rattle.fewest.proofs.rows.relax.relax_others.Tie as tie
 use Rattle.fewest.proofs.rows.relax.relax_others.Reads as reads
 use Rattle.fewest.proofs.rows.relax.relax_others.Lts as lts
 
-abbrev invariant-loop : tie.invariant-loop
+abbrev invariant-loop : tie.invariant-loop-m
 invariant-loop row₀ inner s k p q labels c m₀ row m =
     ByBits (λ b. get_or inner ((p * k + b) * s + q) 0) s k (member labels) c m row₀ row
 
-abbrev decreases-loop : tie.decreases-loop
+abbrev decreases-loop : tie.decreases-loop-m
 decreases-loop row₀ inner s k p q labels c m₀ row m = m
 
-below-requires : tie.Need-below-requires invariant-loop decreases-loop
+below-requires : tie.Need-below-m-requires invariant-loop decreases-loop
 below-requires c κs = let t = c.before.before in (t.requires.1, t.requires.0.labels)
 
-loop-holds : tie.Need-loop-init invariant-loop decreases-loop
+loop-holds : tie.Need-loop-m-init invariant-loop decreases-loop
 loop-holds c =
     let t = c.before.before.before in
     let g = t.args in
     bits-start (λ b. get_or g.inner.now ((g.p * g.k + b) * g.s + g.q) 0) g.s g.k (member g.labels) g.c
-    (λ b. t.requires.0.inner_below ((g.p * g.k + b) * g.s + g.q)) c.below.result g.row.now c.below.ensures t.requires.2
+    (λ b. t.requires.0.inner_below ((g.p * g.k + b) * g.s + g.q)) c.below-m.result g.row.now c.below-m.ensures t.requires.2
 
-first-label-requires : tie.Need-first-label-requires invariant-loop decreases-loop
-first-label-requires c κs = c.loop-test.true
+first-label-requires : tie.Need-first_label-b-requires invariant-loop decreases-loop
+first-label-requires c κs = c.loop-m-test.true
 
-rule-requires : tie.Need-rule-requires invariant-loop decreases-loop
+rule-requires : tie.Need-rule-to-requires invariant-loop decreases-loop
 rule-requires c κs =
     let t = c.before.before.before.before.before.before in
     let g = t.args in
-    let l = c.before.before.loop in
-    rule-args g.inner.now g.s g.k g.p g.q 0 0 (λ b. true) t.requires.0 c.first-label.result
+    let l = c.before.before.loop-m in
+    rule-args g.inner.now g.s g.k g.p g.q 0 0 (λ b. true) t.requires.0 c.first_label-b.result
     (bits_in (λ b. get_or g.inner.now ((g.p * g.k + b) * g.s + g.q) 0) g.s g.k (member g.labels) g.c
-    (λ b. t.requires.0.inner_below ((g.p * g.k + b) * g.s + g.q)) l.m c.first-label.result g.row.now l.row
-    c.first-label.ensures.1 l.invariant).1
+    (λ b. t.requires.0.inner_below ((g.p * g.k + b) * g.s + g.q)) l.m c.first_label-b.result g.row.now l.row
+    c.first_label-b.ensures.1 l.invariant).1
 
-cast-to : tie.Need-overflow-cast-to invariant-loop decreases-loop
+cast-to : tie.Need-overflow_cast-to invariant-loop decreases-loop
 cast-to c =
     let t = c.before.before.before.before.before.before.before in
     let g = t.args in
-    omega (arith, c.rule.ensures, t.requires.0.few, t.requires.0.inner_below ((g.p * g.k + c.before.first-label.result) * g.s + g.q))
+    omega (arith, c.rule-to.ensures, t.requires.0.few, t.requires.0.inner_below ((g.p * g.k + c.before.first_label-b.result) * g.s + g.q))
 
-mul-y : tie.Need-overflow-mul-y invariant-loop decreases-loop
+mul-y : tie.Need-offset_bounds-row-to invariant-loop decreases-loop
 mul-y c =
     let t = c.before.before.before.before.before.before.before in
     let g = t.args in
-    omega (arith, c.rule.ensures, t.requires.0.few, t.requires.0.inner_below ((g.p * g.k + c.before.first-label.result) * g.s + g.q))
+    omega (arith, c.rule-to.ensures, t.requires.0.few, t.requires.0.inner_below ((g.p * g.k + c.before.first_label-b.result) * g.s + g.q))
 
-slice-read-y : tie.Need-slice-read-y invariant-loop decreases-loop
+slice-read-y : tie.Need-bounds-row-to invariant-loop decreases-loop
 slice-read-y c =
     let t = c.before.before.before.before.before.before.before.before in
     let g = t.args in
-    omega (arith, c.before.rule.ensures, t.requires.0.inner_below ((g.p * g.k + c.before.before.first-label.result) * g.s + g.q), t.requires.2.wide, c.before.before.before.before.loop.invariant.row.wide)
+    omega (arith, c.before.rule-to.ensures, t.requires.0.inner_below ((g.p * g.k + c.before.before.first_label-b.result) * g.s + g.q), t.requires.2.wide, c.before.before.before.before.loop-m.invariant.row.wide)
 
-mul-row : tie.Need-overflow-mul-row invariant-loop decreases-loop
+mul-row : tie.Need-offset_bounds-row-to-in-loop-m invariant-loop decreases-loop
 mul-row c =
     let t = c.before.before.before.before.before.before.before.before.before in
     let g = t.args in
-    omega (arith, c.before.before.rule.ensures, t.requires.0.few, t.requires.0.inner_below ((g.p * g.k + c.before.before.before.first-label.result) * g.s + g.q))
+    omega (arith, c.before.before.rule-to.ensures, t.requires.0.few, t.requires.0.inner_below ((g.p * g.k + c.before.before.before.first_label-b.result) * g.s + g.q))
 
-slice-write-row : tie.Need-slice-write-row invariant-loop decreases-loop
+slice-write-row : tie.Need-bounds-row-to-in-loop-m invariant-loop decreases-loop
 slice-write-row c =
     let t = c.before.before.before.before.before.before.before.before.before in
     let g = t.args in
-    omega (arith, c.before.before.rule.ensures, t.requires.0.inner_below ((g.p * g.k + c.before.before.before.first-label.result) * g.s + g.q), t.requires.2.wide, c.before.before.before.before.before.loop.invariant.row.wide)
+    omega (arith, c.before.before.rule-to.ensures, t.requires.0.inner_below ((g.p * g.k + c.before.before.before.first_label-b.result) * g.s + g.q), t.requires.2.wide, c.before.before.before.before.before.loop-m.invariant.row.wide)
 
-without-first-requires : tie.Need-without-first-requires invariant-loop decreases-loop
-without-first-requires c κs = c.before.before.before.before.loop-test.true
+without-first-requires : tie.Need-without_first-m-requires invariant-loop decreases-loop
+without-first-requires c κs = c.before.before.before.before.loop-m-test.true
 
-loop-less : tie.Need-loop-smaller invariant-loop decreases-loop
-loop-less c = c.without-first.ensures.less
+loop-less : tie.Need-loop-m-smaller invariant-loop decreases-loop
+loop-less c = c.without_first-m.ensures.less
 
-loop-again : tie.Need-loop-preserved invariant-loop decreases-loop
+loop-again : tie.Need-loop-m-preserved invariant-loop decreases-loop
 loop-again c =
     let t = c.before.before.before.before.before.before.before.before.before.before in
     let g = t.args in
-    let l = c.before.before.before.before.before.before.loop in
+    let l = c.before.before.before.before.before.before.loop-m in
     bits-next (λ b. get_or g.inner.now ((g.p * g.k + b) * g.s + g.q) 0) g.s g.k (member g.labels) g.c
-    (λ b. t.requires.0.inner_below ((g.p * g.k + b) * g.s + g.q)) l.m c.without-first.result c.before.before.before.before.first-label.result g.row.now l.row
-    c.before.before.before.before.first-label.ensures.1 c.without-first.ensures l.invariant c.before.before.before.rule.result c.before.lesser.result
-    c.before.before.before.rule.ensures t.requires.2.wide c.before.lesser.ensures
+    (λ b. t.requires.0.inner_below ((g.p * g.k + b) * g.s + g.q)) l.m c.without_first-m.result c.before.before.before.before.first_label-b.result g.row.now l.row
+    c.before.before.before.before.first_label-b.ensures.1 c.without_first-m.ensures l.invariant c.before.before.before.rule-to.result c.before.lesser-x.result
+    c.before.before.before.rule-to.ensures t.requires.2.wide c.before.lesser-x.ensures
 
 returns : tie.Need-returns invariant-loop decreases-loop
 returns c =
     let t = c.before.before.before.before.before in
     let g = t.args in
-    let l = c.before.loop in
+    let l = c.before.loop-m in
     bits-done (λ b. get_or g.inner.now ((g.p * g.k + b) * g.s + g.q) 0) g.s g.k (member g.labels) g.c
-    (λ b. t.requires.0.inner_below ((g.p * g.k + b) * g.s + g.q)) l.m g.row.now l.row (omega (arith, c.loop-test.false)) l.invariant
+    (λ b. t.requires.0.inner_below ((g.p * g.k + b) * g.s + g.q)) l.m g.row.now l.row (omega (arith, c.loop-m-test.false)) l.invariant
 
-pub relax-others-spec : {M : Type 1} → statement M
-relax-others-spec =
+pub relax_others_spec : {M : Type 1} → statement M
+relax_others_spec =
     tie.close
     (tie.spec invariant-loop decreases-loop below-requires loop-holds first-label-requires rule-requires cast-to mul-y slice-read-y
     (λ c κs. search rules) mul-row slice-write-row without-first-requires loop-less loop-again (λ c. search rules) returns)

@@ -7,14 +7,14 @@ use Rattle.fewest.proofs.rows.sets.below.Tie as tie
 use Rattle.fewest.proofs.rows.sets.below.Reads as reads
 use Rattle.fewest.proofs.rows.sets.below.Lts as lts
 
-sub-result : tie.Need-overflow-sub-result
+sub-result : tie.Need-overflow_sub-result
 sub-result c = search rules
 
-shr-result : tie.Need-overflow-shr-result
+shr-result : tie.Need-overflow_shr-result
 shr-result c = search rules
 
 returns : tie.Need-returns
 returns c = below-is c.args.labels c.args.k c.requires.1
 
-pub below-spec : {M : Type 1} → statement M
-below-spec = tie.close (tie.spec sub-result shr-result returns)
+pub below_spec : {M : Type 1} → statement M
+below_spec = tie.close (tie.spec sub-result shr-result returns)

@@ -8,11 +8,11 @@ use Rattle.fewest.proofs.rows.sets.first_label.Tie as tie
 use Rattle.fewest.proofs.rows.sets.first_label.Reads as reads
 use Rattle.fewest.proofs.rows.sets.first_label.Lts as lts
 
-cast-result : tie.Need-overflow-cast-result
+cast-result : tie.Need-overflow_cast-result
 cast-result c = omega (arith, trailing_le 64 c.args.labels)
 
 returns : tie.Need-returns
 returns c = first-is 64 c.args.labels (search rules) c.requires
 
-pub first-label-spec : {M : Type 1} → statement M
-first-label-spec = tie.close (tie.spec cast-result returns)
+pub first_label_spec : {M : Type 1} → statement M
+first_label_spec = tie.close (tie.spec cast-result returns)

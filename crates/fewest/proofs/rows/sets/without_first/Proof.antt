@@ -7,11 +7,11 @@ use Rattle.fewest.proofs.rows.sets.without_first.Tie as tie
 use Rattle.fewest.proofs.rows.sets.without_first.Reads as reads
 use Rattle.fewest.proofs.rows.sets.without_first.Lts as lts
 
-sub-result : tie.Need-overflow-sub-result
+sub-result : tie.Need-overflow_sub-result
 sub-result c = search rules
 
 returns : tie.Need-returns
 returns c = rest-is c.args.labels c.requires
 
-pub without-first-spec : {M : Type 1} → statement M
-without-first-spec = tie.close (tie.spec sub-result returns)
+pub without_first_spec : {M : Type 1} → statement M
+without_first_spec = tie.close (tie.spec sub-result returns)

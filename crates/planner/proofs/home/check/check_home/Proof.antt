@@ -17,19 +17,19 @@ use Rattle.formats.proofs.bytes.read32.Reads as read32-reads
 use Rattle.planner.proofs.home.check.comes_from_file.Reads as comes-from-file-reads
 
 -- check 19 passes
-came : (c : tie.Else1) → comes_from_file c.before.before.before.args.plan.now ≡ true
-came c = sym c.before.comes-from-file.ensures ∙ not-false _ c.if1.false
+came : (c : tie.Else-not-comes_from_file) → comes_from_file c.before.before.before.args.plan.now ≡ true
+came c = sym c.before.comes_from_file.ensures ∙ not-false _ c.if-not-comes_from_file.false-raw
 
-returns : tie.Need-returns
-returns c = sym (home-19 _ _ (sym c.before.comes-from-file.ensures ∙ not-true _ c.if1.true))
+returns : tie.Need-returns-then-not-comes_from_file
+returns c = sym (home-19 _ _ (sym c.before.comes_from_file.ensures ∙ not-true _ c.if-not-comes_from_file.true-raw))
 
 read32-requires : tie.Need-read32-requires
 read32-requires c κs = omega (arith, (home-plan _ (came c)).plan.long)
 
-add-if2 : tie.Need-overflow-add-if2
+add-if2 : tie.Need-overflow_add-read32
 add-if2 c = omega (arith, (home-plan _ (came c.before)).plan.most, c.read32.ensures)
 
-returns-2 : tie.Need-returns-2
+returns-2 : tie.Need-returns-then-file-read32
 returns-2 c =
     let a = c.before.before.before.before.before.args in
     let k = came c.before.before in
@@ -37,7 +37,7 @@ returns-2 c =
     (lt-leb (file_length (count (unimage (plan_tree a.plan.now)))) a.file
     (omega (arith, home-room a.plan.now k, c.before.read32.ensures))))
 
-returns-3 : tie.Need-returns-3
+returns-3 : tie.Need-returns
 returns-3 c =
     let a = c.before.before.before.before.before.args in
     let k = came c.before.before in
@@ -45,7 +45,7 @@ returns-3 c =
     (le-leb (file_length (count (unimage (plan_tree a.plan.now)))) a.file
     (omega (arith, home-room a.plan.now k, c.before.read32.ensures))))
 
-pub check-home-spec : {M : Type 1} → statement M
-check-home-spec =
+pub check_home_spec : {M : Type 1} → statement M
+check_home_spec =
     tie.close
     (tie.spec (λ c κs. tt) returns read32-requires add-if2 returns-2 returns-3)

@@ -13,34 +13,34 @@ use Rattle.planner.proofs.home.check.runs_fit.Reads as reads
 use Rattle.planner.proofs.home.check.runs_fit.Lts as lts
 use Rattle.planner.proofs.home.check.run_after.Reads as run-after-reads
 
-abbrev invariant-loop : tie.invariant-loop
+abbrev invariant-loop : tie.invariant-loop-i
 invariant-loop kinds run₀ i₀ run i = (i ≤ length kinds) × (run ≤ 255) × (all_runs_fit 256 (drop i kinds) run ≡ all_runs_fit 256 kinds 0)
 
-abbrev decreases-loop : tie.decreases-loop
+abbrev decreases-loop : tie.decreases-loop-i
 decreases-loop kinds run₀ i₀ run i = length kinds - i
 
-loop-holds : tie.Need-loop-init invariant-loop decreases-loop
+loop-holds : tie.Need-loop-i-init invariant-loop decreases-loop
 loop-holds c = (omega arith, omega arith, refl)
 
-returns : tie.Need-returns invariant-loop decreases-loop
-returns c = let l = c.before.before.before.before.loop in
-    sym (runs-no _ l.run l.i l.invariant.2 (omega arith) c.before.run-after.result
-    c.before.run-after.ensures (omega arith))
+returns : tie.Need-returns-then-run-gt255 invariant-loop decreases-loop
+returns c = let l = c.before.before.before.before.loop-i in
+    sym (runs-no _ l.run l.i l.invariant.2 (omega arith) c.before.run_after-run.result
+    c.before.run_after-run.ensures (omega arith))
 
-loop-again : tie.Need-loop-preserved invariant-loop decreases-loop
+loop-again : tie.Need-loop-i-preserved invariant-loop decreases-loop
 loop-again c =
-    let l = c.before.before.before.before.loop in (
+    let l = c.before.before.before.before.loop-i in (
       omega arith,
       omega arith,
-      runs-iteration _ l.run l.i l.invariant.2 (omega arith) c.before.run-after.result
-          c.before.run-after.ensures (omega arith),
+      runs-iteration _ l.run l.i l.invariant.2 (omega arith) c.before.run_after-run.result
+          c.before.run_after-run.ensures (omega arith),
     )
 
-returns-2 : tie.Need-returns-2 invariant-loop decreases-loop
-returns-2 c = let l = c.before.loop in runs-end _ l.run l.i l.invariant.2 (omega arith)
+returns-2 : tie.Need-returns invariant-loop decreases-loop
+returns-2 c = let l = c.before.loop-i in runs-end _ l.run l.i l.invariant.2 (omega arith)
 
-pub runs-fit-spec : {M : Type 1} → statement M
-runs-fit-spec =
+pub runs_fit_spec : {M : Type 1} → statement M
+runs_fit_spec =
     tie.close
     (tie.spec invariant-loop decreases-loop loop-holds (λ c. search rules) (λ c κs. search rules) returns (λ c. search rules)
     (λ c. search rules) loop-again returns-2)

@@ -9,7 +9,7 @@ use Rattle.planner.proofs.home.read.push.Reads as reads
 use Rattle.planner.proofs.home.read.push.Lts as lts
 use Rattle.planner.proofs.home.read.mark.Reads as mark-reads
 
-slice-write-file-2 : tie.Need-slice-write-file-2
+slice-write-file-2 : tie.Need-bounds-file-n
 slice-write-file-2 c = let P = c.before.before.before.before.requires in
     simp length-set (omega (arith, P.inside, P.some_left, P.fits.room))
 

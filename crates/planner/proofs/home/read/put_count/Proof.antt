@@ -7,14 +7,14 @@ use Rattle.planner.proofs.home.read.put_count.Tie as tie
 use Rattle.planner.proofs.home.read.put_count.Reads as reads
 use Rattle.planner.proofs.home.read.put_count.Lts as lts
 
-returns : tie.Need-returns
+returns : tie.Need-returns-then-w
 returns c = let s = c.before.before.before.before.before in count-some _ _ _ _ _ s.requires (omega arith)
 
-returns-2 : tie.Need-returns-2
+returns-2 : tie.Need-returns-else-w
 returns-2 c = let s = c.before.before in count_none _ _ _ _ _ s.requires (omega arith)
 
-pub put-count-spec : {M : Type 1} → statement M
-put-count-spec =
+pub put_count_spec : {M : Type 1} → statement M
+put_count_spec =
     tie.close
     (tie.spec (λ c. search rules) (λ c. search rules) (λ c. search rules) (λ c. search rules) (λ c. search rules)
     (λ c. search rules) (λ c. search rules) returns returns-2)

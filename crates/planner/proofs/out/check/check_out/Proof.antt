@@ -22,21 +22,21 @@ use Rattle.planner.proofs.out.check.room_fits.Reads as room-fits-reads
 use Rattle.planner.proofs.out.check.well_formed.Reads as well-formed-reads
 
 -- the file of the call, and what each test says of it
-is-formed : (c : tie.Else1) → wellFormed c.before.before.before.args.file.now ≡ true
-is-formed c = sym c.before.well-formed-2.ensures ∙ not-false _ c.if1.false
+is-formed : (c : tie.Else-not-well_formed) → wellFormed c.before.before.before.args.file.now ≡ true
+is-formed c = sym c.before.well-formed-2.ensures ∙ not-false _ c.if-not-well_formed.false-raw
 
-formed : (c : tie.Else1) → WellFormed c.before.before.before.args.file.now
+formed : (c : tie.Else-not-well_formed) → WellFormed c.before.before.before.args.file.now
 formed c = well-formed _ (is-formed c)
 
-labels-answer : (c : tie.After-all-below)
-    → c.all-below.result
+labels-answer : (c : tie.After-all_below)
+    → c.all_below.result
     ≡ all_below emptyLabel (labelRun c.before.before.before.before.before.before.args.file.now)
 labels-answer c =
     let b = c.before.before.before.before.before.before.args.file.now in
-    c.all-below.ensures ∙ ap (all_below emptyLabel) (run-part b 12 c.before.before.read32.result
-    ∙ ap (λ (n : ℕ). take n (drop 12 b)) c.before.before.read32.ensures)
+    c.all_below.ensures ∙ ap (all_below emptyLabel) (run-part b 12 c.before.before.read32-n.result
+    ∙ ap (λ (n : ℕ). take n (drop 12 b)) c.before.before.read32-n.ensures)
 
-room-answer : (c : tie.After-room-fits)
+room-answer : (c : tie.After-room_fits)
     → c.room_fits.result
     ≡ outRoom (fileCount c.before.before.before.before.before.before.before.before.args.file.now)
     c.before.before.before.before.before.before.before.before.args.plan
@@ -44,38 +44,38 @@ room-answer : (c : tie.After-room-fits)
 room-answer c =
     let a = c.before.before.before.before.before.before.before.before.args in
     c.room_fits.ensures
-    ∙ ap (λ (n : ℕ). outRoom n a.plan a.places) c.before.before.before.before.read32.ensures
+    ∙ ap (λ (n : ℕ). outRoom n a.plan a.places) c.before.before.before.before.read32-n.ensures
 
-returns : tie.Need-returns
-returns c = sym (out-19 _ _ _ (sym c.before.well-formed-2.ensures ∙ not-true _ c.if1.true))
+returns : tie.Need-returns-then-not-well_formed
+returns c = sym (out-19 _ _ _ (sym c.before.well-formed-2.ensures ∙ not-true _ c.if-not-well_formed.true-raw))
 
-read32-requires : tie.Need-read32-requires
+read32-requires : tie.Need-read32-n-requires
 read32-requires c κs = omega (arith, (formed c).long)
 
-add-all-below : tie.Need-overflow-add-all-below
-add-all-below c = omega (arith, (formed c.before).exact, c.read32.ensures)
+add-all-below : tie.Need-overflow_add-n
+add-all-below c = omega (arith, (formed c.before).exact, c.read32-n.ensures)
 
-part-all-below-end : tie.Need-slice-bounds-all-below-end
-part-all-below-end c = omega (arith, (formed c.before).exact, c.read32.ensures)
+part-all-below-end : tie.Need-slice_bounds-all_below-end
+part-all-below-end c = omega (arith, (formed c.before).exact, c.read32-n.ensures)
 
-returns-2 : tie.Need-returns-2
+returns-2 : tie.Need-returns-then-not-all_below
 returns-2 c = sym (out-20 _ _ _ (is-formed c.before.before.before.before)
-    (sym (labels-answer c.before) ∙ not-true _ c.if2.true))
+    (sym (labels-answer c.before) ∙ not-true _ c.if-not-all_below.true-raw))
 
-returns-3 : tie.Need-returns-3
+returns-3 : tie.Need-returns-then-not-room_fits
 returns-3 c =
     sym (out-21 _ _ _ (is-formed c.before.before.before.before.before.before)
-    (sym (labels-answer c.before.before.before) ∙ not-false _ c.before.before.if2.false)
-    (sym (room-answer c.before) ∙ not-true _ c.if3.true))
+    (sym (labels-answer c.before.before.before) ∙ not-false _ c.before.before.if-not-all_below.false-raw)
+    (sym (room-answer c.before) ∙ not-true _ c.if-not-room_fits.true-raw))
 
-returns-4 : tie.Need-returns-4
+returns-4 : tie.Need-returns
 returns-4 c =
     sym (out-good _ _ _ (is-formed c.before.before.before.before.before.before)
-    (sym (labels-answer c.before.before.before) ∙ not-false _ c.before.before.if2.false)
-    (sym (room-answer c.before) ∙ not-false _ c.if3.false))
+    (sym (labels-answer c.before.before.before) ∙ not-false _ c.before.before.if-not-all_below.false-raw)
+    (sym (room-answer c.before) ∙ not-false _ c.if-not-room_fits.false-raw))
 
-pub check-out-spec : {M : Type 1} → statement M
-check-out-spec =
+pub check_out_spec : {M : Type 1} → statement M
+check_out_spec =
     tie.close
     (tie.spec (λ c κs. search rules) returns read32-requires add-all-below (λ c. search rules) (λ c. search rules)
     part-all-below-end (λ c κs. search rules) returns-2 (λ c κs. search rules) returns-3 returns-4)

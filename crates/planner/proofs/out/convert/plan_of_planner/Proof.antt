@@ -16,29 +16,29 @@ use Rattle.planner.proofs.out.check.check_out.Reads as check-out-reads
 use Rattle.planner.proofs.out.convert.write_out.Reads as write-out-reads
 
 -- nothing fails
-passes : (c : tie.Else1)
+passes : (c : tie.Else-refused-ne0)
     → firstNo (outChecks c.before.before.before.before.before.args.file.now
-    (length c.before.before.before.before.before.args.plan.now)
-    (length c.before.before.before.before.before.args.places.now)) ≡ 0
-passes c = sym c.before.check-out.ensures ∙ omega arith
+    (length c.before.before.before.before.before.args.plan-1.now)
+    (length c.before.before.before.before.before.args.places-1.now)) ≡ 0
+passes c = sym c.before.check_out-refused.ensures ∙ omega arith
 
-returns : tie.Need-returns
-returns c = out-refused _ _ _ _ (λ e. omega arith) c.before.check-out.ensures
+returns : tie.Need-returns-then-refused-ne0
+returns c = out-refused _ _ _ _ (λ e. omega arith) c.before.check_out-refused.ensures
 
-read32-requires : tie.Need-read32-requires
+read32-requires : tie.Need-read32-n-requires
 read32-requires c κs = omega (arith, (out-passes _ _ _ (passes c)).file.long)
 
-write-out-requires : tie.Need-write-out-requires
+write-out-requires : tie.Need-write_out-requires
 write-out-requires c κs =
-    record { passes = passes c.before.before.before; count = c.before.before.read32.ensures }
+    record { passes = passes c.before.before.before; count = c.before.before.read32-n.ensures }
 
-returns-2 : tie.Need-returns-2
+returns-2 : tie.Need-returns
 returns-2 c =
     out-done _ _ _ _ _ _ refl (passes c.before.before.before.before.before.before.before.before)
-    c.before.before.before.before.write-out.ensures
+    c.before.before.before.before.write_out.ensures
 
-pub plan-of-planner-spec : {M : Type 1} → statement M
-plan-of-planner-spec =
+pub plan_of_planner_spec : {M : Type 1} → statement M
+plan_of_planner_spec =
     tie.close
     (tie.spec (λ c κs. search rules) returns read32-requires write-out-requires (λ c. search rules)
     (λ c. search rules) returns-2)

@@ -17,35 +17,35 @@ use Rattle.planner.proofs.out.places.place_nodes.Reads as place-nodes-reads
 abbrev sized : (s : tie.Start) → (s.args.n ≤ 32767) × (length s.args.file.now ≡ 12 + 2 * s.args.n)
 sized s = out-size _ _ _ _ s.requires
 
-add-place-nodes : tie.Need-overflow-add-place-nodes
+add-place-nodes : tie.Need-overflow_add-n
 add-place-nodes c = let z = sized c.before.before.before in omega arith
 
-sub-place-nodes : tie.Need-overflow-sub-place-nodes
+sub-place-nodes : tie.Need-slice_bounds-place_nodes-count
 sub-place-nodes c = let z = sized c.before.before.before in omega arith
 
-part-place-nodes-start : tie.Need-slice-bounds-place-nodes-start
+part-place-nodes-start : tie.Need-slice_bounds-place_nodes-start
 part-place-nodes-start c = let z = sized c.before.before.before in omega arith
 
-place-nodes-requires : tie.Need-place-nodes-requires
+place-nodes-requires : tie.Need-place_nodes-requires
 place-nodes-requires c κs =
     let s = c.before.before.before.before.before.before in
     place-args _ _ _ _ s.requires _ (counts-are _ _ _ _ s.requires)
 
-add-write-plan : tie.Need-overflow-add-write-plan
+add-write-plan : tie.Need-overflow_add-n-2
 add-write-plan c = let z =
     sized c.before.before.before.before.before.before.before.before.before.before.before in omega arith
 
-part-write-plan-end : tie.Need-slice-bounds-write-plan-end
+part-write-plan-end : tie.Need-slice_bounds-write_plan-end
 part-write-plan-end c = let z =
     sized c.before.before.before.before.before.before.before.before.before.before.before in omega arith
 
-write-plan-requires : tie.Need-write-plan-requires
+write-plan-requires : tie.Need-write_plan-requires
 write-plan-requires c κs =
     let d = c.before.before.before.before.before.before.before in
     let s = d.before.before.before.before.before.before.before in (
       fileTree s.args.file.now,
       write-args _ _ _ _ s.requires _ (counts-are _ _ _ _ s.requires) _ _
-          d.place-nodes.ensures _
+          d.place_nodes.ensures _
           (labels-are _ _ _ _ s.requires),
     )
 
@@ -55,12 +55,12 @@ returns c =
     let s = d.before.before.before.before.before.before.before in
     let k = counts-are _ _ _ _ s.requires in
     let l = labels-are _ _ _ _ s.requires in
-    let N = d.place-nodes.ensures in
+    let N = d.place_nodes.ensures in
     plan-is _ _ _ _ s.requires _ k _ _ N _ l _
-    (c.before.before.write-plan.ensures (fileTree s.args.file.now) (write-args _ _ _ _ s.requires _ k _ _ N _ l))
+    (c.before.before.write_plan.ensures (fileTree s.args.file.now) (write-args _ _ _ _ s.requires _ k _ _ N _ l))
 
-pub write-out-spec : {M : Type 1} → statement M
-write-out-spec =
+pub write_out_spec : {M : Type 1} → statement M
+write_out_spec =
     tie.close
     (tie.spec add-place-nodes sub-place-nodes part-place-nodes-start (λ c. search rules) place-nodes-requires
     add-write-plan (λ c. search rules) (λ c. search rules) part-write-plan-end write-plan-requires (λ c. search rules)

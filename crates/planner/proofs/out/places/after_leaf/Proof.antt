@@ -9,8 +9,8 @@ use Rattle.planner.proofs.out.places.after_leaf.Tie as tie
 use Rattle.planner.proofs.out.places.after_leaf.Reads as reads
 use Rattle.planner.proofs.out.places.after_leaf.Lts as lts
 
-returns-2 : tie.Need-returns-2
-returns-2 c = ap (λ (b : Bool). afterLeaf b c.before.args.next) (sym c.if1.false)
+returns-2 : tie.Need-returns
+returns-2 c = ap (λ (b : Bool). afterLeaf b c.before.args.next) (sym c.if-closing.false)
 
-pub after-leaf-spec : {M : Type 1} → statement M
-after-leaf-spec = tie.close (tie.spec (λ c. search rules) (λ c. search rules) returns-2)
+pub after_leaf_spec : {M : Type 1} → statement M
+after_leaf_spec = tie.close (tie.spec (λ c. search rules) (λ c. search rules) returns-2)

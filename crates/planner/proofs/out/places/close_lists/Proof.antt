@@ -19,89 +19,89 @@ use Rattle.planner.proofs.out.places.is_later.Reads as is-later-reads
 use Rattle.planner.proofs.out.places.node_on_top.Reads as node-on-top-reads
 use Rattle.planner.proofs.out.places.put.Reads as put_reads
 
-abbrev invariant-loop : tie.invariant-loop
+abbrev invariant-loop : tie.invariant-loop-top
 invariant-loop plan places₀ depth next top₀ at₀ closing₀ places top at closing =
     Closing plan depth next places₀ top at closing places
 
-abbrev decreases-loop : tie.decreases-loop
+abbrev decreases-loop : tie.decreases-loop-top
 decreases-loop plan places₀ depth next top₀ at₀ closing₀ places top at closing = top
 
 -- the test says that the top is to be written
-going : (c : tie.Then1 invariant-loop decreases-loop)
-    → goesOn c.before.before.before.before.before.args.plan.now c.before.before.loop.top
-    c.before.before.loop.closing ≡ true
-going c = sym c.before.goes_on.ensures ∙ c.if1.true
+going : (c : tie.In-loop-top invariant-loop decreases-loop)
+    → goesOn c.before.before.before.before.before.args.plan.now c.before.before.loop-top.top
+    c.before.before.loop-top.closing ≡ true
+going c = sym c.before.goes_on.ensures ∙ c.loop-top-test.true
 
-next_fits : (c : tie.Then1 invariant-loop decreases-loop)
-    → afterLeaf c.before.before.loop.closing c.before.before.loop.at + 1 ≤ 65535
-next_fits c = closing-fits-next _ _ _ _ _ _ _ _ c.before.before.loop.invariant
+next_fits : (c : tie.In-loop-top invariant-loop decreases-loop)
+    → afterLeaf c.before.before.loop-top.closing c.before.before.loop-top.at + 1 ≤ 65535
+next_fits c = closing-fits-next _ _ _ _ _ _ _ _ c.before.before.loop-top.invariant
     c.before.before.before.before.before.requires (going c)
 
-some_left : (c : tie.Then1 invariant-loop decreases-loop) → 0 < c.before.before.loop.top
+some_left : (c : tie.In-loop-top invariant-loop decreases-loop) → 0 < c.before.before.loop-top.top
 some_left c = top-some _ _ _ (going c)
 
-loop-holds : tie.Need-loop-init invariant-loop decreases-loop
+loop-holds : tie.Need-loop-top-init invariant-loop decreases-loop
 loop-holds c = closing-start _ _ _ _
 
-goes-on-requires : tie.Need-goes-on-requires invariant-loop decreases-loop
-goes-on-requires c κs = omega (arith, c.loop.invariant.lower, c.before.before.before.requires.room)
+goes-on-requires : tie.Need-goes_on-requires invariant-loop decreases-loop
+goes-on-requires c κs = omega (arith, c.loop-top.invariant.lower, c.before.before.before.requires.room)
 
-sub-top : tie.Need-overflow-sub-top invariant-loop decreases-loop
+sub-top : tie.Need-overflow_sub-top invariant-loop decreases-loop
 sub-top c = some_left c
 
-after-leaf-requires : tie.Need-after-leaf-requires invariant-loop decreases-loop
+after-leaf-requires : tie.Need-after_leaf-at-requires invariant-loop decreases-loop
 after-leaf-requires c κs =
-    closing-fits _ _ _ _ _ _ _ _ c.before.before.loop.invariant c.before.before.before.before.before.requires
+    closing-fits _ _ _ _ _ _ _ _ c.before.before.loop-top.invariant c.before.before.before.before.before.requires
 
-node-on-top-requires : tie.Need-node-on-top-requires invariant-loop decreases-loop
+node-on-top-requires : tie.Need-node_on_top-requires invariant-loop decreases-loop
 node-on-top-requires c κs =
     let b = c.before.before.before.before in
-    omega (arith, some_left c.before.before, b.loop.invariant.lower, b.before.before.before.requires.room)
+    omega (arith, some_left c.before.before, b.loop-top.invariant.lower, b.before.before.before.requires.room)
 
-cast-put : tie.Need-overflow-cast-put invariant-loop decreases-loop
-cast-put c = omega (arith, c.before.before.after-leaf.ensures, next_fits c.before.before.before)
+cast-put : tie.Need-overflow_cast-at invariant-loop decreases-loop
+cast-put c = omega (arith, c.before.before.after_leaf-at.ensures, next_fits c.before.before.before)
 
-add_at : tie.Need-overflow-add-at invariant-loop decreases-loop
+add_at : tie.Need-overflow_add-at invariant-loop decreases-loop
 add_at c = omega (
   arith,
-  c.before.before.before.before.before.after-leaf.ensures,
+  c.before.before.before.before.before.after_leaf-at.ensures,
   next_fits c.before.before.before.before.before.before,
 )
 
-is-later-requires : tie.Need-is-later-requires invariant-loop decreases-loop
+is-later-requires : tie.Need-is_later-closing-requires invariant-loop decreases-loop
 is-later-requires c κs =
     let b = c.before.before.before.before.before.before.before.before in
     omega (
       arith,
       some_left c.before.before.before.before.before.before,
-      b.loop.invariant.lower,
+      b.loop-top.invariant.lower,
       b.before.before.before.requires.room,
     )
 
-loop-less : tie.Need-loop-smaller invariant-loop decreases-loop
+loop-less : tie.Need-loop-top-smaller invariant-loop decreases-loop
 loop-less c = omega (arith, some_left c.before.before.before.before.before.before.before)
 
-loop-again : tie.Need-loop-preserved invariant-loop decreases-loop
+loop-again : tie.Need-loop-top-preserved invariant-loop decreases-loop
 loop-again c =
     let b = c.before.before.before.before.before.before.before.before.before in
     rw (
-      c.is_later.ensures,
+      c.is_later-closing.ensures,
       c.before.before.before.put.ensures,
-      c.before.before.before.before.node-on-top.ensures,
-      c.before.before.before.before.before.before.after-leaf.ensures,
+      c.before.before.before.before.node_on_top.ensures,
+      c.before.before.before.before.before.before.after_leaf-at.ensures,
     )
-    (closing-iteration _ _ _ _ _ _ _ _ b.loop.invariant
+    (closing-iteration _ _ _ _ _ _ _ _ b.loop-top.invariant
     (going c.before.before.before.before.before.before.before))
 
-same_length : tie.Need-same-length invariant-loop decreases-loop
-same_length c = c.before.before.loop.invariant.same
+same_length : tie.Need-shape_of-places invariant-loop decreases-loop
+same_length c = c.before.before.loop-top.invariant.same
 
 returns : tie.Need-returns invariant-loop decreases-loop
 returns c =
-    closing_end _ _ _ _ _ _ _ _ c.before.before.loop.invariant (sym c.before.goes_on.ensures ∙ c.if1.false)
+    closing_end _ _ _ _ _ _ _ _ c.before.before.loop-top.invariant (sym c.before.goes_on.ensures ∙ c.loop-top-test.false)
 
-pub close-lists-spec : {M : Type 1} → statement M
-close-lists-spec =
+pub close_lists_spec : {M : Type 1} → statement M
+close_lists_spec =
     tie.close
     (tie.spec invariant-loop decreases-loop loop-holds goes-on-requires sub-top after-leaf-requires node-on-top-requires cast-put
     (λ c κs. search rules) add_at is-later-requires loop-less loop-again same_length returns)

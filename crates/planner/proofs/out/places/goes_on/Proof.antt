@@ -10,20 +10,20 @@ use Rattle.planner.proofs.out.places.goes_on.Tie as tie
 use Rattle.planner.proofs.out.places.goes_on.Reads as reads
 use Rattle.planner.proofs.out.places.goes_on.Lts as lts
 
-returns-2 : tie.Need-returns-2
+returns-2 : tie.Need-returns-then-closing
 returns-2 c =
     let a = c.before.before.args in
-    sym (ap (λ (b : Bool). goesOn a.plan.now a.depth b) c.if2.true
+    sym (ap (λ (b : Bool). goesOn a.plan.now a.depth b) c.if-closing.true
     ∙ goesOn-closing a.plan.now a.depth (omega arith))
 
-returns-3 : tie.Need-returns-3
+returns-3 : tie.Need-returns
 returns-3 c =
     let a = c.before.before.before.args in
-    sym (ap (λ (b : Bool). goesOn a.plan.now a.depth b) c.before.if2.false
+    sym (ap (λ (b : Bool). goesOn a.plan.now a.depth b) c.before.if-closing.false
     ∙ goesOn-open a.plan.now a.depth (omega arith))
 
-pub goes-on-spec : {M : Type 1} → statement M
-goes-on-spec =
+pub goes_on_spec : {M : Type 1} → statement M
+goes_on_spec =
     tie.close
     (tie.spec (λ c. search rules) returns-2 (λ c. search rules) (λ c. search rules) (λ c. search rules)
     (λ c. search rules) returns-3)

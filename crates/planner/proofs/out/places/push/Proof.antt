@@ -9,13 +9,13 @@ use Rattle.planner.proofs.out.places.push.Tie as tie
 use Rattle.planner.proofs.out.places.push.Reads as reads
 use Rattle.planner.proofs.out.places.push.Lts as lts
 
-slice-write-plan-2 : tie.Need-slice-write-plan-2
+slice-write-plan-2 : tie.Need-bounds-plan-depth-2
 slice-write-plan-2 c = simp length-set (omega arith)
 
-slice-write-plan-3 : tie.Need-slice-write-plan-3
+slice-write-plan-3 : tie.Need-bounds-plan-depth-3
 slice-write-plan-3 c = simp length-set (omega arith)
 
-slice-write-plan-4 : tie.Need-slice-write-plan-4
+slice-write-plan-4 : tie.Need-bounds-plan-depth-4
 slice-write-plan-4 c = simp length-set (omega arith)
 
 returns : tie.Need-returns

@@ -8,7 +8,7 @@ use Rattle.planner.proofs.out.places.put.Tie as tie
 use Rattle.planner.proofs.out.places.put.Reads as reads
 use Rattle.planner.proofs.out.places.put.Lts as lts
 
-returns-2 : tie.Need-returns-2
+returns-2 : tie.Need-returns-else-at-places
 returns-2 c = sym (set_out _ _ _ (omega arith))
 
 pub put_spec : {M : Type 1} → statement M

@@ -11,38 +11,38 @@ use Rattle.planner.proofs.out.places.less_one.Reads as less-one-reads
 use Rattle.planner.proofs.out.places.push.Reads as push-reads
 use Rattle.planner.proofs.out.places.to_come.Reads as to-come-reads
 
-returns : tie.Need-returns
+returns : tie.Need-returns-then-count-ne0
 returns c =
     let a = c.before.before.before.before.before.before.before.before.before.args in
-    node-inner a.v a.w.depth a.w.next a.w.left a.w.first _ a.plan.now a.places.now _
+    node-inner a.v a.w.depth a.w.next a.w.left a.w.first _ a.plan-1.now a.places-1.now _
     c.before.before.before.before.before.less_one.ensures c.before.before.before.before.push.ensures
     a.count (λ e. omega arith)
 
-add-close-lists-2 : tie.Need-overflow-add-close-lists-2
+add-close-lists-2 : tie.Need-overflow_add-w-2
 add-close-lists-2 c =
     let s = c.before.before.before.before.before.before.before.before.before.before.before.before in
     omega (arith, next_fits _ _ _ _ _ _ _ _ s.requires)
 
-close-lists-requires : tie.Need-close-lists-requires
+close-lists-requires : tie.Need-close_lists-c-requires
 close-lists-requires c κs =
     let s = c.before.before.before.before.before.before.before.before.before.before.before.before in
     let a = s.args in
-    leaf-args a.v a.w.depth a.w.next a.w.left a.w.first _ a.plan.now a.places.now _
+    leaf-args a.v a.w.depth a.w.next a.w.left a.w.first _ a.plan-1.now a.places-1.now _
     c.before.before.before.before.before.before.before.before.less_one.ensures
     c.before.before.before.before.before.before.before.push.ensures a.count (omega arith) s.requires
 
-returns-2 : tie.Need-returns-2
+returns-2 : tie.Need-returns
 returns-2 c =
     let b = c.before.before.before.before in
     let s = b.before.before.before.before.before.before.before.before.before.before.before.before.before in
     let a = s.args in
-    node-leaf a.v a.w.depth a.w.next a.w.left a.w.first _ a.plan.now a.places.now _
+    node-leaf a.v a.w.depth a.w.next a.w.left a.w.first _ a.plan-1.now a.places-1.now _
     b.before.before.before.before.before.before.before.before.before.less_one.ensures
     b.before.before.before.before.before.before.before.before.push.ensures
-    a.count _ _ _ _ (omega arith) b.close-lists.ensures c.to-come.ensures
+    a.count _ _ _ _ (omega arith) b.close_lists-c.ensures c.to_come.ensures
 
-pub read-node-spec : {M : Type 1} → statement M
-read-node-spec =
+pub read_node_spec : {M : Type 1} → statement M
+read_node_spec =
     tie.close
     (tie.spec (λ c κs. search rules) (λ c κs. search rules) (λ c. search rules) (λ c. search rules) returns
     (λ c. search rules) add-close-lists-2 close-lists-requires (λ c κs. search rules) (λ c. search rules)

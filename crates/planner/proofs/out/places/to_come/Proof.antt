@@ -8,13 +8,13 @@ use Rattle.planner.proofs.out.places.to_come.Tie as tie
 use Rattle.planner.proofs.out.places.to_come.Reads as reads
 use Rattle.planner.proofs.out.places.to_come.Lts as lts
 
-returns-2 : tie.Need-returns-2
+returns-2 : tie.Need-returns
 returns-2 c =
     let a = c.before.before.args in
     sym (afterTop-top a.plan.now a.depth (omega arith))
 
-pub to-come-spec : {M : Type 1} → statement M
-to-come-spec =
+pub to_come_spec : {M : Type 1} → statement M
+to_come_spec =
     tie.close
     (tie.spec (λ c. search rules) (λ c. search rules) (λ c. search rules) (λ c. search rules) (λ c. search rules)
     returns-2)

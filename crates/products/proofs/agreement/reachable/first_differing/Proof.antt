@@ -11,65 +11,65 @@ use Rattle.products.proofs.agreement.reachable.first_differing.Tie as tie
 use Rattle.products.proofs.agreement.reachable.first_differing.Reads as reads
 use Rattle.products.proofs.agreement.reachable.first_differing.Lts as lts
 
-abbrev invariant-loop : tie.invariant-loop
+abbrev invariant-loop : tie.invariant-loop-i
 invariant-loop first second s2 start s i₀ i = MarksArgs first second s2 s × MarksLoop first second s2 s start i
 
-abbrev decreases-loop : tie.decreases-loop
+abbrev decreases-loop : tie.decreases-loop-i
 decreases-loop first second s2 start s i₀ i = s.count - i
 
-loop-holds : tie.Need-loop-init invariant-loop decreases-loop
+loop-holds : tie.Need-loop-i-init invariant-loop decreases-loop
 loop-holds c = (c.requires, refl)
 
-element-copy-out-c : tie.Need-element-copy-out-c invariant-loop decreases-loop
-element-copy-out-c c = omega (arith, c.before.loop.invariant.0.few, c.loop-test.true)
+element-copy-out-c : tie.Need-bounds-s-i invariant-loop decreases-loop
+element-copy-out-c c = omega (arith, c.before.loop-i.invariant.0.few, c.loop-i-test.true)
 
-cast-c : tie.Need-overflow-cast-c invariant-loop decreases-loop
+cast-c : tie.Need-overflow_cast-c invariant-loop decreases-loop
 cast-c c =
-    let l = c.before.before.loop in
+    let l = c.before.before.loop-i in
     omega (arith, l.invariant.0.small l.i)
 
-div-if1 : tie.Need-nonzero-div-if1 invariant-loop decreases-loop
-div-if1 c = omega (arith, c.before.before.loop.invariant.0.second_least)
+div-if1 : tie.Need-nonzero_div-c invariant-loop decreases-loop
+div-if1 c = omega (arith, c.before.before.loop-i.invariant.0.second_least)
 
-shared-slice-read-if1 : tie.Need-shared-slice-read-if1 invariant-loop decreases-loop
+shared-slice-read-if1 : tie.Need-bounds-first-c invariant-loop decreases-loop
 shared-slice-read-if1 c =
-    let l = c.before.before.before.loop in
+    let l = c.before.before.before.loop-i in
     mark-first _ _ _ _ l.invariant.0 l.i
 
-rem-if1 : tie.Need-nonzero-rem-if1 invariant-loop decreases-loop
-rem-if1 c = omega (arith, c.before.before.before.loop.invariant.0.second_least)
+rem-if1 : tie.Need-nonzero_rem-c invariant-loop decreases-loop
+rem-if1 c = omega (arith, c.before.before.before.loop-i.invariant.0.second_least)
 
-shared-slice-read-if1-2 : tie.Need-shared-slice-read-if1-2 invariant-loop decreases-loop
+shared-slice-read-if1-2 : tie.Need-bounds-second-c invariant-loop decreases-loop
 shared-slice-read-if1-2 c =
-    let l = c.before.before.before.before.loop in
+    let l = c.before.before.before.before.loop-i in
     mark-second _ _ _ _ l.invariant.0 l.i
 
-add-result : tie.Need-overflow-add-result invariant-loop decreases-loop
+add-result : tie.Need-overflow_add-result invariant-loop decreases-loop
 add-result c =
-    omega (arith, c.before.before.before.before.before.loop.invariant.0.few, c.before.before.before.before.loop-test.true)
+    omega (arith, c.before.before.before.before.before.loop-i.invariant.0.few, c.before.before.before.before.loop-i-test.true)
 
-returns : tie.Need-returns invariant-loop decreases-loop
+returns : tie.Need-returns-then-first-c invariant-loop decreases-loop
 returns c =
-    marks-loop-found _ _ _ _ _ _ c.before.before.before.before.before.loop.invariant.1
-    c.before.before.before.before.loop-test.true c.if1.true
+    marks-loop-found _ _ _ _ _ _ c.before.before.before.before.before.loop-i.invariant.1
+    c.before.before.before.before.loop-i-test.true c.if-first-c.true
 
-add-i : tie.Need-overflow-add-i invariant-loop decreases-loop
+add-i : tie.Need-overflow_add-i invariant-loop decreases-loop
 add-i c =
-    omega (arith, c.before.before.before.before.before.loop.invariant.0.few, c.before.before.before.before.loop-test.true)
+    omega (arith, c.before.before.before.before.before.loop-i.invariant.0.few, c.before.before.before.before.loop-i-test.true)
 
-loop-again : tie.Need-loop-preserved invariant-loop decreases-loop
+loop-again : tie.Need-loop-i-preserved invariant-loop decreases-loop
 loop-again c =
-    let l = c.before.before.before.before.before.loop in (
+    let l = c.before.before.before.before.before.loop-i in (
       l.invariant.0,
       marks-loop-same _ _ _ _ _ _ l.invariant.1
-          c.before.before.before.before.loop-test.true c.if1.false,
+          c.before.before.before.before.loop-i-test.true c.if-first-c.false,
     )
 
-returns-2 : tie.Need-returns-2 invariant-loop decreases-loop
-returns-2 c = marks-loop-end _ _ _ _ _ _ c.before.loop.invariant.1 c.loop-test.false
+returns-2 : tie.Need-returns invariant-loop decreases-loop
+returns-2 c = marks-loop-end _ _ _ _ _ _ c.before.loop-i.invariant.1 c.loop-i-test.false
 
-pub first-differing-spec : {M : Type 1} → statement M
-first-differing-spec =
+pub first_differing_spec : {M : Type 1} → statement M
+first_differing_spec =
     tie.close
     (tie.spec invariant-loop decreases-loop loop-holds element-copy-out-c cast-c div-if1 shared-slice-read-if1 rem-if1
     shared-slice-read-if1-2 add-result returns add-i (λ c. search rules) loop-again returns-2)

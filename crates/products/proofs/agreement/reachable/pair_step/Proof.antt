@@ -7,13 +7,13 @@ use Rattle.products.proofs.agreement.reachable.pair_step.Tie as tie
 use Rattle.products.proofs.agreement.reachable.pair_step.Reads as reads
 use Rattle.products.proofs.agreement.reachable.pair_step.Lts as lts
 
-cast-x : tie.Need-overflow-cast-x
+cast-x : tie.Need-overflow_cast-x
 cast-x c =
     let g = c.before.args in
-    omega (arith, c.shared-slice-known.given ((g.p1 * g.k + g.a) * g.s1 + g.q1))
+    omega (arith, c.shared_slice_known-1.given ((g.p1 * g.k + g.a) * g.s1 + g.q1))
 
-pub pair-step-spec : {M : Type 1} → statement M
-pair-step-spec =
+pub pair_step_spec : {M : Type 1} → statement M
+pair_step_spec =
     tie.close
     (tie.spec (λ c. search rules) (λ c. search rules) (λ c. search rules) (λ c. search rules) (λ c. search rules)
     cast-x (λ c. search rules) (λ c. search rules) (λ c. search rules) (λ c. search rules) (λ c. search rules)

@@ -9,12 +9,12 @@ use Rattle.screens.proofs.in_place.load.is_busy.Lts as lts
 use Rattle.screens.proofs.in_place.is_running.Reads as is-running-reads
 use Rattle.session.proofs.state.Session.valid.Reads as valid-reads
 
-returns : tie.Need-returns
-returns c = busy-broken _ _ c.before.valid.ensures c.if1.true
+returns : tie.Need-returns-then-not-valid
+returns c = busy-broken _ _ c.before.valid.ensures c.if-not-valid.true-raw
 
-returns-2 : tie.Need-returns-2
-returns-2 c = busy-valid _ _ _ c.before.before.before.valid.ensures c.before.before.if1.false
-    c.is-running.ensures
+returns-2 : tie.Need-returns
+returns-2 c = busy-valid _ _ _ c.before.before.before.valid.ensures c.before.before.if-not-valid.false-raw
+    c.is_running.ensures
 
-pub is-busy-spec : {M : Type 1} → statement M
-is-busy-spec = tie.close (tie.spec (λ c κs. search rules) returns (λ c κs. search rules) returns-2)
+pub is_busy_spec : {M : Type 1} → statement M
+is_busy_spec = tie.close (tie.spec (λ c κs. search rules) returns (λ c κs. search rules) returns-2)

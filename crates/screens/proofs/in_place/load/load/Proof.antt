@@ -18,22 +18,22 @@ use Rattle.session.proofs.state.Session.load.Reads as load-reads
 eight : (b : tie.Start) → length b.args.t1 ≡ 8
 eight b = good_length (e_struct T.the_type T'.the_laws T'.the_copy) 8 b.args.t1 _ b.well-formed.0
 
-returns : tie.Need-returns
+returns : tie.Need-returns-then-any_busy
 returns c =
     one-busy _ _ (eight c.before.before.before.before.before.before)
-    (sym c.before.any-busy.ensures ∙ c.if1.true)
+    (sym c.before.any_busy.ensures ∙ c.if-any_busy.true)
 
-returns-2 : tie.Need-returns-2
+returns-2 : tie.Need-returns-in-Accepted
 returns-2 c =
     cleared _ _ _ (eight c.before.before.before.before.before.before.before.before.before.before.before.before.before.before.before.before.before)
-    (sym c.before.before.before.before.before.before.before.before.before.before.before.before.any-busy.ensures ∙ c.before.before.before.before.before.before.before.before.before.before.before.if1.false) _ _ _ _
-    c.before.before.before.before.before.before.before.load.ensures c.before.enum_told.given.1
+    (sym c.before.before.before.before.before.before.before.before.before.before.before.before.any_busy.ensures ∙ c.before.before.before.before.before.before.before.before.before.before.before.if-any_busy.false) _ _ _ _
+    c.before.before.before.before.before.before.before.load-out.ensures c.before.enum_told-1.given.1
 
-returns-3 : tie.Need-returns-3
+returns-3 : tie.Need-returns-in-Refused
 returns-3 c =
     turned_down _ _ _ (eight c.before.before.before.before.before.before.before.before.before.before.before.before.before.before.before.before.before)
-    (sym c.before.before.before.before.before.before.before.before.before.before.before.before.any-busy.ensures ∙ c.before.before.before.before.before.before.before.before.before.before.before.if1.false) _ _ _ _
-    c.before.before.before.before.before.before.before.load.ensures _ c.before.answer.given.1
+    (sym c.before.before.before.before.before.before.before.before.before.before.before.before.any_busy.ensures ∙ c.before.before.before.before.before.before.before.before.before.before.before.if-any_busy.false) _ _ _ _
+    c.before.before.before.before.before.before.before.load-out.ensures _ c.before.answer-1.given.1
 
 pub load_spec : {M : Type 1} → statement M
 load_spec =

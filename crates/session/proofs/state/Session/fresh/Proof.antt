@@ -9,9 +9,9 @@ use Rattle.session.proofs.state.Session.fresh.Tie as tie
 
 returns : tie.Need-returns
 returns c = (
-  c.idle.ensures ∙ ap (λ (l : Last). idle_session Empty (record { n = 0; s = 0; k = 0 }) l) c.before.no_last.ensures,
+  c.idle.ensures ∙ ap (λ (l : Last). idle_session Empty (record { n = 0; s = 0; k = 0 }) l) c.before.no_last-last.ensures,
   record { nodes = refl; states = refl; labels = refl; changes = refl },
 )
 
-pub fresh-spec : {M : Type 1} → statement M
-fresh-spec = tie.close (tie.spec (λ c κs. search rules) (λ c κs. search rules) returns)
+pub fresh_spec : {M : Type 1} → statement M
+fresh_spec = tie.close (tie.spec (λ c κs. search rules) (λ c κs. search rules) returns)

@@ -17,10 +17,10 @@ shape : (c : tie.Start) → Shaped c.args.t1
 shape c = shaped c.args.t1 c.well-formed.0
 
 abbrev lent : tie.Start → Inputs
-lent c = inputs_of c.args.plan.now c.args.rules.now c.args.node-table.now c.args.state-table.now
+lent c = inputs_of c.args.plan.now c.args.rules.now c.args.node_table-1.now c.args.state_table-1.now
 
 -- where the state was tested, and the call's beginning
-abbrev tested : tie.After-allowed → tie.After-may-load
+abbrev tested : tie.After-allowed → tie.After-may_load-may
 tested m = m.before.before.before.before.before.before
 
 abbrev of : tie.After-allowed → tie.Start
@@ -28,38 +28,38 @@ of m = (tested m).before.before.before.before.before.before
 
 may : (m : tie.After-allowed) → m.allowed.result
     ≡ (valid (of m).args.t1 && may_load (phase_of (of m).args.t1.head.phase))
-may m = allowed-by may_load (of m).args.t1 _ _ (tested m).may_load.ensures m.allowed.ensures
+may m = allowed-by may_load (of m).args.t1 _ _ (tested m).may_load-may.ensures m.allowed.ensures
 
-returns : tie.Need-returns
+returns : tie.Need-returns-then-not-allowed
 returns c =
     let m = c.before in
-    load-1 (of m).args.t1 (shape (of m)) (lent (of m)) _ (may m) c.if1.true
+    load-1 (of m).args.t1 (shape (of m)) (lent (of m)) _ (may m) c.if-not-allowed.true-raw
 
-loaded-from-requires : tie.Need-loaded-from-requires
+loaded-from-requires : tie.Need-loaded_from-session-requires
 loaded-from-requires c κs =
     let b = c.before.before.before.before.before.before in
     let e = b.before.before.before in
     let m = e.before in
-    load-headers (of m).args.t1 (shape (of m)) (lent (of m)) _ (may m) e.if1.false _ _ _
-    b.build-tables.ensures c.enum_told.given.1
+    load-headers (of m).args.t1 (shape (of m)) (lent (of m)) _ (may m) e.if-not-allowed.false-raw _ _ _
+    b.build_tables.ensures c.enum_told-1.given.1
 
-returns-2 : tie.Need-returns-2
+returns-2 : tie.Need-returns-in-Built
 returns-2 c =
     let d = c.before in
     let b = d.before.before.before.before.before.before in
     let e = b.before.before.before in
     let m = e.before in
-    load-built (of m).args.t1 (shape (of m)) (lent (of m)) _ (may m) e.if1.false _ _ _
-    b.build-tables.ensures d.enum_told.given.1 _ c.loaded-from.ensures
+    load-built (of m).args.t1 (shape (of m)) (lent (of m)) _ (may m) e.if-not-allowed.false-raw _ _ _
+    b.build_tables.ensures d.enum_told-1.given.1 _ c.loaded_from-session.ensures
 
-returns-3 : tie.Need-returns-3
+returns-3 : tie.Need-returns-in-Refused
 returns-3 c =
     let d = c.before in
     let b = d.before.before.before.before.before.before in
     let e = b.before.before.before in
     let m = e.before in
-    load-refused (of m).args.t1 (shape (of m)) (lent (of m)) _ (may m) e.if1.false _ _ _
-    b.build-tables.ensures _ d.n.given.1
+    load-refused (of m).args.t1 (shape (of m)) (lent (of m)) _ (may m) e.if-not-allowed.false-raw _ _ _
+    b.build_tables.ensures _ d.n-1.given.1
 
 pub load_spec : {M : Type 1} → statement M
 load_spec =

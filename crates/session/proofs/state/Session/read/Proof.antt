@@ -13,16 +13,16 @@ shape c = shaped c.args.t1 c.well-formed.0
 abbrev of : tie.After-allowed → tie.Start
 of m = m.before.before.before.before.before.before.before.before
 
-returns : tie.Need-returns
+returns : tie.Need-returns-then-not-allowed
 returns c =
     let m = c.before in
-    read_no (of m).args.t1 (shape (of m)) _ m.allowed.ensures c.if1.true
+    read_no (of m).args.t1 (shape (of m)) _ m.allowed.ensures c.if-not-allowed.true-raw
 
-returns-2 : tie.Need-returns-2
+returns-2 : tie.Need-returns
 returns-2 c =
     let e = c.before in
     let m = e.before in
-    read-yes (of m).args.t1 (shape (of m)) _ m.allowed.ensures e.if1.false
+    read-yes (of m).args.t1 (shape (of m)) _ m.allowed.ensures e.if-not-allowed.false-raw
 
 pub read_spec : {M : Type 1} → statement M
 read_spec = tie.close (tie.spec (λ c κs. search rules) returns returns-2)

@@ -19,10 +19,10 @@ shape : (c : tie.Start) → Shaped c.args.t1
 shape c = shaped c.args.t1 c.well-formed.0
 
 abbrev lent : tie.Start → Inputs
-lent c = inputs_of c.args.plan.now c.args.rules.now c.args.node-table.now c.args.state-table.now
+lent c = inputs_of c.args.plan.now c.args.rules.now c.args.node_table.now c.args.state_table.now
 
 -- where the state was tested, and the call's beginning
-abbrev tested : tie.After-allowed → tie.After-may-start
+abbrev tested : tie.After-allowed → tie.After-may_start-may
 tested m = m.before.before.before.before.before.before
 
 abbrev of : tie.After-allowed → tie.Start
@@ -30,34 +30,34 @@ of m = (tested m).before.before.before.before.before.before.before.before
 
 may : (m : tie.After-allowed) → m.allowed.result
     ≡ (valid (of m).args.t1 && may_start (phase_of (of m).args.t1.head.phase))
-may m = allowed-by may_start (of m).args.t1 _ _ (tested m).may-start.ensures m.allowed.ensures
+may m = allowed-by may_start (of m).args.t1 _ _ (tested m).may_start-may.ensures m.allowed.ensures
 
-returns : tie.Need-returns
+returns : tie.Need-returns-then-not-allowed
 returns c =
     let i = c.before in
     let m = i.before in
     rw c.refused.ensures
     (start-1 (of m).args.t1 (shape (of m)) (lent (of m)) (of m).args.nodes.now (of m).args.labels.now _
-    (may m) i.if1.true)
+    (may m) i.if-not-allowed.true-raw)
 
-rule-buffers-fit-requires : tie.Need-rule-buffers-fit-requires
+rule-buffers-fit-requires : tie.Need-rule_buffers_fit-requires
 rule-buffers-fit-requires c κs =
     let e = c.before.before.before in
     let m = e.before in
     start-limits (of m).args.t1 (shape (of m)) (lent (of m)) (of m).args.nodes.now (of m).args.labels.now _
-    (may m) e.if1.false
+    (may m) e.if-not-allowed.false-raw
 
-returns-2 : tie.Need-returns-2
+returns-2 : tie.Need-returns-then-not-rule_buffers_fit
 returns-2 c =
     let i = c.before in
     let k = i.before in
     let e = k.before.before.before.before in
     let m = e.before in
-    rw c.refused2.ensures
+    rw c.refused-then-not-rule_buffers_fit.ensures
     (start-17 (of m).args.t1 (shape (of m)) (lent (of m)) (of m).args.nodes.now (of m).args.labels.now _
-    (may m) e.if1.false _ k.rule-buffers-fit.ensures i.if2.true)
+    (may m) e.if-not-allowed.false-raw _ k.rule_buffers_fit.ensures i.if-not-rule_buffers_fit.true-raw)
 
-returns-3 : tie.Need-returns-3
+returns-3 : tie.Need-returns-then-no-ne0
 returns-3 c =
     let i = c.before in
     let l = i.before in
@@ -65,20 +65,20 @@ returns-3 c =
     let k = t.before in
     let e = k.before.before.before.before in
     let m = e.before in
-    rw c.refused3.ensures
+    rw c.refused-then-no-ne0.ensures
     (start-list (of m).args.t1 (shape (of m)) (lent (of m)) (of m).args.nodes.now (of m).args.labels.now _
-    (may m) e.if1.false _ k.rule-buffers-fit.ensures t.if2.false _ l.check-list.ensures i.if3.true)
+    (may m) e.if-not-allowed.false-raw _ k.rule_buffers_fit.ensures t.if-not-rule_buffers_fit.false-raw _ l.check_list-no.ensures i.if-no-ne0.true)
 
-tables-sound-requires : tie.Need-tables-sound-requires
+tables-sound-requires : tie.Need-tables_sound-requires
 tables-sound-requires c κs =
     let t = c.before.before in
     let k = t.before in
     let e = k.before.before.before.before in
     let m = e.before in
     start-headers (of m).args.t1 (shape (of m)) (lent (of m)) (of m).args.nodes.now (of m).args.labels.now _
-    (may m) e.if1.false _ k.rule-buffers-fit.ensures t.if2.false
+    (may m) e.if-not-allowed.false-raw _ k.rule_buffers_fit.ensures t.if-not-rule_buffers_fit.false-raw
 
-returns-4 : tie.Need-returns-4
+returns-4 : tie.Need-returns-then-not-tables_sound
 returns-4 c =
     let i = c.before in
     let w = i.before in
@@ -88,21 +88,21 @@ returns-4 c =
     let k = t.before in
     let e = k.before.before.before.before in
     let m = e.before in
-    rw c.refused4.ensures
+    rw c.refused-then-not-tables_sound.ensures
     (start-18 (of m).args.t1 (shape (of m)) (lent (of m)) (of m).args.nodes.now (of m).args.labels.now _
-    (may m) e.if1.false _ k.rule-buffers-fit.ensures t.if2.false _ l.check-list.ensures u.if3.false _
-    w.tables-sound.ensures i.if4.true)
+    (may m) e.if-not-allowed.false-raw _ k.rule_buffers_fit.ensures t.if-not-rule_buffers_fit.false-raw _ l.check_list-no.ensures u.if-no-ne0.false _
+    w.tables_sound.ensures i.if-not-tables_sound.true-raw)
 
-roots-left-requires : tie.Need-roots-left-requires
+roots-left-requires : tie.Need-roots_left-found-requires
 roots-left-requires c κs =
     let t = c.before.before.before.before in
     let k = t.before in
     let e = k.before.before.before.before in
     let m = e.before in
     start-room (of m).args.t1 (shape (of m)) (lent (of m)) (of m).args.nodes.now (of m).args.labels.now _
-    (may m) e.if1.false _ k.rule-buffers-fit.ensures t.if2.false
+    (may m) e.if-not-allowed.false-raw _ k.rule_buffers_fit.ensures t.if-not-rule_buffers_fit.false-raw
 
-cast-parts : tie.Need-overflow-cast-parts
+cast-parts : tie.Need-overflow_cast-parts
 cast-parts c =
     let r = c.before in
     let o = r.before in
@@ -117,11 +117,11 @@ cast-parts c =
       arith,
       start-count (of m).args.t1 (shape (of m)) (lent (of m)) (of m).args.nodes.now (of m).args.labels.now _
           (may m)
-          e.if1.false _ k.rule-buffers-fit.ensures t.if2.false _ l.check-list.ensures u.if3.false _
-          w.tables-sound.ensures o.if4.false _ r.roots-left.ensures,
+          e.if-not-allowed.false-raw _ k.rule_buffers_fit.ensures t.if-not-rule_buffers_fit.false-raw _ l.check_list-no.ensures u.if-no-ne0.false _
+          w.tables_sound.ensures o.if-not-tables_sound.false-raw _ r.roots_left-found.ensures,
     )
 
-started-requires : tie.Need-started-requires
+started-requires : tie.Need-started-session-requires
 started-requires c κs =
     let r = c.before.before in
     let o = r.before in
@@ -134,9 +134,9 @@ started-requires c κs =
     let m = e.before in
     start-listed (of m).args.t1 (shape (of m)) (lent (of m)) (of m).args.nodes.now (of m).args.labels.now _
     (may m)
-    e.if1.false _ k.rule-buffers-fit.ensures t.if2.false _ l.check-list.ensures u.if3.false
+    e.if-not-allowed.false-raw _ k.rule_buffers_fit.ensures t.if-not-rule_buffers_fit.false-raw _ l.check_list-no.ensures u.if-no-ne0.false
 
-returns-5 : tie.Need-returns-5
+returns-5 : tie.Need-returns
 returns-5 c =
     let r = c.before.before.before in
     let o = r.before in
@@ -149,8 +149,8 @@ returns-5 c =
     let m = e.before in
     start-yes (of m).args.t1 (shape (of m)) (lent (of m)) (of m).args.nodes.now (of m).args.labels.now _
     (may m)
-    e.if1.false _ k.rule-buffers-fit.ensures t.if2.false _ l.check-list.ensures u.if3.false _ w.tables-sound.ensures
-    o.if4.false _ r.roots-left.ensures _ c.started.ensures
+    e.if-not-allowed.false-raw _ k.rule_buffers_fit.ensures t.if-not-rule_buffers_fit.false-raw _ l.check_list-no.ensures u.if-no-ne0.false _ w.tables_sound.ensures
+    o.if-not-tables_sound.false-raw _ r.roots_left-found.ensures _ c.started-session.ensures
 
 pub start_spec : {M : Type 1} → statement M
 start_spec =

@@ -7,7 +7,7 @@ use borrow.Author.Rules.{rules}
 use Rattle.tables.proofs.node_tables.build.build_node_table.Statement.{statement}
 use Rattle.tables.proofs.node_tables.build.build_node_table.Tie as tie
 
-write-down-requires : tie.Need-write-down-requires
+write-down-requires : tie.Need-write_down-requires
 write-down-requires c κs =
     let l = c.before.before.before.before.before in
     let s = l.before.before.before.before in
@@ -17,7 +17,7 @@ write-down-requires c κs =
       room = omega (arith, l.write_up.auto.1.0, s.requires.room);
     } in (
       down-args s.args.kinds.now l.write_up.new.1.0 args (λ t e. (l.write_up.ensures t e).cells),
-      c.before.before.jump-lengths.ensures,
+      c.before.before.jump_lengths-lengths.ensures,
     )
 
 returns : tie.Need-returns
@@ -25,10 +25,10 @@ returns c =
     let d = c.before.before in
     let l = d.before.before.before.before.before.before in
     let s = l.before.before.before.before in
-    passes s.args.kinds.now s.args.node-table.now l.write_up.new.1.0 d.write-down.new.0
-    (omega (arith, l.write_up.auto.1.0, d.write-down.auto.0)) s.requires.room l.write_up.ensures
-    d.write-down.ensures
+    passes s.args.kinds.now s.args.node_table-1.now l.write_up.new.1.0 d.write_down.new.0
+    (omega (arith, l.write_up.auto.1.0, d.write_down.auto.0)) s.requires.room l.write_up.ensures
+    d.write_down.ensures
 
-pub build-node-table-spec : {M : Type 1} → statement M
-build-node-table-spec = tie.close (tie.spec (λ c κs. search rules) (λ c κs. search rules) write-down-requires
+pub build_node_table_spec : {M : Type 1} → statement M
+build_node_table_spec = tie.close (tie.spec (λ c κs. search rules) (λ c κs. search rules) write-down-requires
     (λ c. search rules) returns)

@@ -5,19 +5,19 @@ use borrow.Author.Rules.{rules}
 use Rattle.tables.proofs.node_tables.check.up_matches.Statement.{statement}
 use Rattle.tables.proofs.node_tables.check.up_matches.Tie as tie
 
-returns : tie.Need-returns
+returns : tie.Need-returns-then-kinds-v-eq0
 unfolding up_matches
-returns c = rw (eq-eqb _ _ c.before.if1.true)
+returns c = rw (eq-eqb _ _ c.before.if-kinds-v-eq0.true)
 
-inner-matches-requires : tie.Need-inner-matches-requires
-inner-matches-requires c κs = c.before.before.before.before.requires.inner c.if1.false
+inner-matches-requires : tie.Need-inner_matches-requires
+inner-matches-requires c κs = c.before.before.before.before.requires.inner c.if-kinds-v-eq0.false
 
-returns-2 : tie.Need-returns-2
+returns-2 : tie.Need-returns
 unfolding up_matches
-returns-2 c = rw (ne_eqb _ _ c.before.if1.false) c.inner-matches.ensures
+returns-2 c = rw (ne_eqb _ _ c.before.if-kinds-v-eq0.false) c.inner_matches.ensures
 
-pub up-matches-spec : {M : Type 1} → statement M
-up-matches-spec =
+pub up_matches_spec : {M : Type 1} → statement M
+up_matches_spec =
     tie.close
     (tie.spec (λ c. search rules) (λ c. search rules) (λ c. search rules) (λ c. search rules) (λ c. search rules)
     returns inner-matches-requires returns-2)

@@ -4,19 +4,19 @@ use Rattle.tables.proofs.node_tables.JumpLengthLaws.{by-table, past-table}
 use Rattle.tables.proofs.node_tables.down.child_jump.Statement.{statement}
 use Rattle.tables.proofs.node_tables.down.child_jump.Tie as tie
 
-returns : tie.Need-returns
+returns : tie.Need-returns-then-d-lt-LAST_LENGTH
 returns c =
     let a = c.before.before.before.before.before.before.before.args in
-    by-table a.node-table.now a.p c.by_length.result c.before.jump-length.result c.before.before.if1.true
-    c.before.jump-length.ensures c.by_length.ensures
+    by-table a.node_table.now a.p c.by_length.result c.before.jump_length.result c.before.before.if-d-lt-LAST_LENGTH.true
+    c.before.jump_length.ensures c.by_length.ensures
 
-returns-2 : tie.Need-returns-2
+returns-2 : tie.Need-returns
 returns-2 c =
     let a = c.before.before.before.before.before.before.args in
-    past-table a.node-table.now a.p c.by-distances.result c.before.if1.false c.by-distances.ensures
+    past-table a.node_table.now a.p c.by_distances.result c.before.if-d-lt-LAST_LENGTH.false c.by_distances.ensures
 
-pub child-jump-spec : {M : Type 1} → statement M
-child-jump-spec =
+pub child_jump_spec : {M : Type 1} → statement M
+child_jump_spec =
     tie.close
     (tie.spec (λ c. search rules) (λ c. search rules) (λ c. search rules) (λ c. search rules) (λ c. search rules)
     (λ c. search rules) (λ c. search rules) (λ c. search rules) (λ c. search rules) (λ c. search rules)

@@ -6,10 +6,10 @@ use Rattle.tables.proofs.node_tables.down.write_node.Statement.{statement}
 use Rattle.tables.proofs.node_tables.down.write_node.Tie as tie
 
 returns : tie.Need-returns
-returns c = rw c.child-jump.ensures
+returns c = rw c.child_jump-j.ensures
 
-pub write-node-spec : {M : Type 1} → statement M
-write-node-spec =
+pub write_node_spec : {M : Type 1} → statement M
+write_node_spec =
     tie.close
     (tie.spec (λ c. search rules) (λ c. search rules) (λ c. search rules) (λ c. search rules) (λ c. search rules)
     (λ c. search rules) (λ c. search rules) (λ c. search rules) (λ c. search rules) (λ c κs. search rules)

@@ -8,5 +8,5 @@ returns : tie.Need-returns
 unfolding jump_lengths
 returns c = refl
 
-pub jump-lengths-spec : {M : Type 1} → statement M
-jump-lengths-spec = tie.close (tie.spec returns)
+pub jump_lengths_spec : {M : Type 1} → statement M
+jump_lengths_spec = tie.close (tie.spec returns)

@@ -4,11 +4,11 @@ use borrow.Author.Rules.{rules}
 use Rattle.tables.proofs.node_tables.moves.rises_to.Statement.{statement}
 use Rattle.tables.proofs.node_tables.moves.rises_to.Tie as tie
 
-returns : tie.Need-returns
-returns c = rw (le-ltb _ _ c.if1.true)
+returns : tie.Need-returns-then-u-n
+returns c = rw (le-ltb _ _ c.if-u-n.true)
 
-returns-2 : tie.Need-returns-2
-returns-2 c = rw (c.depth-at2.ensures, c.before.depth-at.ensures, lt-ltb _ _ c.before.before.if1.false)
+returns-2 : tie.Need-returns
+returns-2 c = rw (c.depth_at-2.ensures, c.before.depth_at.ensures, lt-ltb _ _ c.before.before.if-u-n.false)
 
-pub rises-to-spec : {M : Type 1} → statement M
-rises-to-spec = tie.close (tie.spec returns (λ c κs. search rules) (λ c κs. search rules) returns-2)
+pub rises_to_spec : {M : Type 1} → statement M
+rises_to_spec = tie.close (tie.spec returns (λ c κs. search rules) (λ c κs. search rules) returns-2)

@@ -10,56 +10,56 @@ use borrow.Author.Rules.{rules}
 use Rattle.tables.proofs.node_tables.up.write_up.Statement.{statement}
 use Rattle.tables.proofs.node_tables.up.write_up.Tie as tie
 
-abbrev invariant-loop : tie.invariant-loop
+abbrev invariant-loop : tie.invariant-loop-v
 invariant-loop kinds nums₀ n v₀ node_table v =
     (v ≤ length kinds) × (length node_table ≡ length nums₀) × (n ≡ length kinds) × UpsWritten kinds v nums₀ node_table
 
-abbrev decreases-loop : tie.decreases-loop
+abbrev decreases-loop : tie.decreases-loop-v
 decreases-loop kinds nums₀ n v₀ node_table v = n - v
 
-loop-holds : tie.Need-loop-init invariant-loop decreases-loop
+loop-holds : tie.Need-loop-v-init invariant-loop decreases-loop
 loop-holds c = (search rules, refl, refl, nothing_written _ _)
 
-cast-write-up-node : tie.Need-overflow-cast-write-up-node invariant-loop decreases-loop
-cast-write-up-node c = omega (arith, c.shared-slice-known2.given c.before.before.before.loop.v)
+cast-write-up-node : tie.Need-overflow_cast-kinds invariant-loop decreases-loop
+cast-write-up-node c = omega (arith, c.shared_slice_known-in-loop-v-1.given c.before.before.before.loop-v.v)
 
-write-up-node-requires : tie.Need-write-up-node-requires invariant-loop decreases-loop
+write-up-node-requires : tie.Need-write_up_node-requires invariant-loop decreases-loop
 write-up-node-requires c κs =
     let a = c.before.before.before in
     let s = a.before.before.before in
-    turn-room s.args.kinds.now a.loop.v (length s.args.node-table.now) s.args.node-table.now
-    a.loop.node-table s.requires a.loop.invariant.1 c.before.before.loop-test.true a.loop.invariant.3
+    turn-room s.args.kinds.now a.loop-v.v (length s.args.node_table-1.now) s.args.node_table-1.now
+    a.loop-v.node_table-1 s.requires a.loop-v.invariant.1 c.before.before.loop-v-test.true a.loop-v.invariant.3
 
-loop-again : tie.Need-loop-preserved invariant-loop decreases-loop
+loop-again : tie.Need-loop-v-preserved invariant-loop decreases-loop
 loop-again c =
     let a = c.before.before.before.before.before.before in
     let s = a.before.before.before in
     let ks = s.args.kinds.now in
-    let t = c.before.before.before.before.before.loop-test.true in
-    let room : length ks * 4 ≤ length a.loop.node-table = omega (arith, s.requires.room, a.loop.invariant.1) in (
+    let t = c.before.before.before.before.before.loop-v-test.true in
+    let room : length ks * 4 ≤ length a.loop-v.node_table-1 = omega (arith, s.requires.room, a.loop-v.invariant.1) in (
       omega arith,
-      rw c.before.before.write-up-node.ensures (simp length-set a.loop.invariant.1),
+      rw c.before.before.write_up_node.ensures (simp length-set a.loop-v.invariant.1),
       refl,
-      rw c.before.before.write-up-node.ensures (turns ks a.loop.v s.args.node-table.now
-          a.loop.node-table a.loop.invariant.3 t room _ refl),
+      rw c.before.before.write_up_node.ensures (turns ks a.loop-v.v s.args.node_table-1.now
+          a.loop-v.node_table-1 a.loop-v.invariant.3 t room _ refl),
     )
 
-sub-root : tie.Need-overflow-sub-root invariant-loop decreases-loop
+sub-root : tie.Need-overflow_sub-root invariant-loop decreases-loop
 sub-root c = some_node _ c.before.before.before.before.requires.postorder
 
-slice-write-node-table : tie.Need-slice-write-node-table invariant-loop decreases-loop
+slice-write-node-table : tie.Need-bounds-node_table-root invariant-loop decreases-loop
 slice-write-node-table c = omega (arith, some_node _ c.before.before.before.before.requires.postorder)
 
 returns : tie.Need-returns invariant-loop decreases-loop
 returns c =
     let a = c.before in
     let s = a.before.before.before in
-    all-written s.args.kinds.now a.loop.v s.args.node-table.now a.loop.node-table a.loop.invariant.3
-    c.loop-test.false
-    a.loop.invariant.0 (omega (arith, s.requires.room, a.loop.invariant.1))
+    all-written s.args.kinds.now a.loop-v.v s.args.node_table-1.now a.loop-v.node_table-1 a.loop-v.invariant.3
+    c.loop-v-test.false
+    a.loop-v.invariant.0 (omega (arith, s.requires.room, a.loop-v.invariant.1))
 
-pub write-up-spec : {M : Type 1} → statement M
-write-up-spec =
+pub write_up_spec : {M : Type 1} → statement M
+write_up_spec =
     tie.close
     (tie.spec invariant-loop decreases-loop loop-holds (λ c. search rules) cast-write-up-node write-up-node-requires
     (λ c. search rules) (λ c. search rules) loop-again sub-root (λ c. search rules) (λ c. search rules)

@@ -8,34 +8,34 @@ use Rattle.tables.proofs.node_tables.up.write_up_node.Tie as tie
 use Rattle.tables.proofs.node_tables.up.write_up_node.Reads as reads
 use Rattle.tables.proofs.node_tables.up.write_up_node.Lts as lts
 
-slice-read-size : tie.Need-slice-read-size
+slice-read-size : tie.Need-bounds-node_table-right
 slice-read-size c = simp length-set (omega arith)
 
-slice-write-node-table-2 : tie.Need-slice-write-node-table-2
+slice-write-node-table-2 : tie.Need-bounds-node_table-right-2
 slice-write-node-table-2 c = simp length-set (omega arith)
 
-slice-read-sum : tie.Need-slice-read-sum
+slice-read-sum : tie.Need-bounds-node_table-left
 slice-read-sum c = simp length-set (omega arith)
 
-add-sum-2 : tie.Need-overflow-add-sum-2
+add-sum-2 : tie.Need-overflow_add-sum-2
 add-sum-2 c = rw (size-beside _ _ _ _) (omega (arith, c.before.before.requires.fits))
 
-add-sum-3 : tie.Need-overflow-add-sum-3
+add-sum-3 : tie.Need-overflow_add-sum-3
 add-sum-3 c = rw (size-beside _ _ _ _) (omega (arith, c.before.before.requires.fits))
 
-slice-write-node-table-3 : tie.Need-slice-write-node-table-3
+slice-write-node-table-3 : tie.Need-bounds-node_table-v-2
 slice-write-node-table-3 c = simp length-set (omega arith)
 
-slice-write-node-table-4 : tie.Need-slice-write-node-table-4
+slice-write-node-table-4 : tie.Need-bounds-node_table-left-2
 slice-write-node-table-4 c = simp length-set (omega arith)
 
 returns : tie.Need-returns
 returns c =
     let a = c.before.before.args in
-    right-first a.node-table.now a.v a.c
+    right-first a.node_table.now a.v a.c
 
-pub write-up-node-spec : {M : Type 1} → statement M
-write-up-node-spec =
+pub write_up_node_spec : {M : Type 1} → statement M
+write_up_node_spec =
     tie.close
     (tie.spec (λ c. search rules) (λ c. search rules) (λ c. search rules) (λ c. search rules) (λ c. search rules)
     (λ c. search rules) (λ c. search rules) (λ c. search rules) slice-read-size (λ c. search rules)
