@@ -48,7 +48,7 @@ module _ (first second out : List ℕ) (n : ℕ) (out' : List ℕ) (E : MergeExp
 
   passes : RulesPass (merged_bytes first second) × (state_count (merged_bytes first second)
       ≡ state_count first * state_count second) × (label_count (merged_bytes first second) ≡ label_count first)
-  passes = merged-table-passes first second M.IsFirst-passes M.second_passes M.few-states
+  passes = merged-table-passes first second M.first_passes M.second_passes M.few-states
 
   long : length (merged_bytes first second) ≡ rule_length (state_count first * state_count second) (label_count first)
   long = passes.0.exact ∙ ap₂ rule_length passes.1 passes.2
@@ -74,7 +74,7 @@ module _ (first second out : List ℕ) (n : ℕ) (out' : List ℕ) (E : MergeExp
       ≡ pair_tree (state_count second) (run (rule_automaton first) t) (run (rule_automaton second) t)
   merge-run t h =
       ap (λ (b : List ℕ). run (rule_automaton b) t) read
-      ∙ merged-table-run first second M.IsFirst-passes M.second_passes M.few-states t h
+      ∙ merged-table-run first second M.first_passes M.second_passes M.few-states t h
 
   -- "State p of the first and q of the second become p×S2+q, where S2 is the second's count of states"
   merge-state : (t : Tree) → PlanOf (label_count first) t
@@ -93,7 +93,7 @@ module _ (first second out : List ℕ) (n : ℕ) (out' : List ℕ) (E : MergeExp
       ≡ (accepts (rule_automaton first) t && accepts (rule_automaton second) t)
   merge-clears t h =
       ap (λ (b : List ℕ). accepts (rule_automaton b) t) read
-      ∙ merged-table-clears first second M.IsFirst-passes M.second_passes M.few-states t h
+      ∙ merged-table-clears first second M.first_passes M.second_passes M.few-states t h
 
   merge-excess : out' ≡ merged_in first second out'
       ++ drop (rule_length (state_count first * state_count second) (label_count first)) out

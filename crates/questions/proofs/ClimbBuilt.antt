@@ -71,7 +71,7 @@ module _ (X : View) (G : Given) (R : Reads X G) where
 
     pub jump-built : q < X.s → move_on X (via_jump v) q ≡ some (move_state G (via_jump v) q)
     unfolding move_on move_state
-    jump-built l = rw (← R.map v q) (is_below X.s (G.map_state v q) (R.map-Below v q (omega arith) l))
+    jump-built l = rw (← R.map v q) (is_below X.s (G.map_state v q) (R.map_below v q (omega arith) l))
 
     pub parent-below : move_state G (to_parent v) q < X.s
     unfolding move_state
@@ -84,7 +84,7 @@ module _ (X : View) (G : Given) (R : Reads X G) where
 
     pub jump_below : q < X.s → move_state G (via_jump v) q < X.s
     unfolding move_state
-    jump_below l = R.map-Below v q (omega arith) l
+    jump_below l = R.map_below v q (omega arith) l
 
   pub move-built : (m : Move) (q : ℕ) → start m + 1 < size G.tree → q < X.s → move_on X m q ≡ some (move_state G m q)
   move-built (via_jump v) q h l = jump-built v q h l

@@ -30,7 +30,7 @@ module _ (X : View) (G : Given) (R : Reads X G) (qs vs bs : List ℕ) (good : al
       children-inside G.tree X.node_table R.cells v (inside v h)
       (λ e. k (ap (λ (l : List ℕ). get_or l v 0) R.kinds ∙ e)) c
   reads-in-range (run v h e) = omega (arith, R.run v, R.run_below v (inside v h))
-  reads-in-range (map v q h i e) = omega (arith, R.map v q, R.map-Below v q (inside v h) i)
+  reads-in-range (map v q h i e) = omega (arith, R.map v q, R.map_below v q (inside v h) i)
   reads-in-range (leaf a h e) = omega (arith, R.leaf a, R.leaf_below a)
   reads-in-range (rule p a q h i j e) = omega (arith, R.inner p a q, R.inner_below p a q)
   reads-in-range (handled e) = true-false (sym good ∙ e)

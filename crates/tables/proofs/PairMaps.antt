@@ -82,7 +82,7 @@ module _ (ls b inn : List ℕ) (s k : ℕ) (st : List ℕ) (v : ℕ) (A : PairAr
     far_other = λ e. omega (arith, A.jump_above);
     inside = inside;
     here_below = λ q l. A.inner_below _;
-    near_below = A.map-Below;
+    near_below = A.map_below;
   }
 
   pub far-pair-args : FarPairArgs st s v (jump_cell b v) (v - 1) (left_of b v) inn (row_of ls b st s k v)

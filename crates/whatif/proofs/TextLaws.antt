@@ -22,29 +22,29 @@ ten-positive : (j : ℕ) → 1 ≤ 10 ^ j
 ten-positive zero = omega arith
 ten-positive (suc j) = omega (arith, ten-positive j)
 
-places-are : (f n k : ℕ) → IsDigitCount 10 1 n k → n ≤ f → places_in f n ≡ k
+places_are : (f n k : ℕ) → IsDigitCount 10 1 n k → n ≤ f → places_in f n ≡ k
 unfolding places_in
-places-are zero n zero w h = absurd (let z : 1 ≤ 0 = w.0 in omega arith)
-places-are zero n (suc zero) w h = refl
-places-are zero n (suc (suc j)) w h =
+places_are zero n zero w h = absurd (let z : 1 ≤ 0 = w.0 in omega arith)
+places_are zero n (suc zero) w h = refl
+places_are zero n (suc (suc j)) w h =
     let p : suc (suc j) - 1 ≡ suc j = omega arith in
     let a : 10 ^ (suc (suc j) - 1) ≤ n = w.2 (omega arith) in
     let q : 10 ^ suc j ≤ n = rw p at a in
     absurd (omega (arith, ten-positive j))
-places-are (suc f) n zero w h = absurd (let z : 1 ≤ 0 = w.0 in omega arith)
-places-are (suc f) n (suc zero) w h = let z : n < 10 ^ 1 = w.1 in rw (lt-ltb n 10 (omega arith)) refl
-places-are (suc f) n (suc (suc j)) w h =
+places_are (suc f) n zero w h = absurd (let z : 1 ≤ 0 = w.0 in omega arith)
+places_are (suc f) n (suc zero) w h = let z : n < 10 ^ 1 = w.1 in rw (lt-ltb n 10 (omega arith)) refl
+places_are (suc f) n (suc (suc j)) w h =
     let a : 10 ^ (suc (suc j) - 1) ≤ n = w.2 (omega arith) in
     let p : suc (suc j) - 1 ≡ suc j = omega arith in
     let q : 10 ^ suc j ≤ n = rw p at a in
     let b : n < 10 ^ suc (suc j) = w.1 in
     let r : suc j - 1 ≡ j = omega arith in
     rw (le-ltb n 10 (omega (arith, ten-positive j)))
-    (ap suc (places-are f (n / 10) (suc j) (omega arith, omega arith, λ g. rw r (omega arith)) (omega arith)))
+    (ap suc (places_are f (n / 10) (suc j) (omega arith, omega arith, λ g. rw r (omega arith)) (omega arith)))
 
 pub decimal-is : (n k : ℕ) → IsDigitCount 10 1 n k → last_digits 10 k n ≡ decimal n
 unfolding decimal
-decimal-is n k w = ap (λ (j : ℕ). last_digits 10 j n) (sym (places-are n n k w (omega arith)))
+decimal-is n k w = ap (λ (j : ℕ). last_digits 10 j n) (sym (places_are n n k w (omega arith)))
 
 pub ten-digits : (n k : ℕ) → IsDigitCount 10 1 n k → n < 4294967296 → k ≤ 10
 ten-digits n k w h = go (leb k 10) refl

@@ -35,7 +35,7 @@ module _ (b p ps : List ℕ) (r : ℕ) (q qs : List ℕ) (D : OutDone b p ps r q
   out-number = D.number
 
   pub out_kept : (r ≡ 0 → ⊥) → (q ≡ p) × (qs ≡ ps)
-  out_kept h = (D.plan-kept h, D.places-kept h)
+  out_kept h = (D.plan_kept h, D.places_kept h)
 
 -- ---- home: the planner's file of our plan
 

@@ -34,7 +34,7 @@ pub merge-clears : (first second out : List ℕ) (r : ℕ) (out' : List ℕ) →
     (rule_automaton second) t))
 merge-clears first second out r out' D z =
     let M : Mergeable first second = accepted-mergeable first second (length out) (sym D.number ∙ z) in
-    (D.merged z, merged-accepts first second M.IsFirst-passes M.second_passes M.few-states)
+    (D.merged z, merged-accepts first second M.first_passes M.second_passes M.few-states)
 
 module _ (first second lines : List ℕ) (agreed count r : ℕ) (lines' : List ℕ) (agreed' count' : ℕ)
     (D : AgreeExported first second lines agreed count r lines' agreed' count') (accepted : r ≡ 0) where

@@ -206,7 +206,7 @@ module _ (f : Siblings) (ls ks p : List ℕ) (n : ℕ) (A : ReadArgs f ls ks p n
         );
         small = λ i. label_small (get_or ls (v - 1) 0) (get_or ks (v - 1) 0)
             (labels_at ls ks (v - 1) A.labels_fit (omega arith) lengths) i;
-        short = run_short 256 ks 0 v run A.Runs-Fit (omega arith) (omega arith) R.run_in R.run-inner;
+        short = run_short 256 ks 0 v run A.runs_fit (omega arith) (omega arith) R.run_in R.run-inner;
       }
 
       pub reading-iteration : (d₁ left₁ run₁ : ℕ) (q₁ : List ℕ)

@@ -13,11 +13,11 @@ use lib.Dec.{ltb}
 use lib.ListN.{length, get_or, set, length-set}
 use lib.Seq.{get_or-set_same, get_or-set_other}
 use borrow.Author.Tests.{lt-ltb, le-ltb}
-use Rattle.trees.specs.Tree.{size, labelsOf, kindsOf}
-use Rattle.planner.specs.Siblings.{Siblings, count, preLabels, image, items, itemLabel, itemKind, places, emptyLabel}
+use Rattle.trees.specs.Tree.{size, labels_of, kinds_of}
+use Rattle.planner.specs.Siblings.{Siblings, count, pre_labels, image, items, item_label, item_kind, places, empty_label}
 use Rattle.planner.proofs.ImageLaws.{size-image, PlaceOf, place-item, NodeAt, item-place}
 use Rattle.planner.proofs.ItemLaws.{label-item, kind-item}
-use Rattle.planner.proofs.PreorderLaws.{length-preLabels}
+use Rattle.planner.proofs.PreorderLaws.{length-pre_labels}
 use Rattle.planner.specs.out.inner.Laid.{Filled, Nodes, LayArgs, Laid}
 
 -- ---- one byte everywhere
@@ -65,18 +65,18 @@ filling-end from to x p q i F h = record {
 -- ---- the nodes
 
 -- the labels and kinds of the nodes below v; a leaf's for the others
-abbrev labelBelow : ℕ → List ℕ → ℕ → ℕ
-labelBelow v ls u = cond (ltb u v) (get_or ls u 0) emptyLabel
+abbrev label_below : ℕ → List ℕ → ℕ → ℕ
+label_below v ls u = cond (ltb u v) (get_or ls u 0) empty_label
 
-abbrev kindBelow : ℕ → Option ℕ → ℕ
-kindBelow v none = 0
-kindBelow v (some u) = cond (ltb u v) 1 0
+abbrev kind_below : ℕ → Option ℕ → ℕ
+kind_below v none = 0
+kind_below v (some u) = cond (ltb u v) 1 0
 
-label-none : (ls : List ℕ) (x : Option ℕ) → emptyLabel ≡ itemLabel (labelBelow 0 ls) x
+label-none : (ls : List ℕ) (x : Option ℕ) → empty_label ≡ item_label (label_below 0 ls) x
 label-none ls none = refl
 label-none ls (some u) = rw (le-ltb u 0 (omega arith))
 
-kind-none : (x : Option ℕ) → 0 ≡ kindBelow 0 x
+kind-none : (x : Option ℕ) → 0 ≡ kind_below 0 x
 kind-none none = refl
 kind-none (some u) = rw (le-ltb u 0 (omega arith))
 
@@ -87,32 +87,32 @@ below_next u v h = elim (dec_lt u v) [
 ]
 
 label-other : (ls : List ℕ) (v : ℕ) (x : Option ℕ) → (x ≡ some v → ⊥)
-    → itemLabel (labelBelow v ls) x ≡ itemLabel (labelBelow (v + 1) ls) x
+    → item_label (label_below v ls) x ≡ item_label (label_below (v + 1) ls) x
 label-other ls v none h = refl
-label-other ls v (some u) h = ap (λ (b : Bool). cond b (get_or ls u 0) emptyLabel) (below_next u v (λ e. h (ap some e)))
+label-other ls v (some u) h = ap (λ (b : Bool). cond b (get_or ls u 0) empty_label) (below_next u v (λ e. h (ap some e)))
 
-kind-other : (v : ℕ) (x : Option ℕ) → (x ≡ some v → ⊥) → kindBelow v x ≡ kindBelow (v + 1) x
+kind-other : (v : ℕ) (x : Option ℕ) → (x ≡ some v → ⊥) → kind_below v x ≡ kind_below (v + 1) x
 kind-other v none h = refl
 kind-other v (some u) h = ap (λ (b : Bool). cond b 1 0) (below_next u v (λ e. h (ap some e)))
 
 label-all : (ls : List ℕ) (n : ℕ) (x : Option ℕ) → ((u : ℕ) → x ≡ some u → u < n)
-    → itemLabel (labelBelow n ls) x ≡ itemLabel (λ (u : ℕ). get_or ls u 0) x
+    → item_label (label_below n ls) x ≡ item_label (λ (u : ℕ). get_or ls u 0) x
 label-all ls n none h = refl
 label-all ls n (some u) h = rw (lt-ltb u n (h u refl))
 
-kind-all : (n : ℕ) (x : Option ℕ) → ((u : ℕ) → x ≡ some u → u < n) → kindBelow n x ≡ itemKind x
+kind-all : (n : ℕ) (x : Option ℕ) → ((u : ℕ) → x ≡ some u → u < n) → kind_below n x ≡ item_kind x
 kind-all n none h = refl
 kind-all n (some u) h = rw (lt-ltb u n (h u refl))
 
 pub record Laying (f : Siblings) (ls : List ℕ) (n : ℕ) (p q : List ℕ) (v : ℕ) : Type 0 where
-  pub label : (j : ℕ) → j < n → get_or q (12 + j) 0 ≡ itemLabel (labelBelow v ls) (get_or (items f 0) j none)
-  pub kind : (j : ℕ) → j < n → get_or q (12 + n + j) 0 ≡ kindBelow v (get_or (items f 0) j none)
+  pub label : (j : ℕ) → j < n → get_or q (12 + j) 0 ≡ item_label (label_below v ls) (get_or (items f 0) j none)
+  pub kind : (j : ℕ) → j < n → get_or q (12 + n + j) 0 ≡ kind_below v (get_or (items f 0) j none)
   pub head : (j : ℕ) → j < 12 → get_or q j 0 ≡ get_or p j 0
   pub excess : (j : ℕ) → 12 + 2 * n ≤ j → get_or q j 0 ≡ get_or p j 0
   pub same : length q ≡ length p
 
 pub length-labels-is : (f : Siblings) (ls ps : List ℕ) → Nodes f ls ps → length ls ≡ count f
-length-labels-is f ls ps N = ap length (sym N.labels) ∙ length-preLabels f
+length-labels-is f ls ps N = ap length (sym N.labels) ∙ length-pre_labels f
 
 module _ (f : Siblings) (ls ps p : List ℕ) (n : ℕ) (A : LayArgs f ls ps p n) where
   pub size_fits : n ≤ 65535
@@ -120,8 +120,8 @@ module _ (f : Siblings) (ls ps p : List ℕ) (n : ℕ) (A : LayArgs f ls ps p n)
 
   pub laying-start : Laying f ls n p p 0
   laying-start = record {
-    label = λ j h. A.labels-empty j h ∙ label-none ls (get_or (items f 0) j none);
-    kind = λ j h. A.kinds-empty j h ∙ kind-none (get_or (items f 0) j none);
+    label = λ j h. A.labels_empty j h ∙ label-none ls (get_or (items f 0) j none);
+    kind = λ j h. A.kinds_empty j h ∙ kind-none (get_or (items f 0) j none);
     head = λ j h. refl;
     excess = λ j h. refl;
     same = refl;
@@ -135,11 +135,11 @@ module _ (f : Siblings) (ls ps p : List ℕ) (n : ℕ) (A : LayArgs f ls ps p n)
     stands = place-item f 0 0 v in_tree
 
     pub place_inside : get_or ps v 0 < n
-    place_inside = omega (arith, stands.high, A.nodes.places-are v in_tree, A.size_is)
+    place_inside = omega (arith, stands.high, A.nodes.places_are v in_tree, A.size_is)
 
     item-there : get_or (items f 0) (get_or ps v 0) none ≡ some v
     item-there =
-        let e : get_or ps v 0 ≡ get_or (places f 0) v 0 - 0 = omega (arith, A.nodes.places-are v in_tree) in
+        let e : get_or ps v 0 ≡ get_or (places f 0) v 0 - 0 = omega (arith, A.nodes.places_are v in_tree) in
         let z : 0 + v ≡ v = omega arith in
         ap (λ (j : ℕ). get_or (items f 0) j none) e ∙ stands.item ∙ ap some z
 
@@ -148,7 +148,7 @@ module _ (f : Siblings) (ls ps p : List ℕ) (n : ℕ) (A : LayArgs f ls ps p n)
         let N : NodeAt f 0 0 j v = item-place f 0 0 j v e in
         let z : v - 0 ≡ v = omega arith in
         let g : get_or (places f 0) v 0 ≡ 0 + j = ap (λ (i : ℕ). get_or (places f 0) i 0) (sym z) ∙ N.is in
-        ne (omega (arith, g, A.nodes.places-are v in_tree))
+        ne (omega (arith, g, A.nodes.places_are v in_tree))
 
     module _ (q : List ℕ) (L : Laying f ls n p q v) where
       abbrev two : List ℕ
@@ -170,20 +170,20 @@ module _ (f : Siblings) (ls ps p : List ℕ) (n : ℕ) (A : LayArgs f ls ps p n)
           get_or-set_same (set q (12 + get_or ps v 0) (get_or ls v 0)) (12 + n + get_or ps v 0) 1 0
           (simp length-set (omega (arith, place_inside, L.same, A.room)))
 
-      next-label : (j : ℕ) → j < n → get_or two (12 + j) 0 ≡ itemLabel (labelBelow (v + 1) ls) (get_or (items f 0) j none)
+      next-label : (j : ℕ) → j < n → get_or two (12 + j) 0 ≡ item_label (label_below (v + 1) ls) (get_or (items f 0) j none)
       next-label j l = elim (ℕ_discrete j (get_or ps v 0)) [
         | yes e ↦ ap (λ (i : ℕ). get_or two (12 + i) 0) e ∙ label-there
-            ∙ sym (ap (λ (b : Bool). cond b (get_or ls v 0) emptyLabel) (lt-ltb v (v + 1) (omega arith)))
-            ∙ ap (itemLabel (labelBelow (v + 1) ls)) (sym (ap (λ (i : ℕ). get_or (items f 0) i none) e ∙ item-there))
+            ∙ sym (ap (λ (b : Bool). cond b (get_or ls v 0) empty_label) (lt-ltb v (v + 1) (omega arith)))
+            ∙ ap (item_label (label_below (v + 1) ls)) (sym (ap (λ (i : ℕ). get_or (items f 0) i none) e ∙ item-there))
         | no e ↦ other (12 + j) (λ q. e (omega arith)) (λ q. omega arith) ∙ L.label j l
             ∙ label-other ls v (get_or (items f 0) j none) (only-there j e)
       ]
 
-      next-kind : (j : ℕ) → j < n → get_or two (12 + n + j) 0 ≡ kindBelow (v + 1) (get_or (items f 0) j none)
+      next-kind : (j : ℕ) → j < n → get_or two (12 + n + j) 0 ≡ kind_below (v + 1) (get_or (items f 0) j none)
       next-kind j l = elim (ℕ_discrete j (get_or ps v 0)) [
         | yes e ↦ ap (λ (i : ℕ). get_or two (12 + n + i) 0) e ∙ kind-there
             ∙ sym (ap (λ (b : Bool). cond b 1 0) (lt-ltb v (v + 1) (omega arith)))
-            ∙ ap (kindBelow (v + 1)) (sym (ap (λ (i : ℕ). get_or (items f 0) i none) e ∙ item-there))
+            ∙ ap (kind_below (v + 1)) (sym (ap (λ (i : ℕ). get_or (items f 0) i none) e ∙ item-there))
         | no e ↦ other (12 + n + j) (λ q. omega (arith, place_inside)) (λ q. e (omega arith)) ∙ L.kind j l
             ∙ kind-other v (get_or (items f 0) j none) (only-there j e)
       ]
@@ -204,7 +204,7 @@ module _ (f : Siblings) (ls ps p : List ℕ) (n : ℕ) (A : LayArgs f ls ps p n)
       let small : (j u : ℕ) → get_or (items f 0) j none ≡ some u → u < v =
       λ j u e. (omega (arith, (item-place f 0 0 j u e).before)) in
       let g : ℕ → ℕ = λ u. get_or ls u 0 in
-      let named : (i : ℕ) → i < count f → g (0 + i) ≡ get_or (preLabels f) i 0 =
+      let named : (i : ℕ) → i < count f → g (0 + i) ≡ get_or (pre_labels f) i 0 =
       λ i l. (let z : 0 + i ≡ i = omega arith in ap g z ∙ ap (λ (x : List ℕ). get_or x i 0) (sym A.nodes.labels)) in
       record {
         labels = λ j l. L.label j l ∙ label-all ls v (get_or (items f 0) j none) (small j)

@@ -13,15 +13,15 @@ use native.Mathlib.Numerals.{add-one}
 use lib.Dec.{eqb}
 use lib.ListN.{length, get_or, drop, drop_of_length-le}
 use lib.Seq.{drop-cons}
-use Rattle.planner.specs.inner.OutMachine.{Entry, entry, toCome, closed, outward, Written, placed}
+use Rattle.planner.specs.inner.OutMachine.{Entry, entry, to_come, closed, outward, Written, placed}
 use Rattle.planner.proofs.OutMachine.{placed-items}
-use Rattle.planner.specs.out.inner.Stack.{stack_of, afterTop, Pushed, CloseArgs, ListsClosed, NodeArgs, NodeRead}
+use Rattle.planner.specs.out.inner.Stack.{stack_of, after_top, Pushed, CloseArgs, ListsClosed, NodeArgs, NodeRead}
 use Rattle.planner.specs.out.inner.Stack.{PlaceArgs, NodesPlaced}
-use Rattle.planner.proofs.out.StackLaws.{afterTop-toCome}
+use Rattle.planner.proofs.out.StackLaws.{after_top-to_come}
 
 -- what the loop gives after lists were closed
 abbrev resumed : List ℕ → ℕ → List Entry → List (Option ℕ)
-resumed cs v st = outward cs v (toCome st) false st
+resumed cs v st = outward cs v (to_come st) false st
 
 module _ (v depth next left first s : ℕ) (p ps q : List ℕ) (e : s ≡ left - 1) (P : Pushed depth v s first p q) where
   pushed-is : stack_of q (depth + 1) ≡ entry v (left - 1) (eqb first 1) ∷ stack_of p depth
@@ -39,7 +39,7 @@ module _ (v depth next left first s : ℕ) (p ps q : List ℕ) (e : s ≡ left -
     deeper = omega arith;
     same = P.same;
     kept = P.kept;
-    same-places = refl;
+    same_places = refl;
   }
 
   leaf-rest : (cs : List ℕ)
@@ -49,16 +49,16 @@ module _ (v depth next left first s : ℕ) (p ps q : List ℕ) (e : s ≡ left -
 
   pub node-leaf : (c depth₁ next₁ left₁ : ℕ) (qs : List ℕ) → c ≡ 0
       → ListsClosed q (depth + 1) (next + 1) ps depth₁ next₁ qs
-      → left₁ ≡ afterTop q depth₁ → NodeRead v c depth next left first p ps depth₁ next₁ left₁ 0 q qs
+      → left₁ ≡ after_top q depth₁ → NodeRead v c depth next left first p ps depth₁ next₁ left₁ 0 q qs
   node-leaf c depth₁ next₁ left₁ qs h L f = record {
     rest = λ cs. ap (λ (n : ℕ). placed (outward cs (v + 1) n false (stack_of q depth₁)) next₁ qs)
-        (f ∙ afterTop-toCome q depth₁)
+        (f ∙ after_top-to_come q depth₁)
         ∙ L.rest (resumed cs (v + 1)) ∙ leaf-rest cs
         ∙ ap (λ (n : ℕ). placed (outward (n ∷ cs) v left (eqb first 1) (stack_of p depth)) next ps) (sym h);
     deeper = L.lower;
     same = P.same;
     kept = P.kept;
-    same-places = L.same;
+    same_places = L.same;
   }
 
   pub leaf-args : (c : ℕ) → c ≡ 0 → NodeArgs p ps v c depth next left first → CloseArgs q ps (depth + 1) (next + 1)
@@ -85,7 +85,7 @@ pub record Placing (cs p ps q qs : List ℕ) (depth next left first v : ℕ) : T
   pub shallow : depth ≤ v
   pub within : v ≤ length cs
   pub same : length q ≡ length p
-  pub same-places : length qs ≡ length ps
+  pub same_places : length qs ≡ length ps
   pub kept : (j : ℕ) → length cs * 4 ≤ j → get_or q j 0 ≡ get_or p j 0
 
 pub placing-start : (cs p ps : List ℕ) → Placing cs p ps p ps 0 0 1 1 0
@@ -95,7 +95,7 @@ placing-start cs p ps = record {
   shallow = omega arith;
   within = omega arith;
   same = refl;
-  same-places = refl;
+  same_places = refl;
   kept = λ j h. refl;
 }
 
@@ -127,7 +127,7 @@ module _ (cs p ps q qs : List ℕ) (depth next left first v : ℕ) (A : PlaceArg
       shallow = omega (arith, N.deeper, C.shallow);
       within = omega arith;
       same = N.same ∙ C.same;
-      same-places = N.same-places ∙ C.same-places;
+      same_places = N.same_places ∙ C.same_places;
       kept = λ j l. N.kept j (omega (arith, C.shallow)) ∙ C.kept j l;
     }
 

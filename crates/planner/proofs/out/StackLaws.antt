@@ -14,9 +14,9 @@ use lib.ListN.{length, get_or, set, length-set}
 use lib.Seq.{get_or-set_same, get_or-set_other}
 use borrow.Author.Tests.{eq-eqb, ne_eqb}
 use Rattle.list_laws.proofs.BoolLaws.{true-false}
-use Rattle.planner.specs.inner.OutMachine.{Entry, entry, toCome, closed, outward, Written, placed}
+use Rattle.planner.specs.inner.OutMachine.{Entry, entry, to_come, closed, outward, Written, placed}
 use Rattle.planner.proofs.OutMachine.{placed-items}
-use Rattle.planner.specs.out.inner.Stack.{nodeOnTop, isLater, entry_at, stack_of, afterTop, goesOn, afterLeaf}
+use Rattle.planner.specs.out.inner.Stack.{node_on_top, is_later, entry_at, stack_of, after_top, goes_further, after_leaf}
 use Rattle.planner.specs.out.inner.Stack.{Pushed}
 
 pub stack_same : (p q : List ℕ) (d : ℕ) → ((j : ℕ) → j < d * 4 → get_or q j 0 ≡ get_or p j 0) → stack_of q d ≡ stack_of p d
@@ -84,40 +84,40 @@ module _ (p : List ℕ) (d a b c e : ℕ) (room : d * 4 + 4 ≤ length p) where
 
 module _ (k : List Entry → List (Option ℕ)) (p : List ℕ) where
   -- the top is written
-  pub close-iteration : (d : ℕ) (closing : Bool) (next : ℕ) (ps : List ℕ) → goesOn p (suc d) closing ≡ true
+  pub close-iteration : (d : ℕ) (closing : Bool) (next : ℕ) (ps : List ℕ) → goes_further p (suc d) closing ≡ true
       → placed (closed k (stack_of p (suc d)) closing) next ps
-      ≡ placed (closed k (stack_of p d) (isLater p d)) (afterLeaf closing next + 1)
-      (set ps (nodeOnTop p d) (afterLeaf closing next))
+      ≡ placed (closed k (stack_of p d) (is_later p d)) (after_leaf closing next + 1)
+      (set ps (node_on_top p d) (after_leaf closing next))
   unfolding stack_of
   close-iteration d true next ps e = refl
   close-iteration d false next ps e = rw e
 
-  pub close-end : (d : ℕ) (closing : Bool) → goesOn p d closing ≡ false
+  pub close-end : (d : ℕ) (closing : Bool) → goes_further p d closing ≡ false
       → closed k (stack_of p d) closing ≡ k (stack_of p d)
   unfolding stack_of
   close-end zero closing e = refl
   close-end (suc d) true e = absurd (true-false e)
   close-end (suc d) false e = rw e
 
-pub afterTop-toCome : (p : List ℕ) (d : ℕ) → afterTop p d ≡ toCome (stack_of p d)
+pub after_top-to_come : (p : List ℕ) (d : ℕ) → after_top p d ≡ to_come (stack_of p d)
 unfolding stack_of
-afterTop-toCome p zero = refl
-afterTop-toCome p (suc d) = refl
+after_top-to_come p zero = refl
+after_top-to_come p (suc d) = refl
 
 -- ---- the top, by a depth above 0
 
-pub top-some : (p : List ℕ) (d : ℕ) (closing : Bool) → goesOn p d closing ≡ true → 0 < d
+pub top-some : (p : List ℕ) (d : ℕ) (closing : Bool) → goes_further p d closing ≡ true → 0 < d
 top-some p zero closing e = absurd (true-false (sym e))
 top-some p (suc d) closing e = omega arith
 
-pub goesOn-closing : (p : List ℕ) (d : ℕ) → 0 < d → goesOn p d true ≡ true
-goesOn-closing p zero h = absurd (omega arith)
-goesOn-closing p (suc d) h = refl
+pub goes_further-closing : (p : List ℕ) (d : ℕ) → 0 < d → goes_further p d true ≡ true
+goes_further-closing p zero h = absurd (omega arith)
+goes_further-closing p (suc d) h = refl
 
-pub goesOn-open : (p : List ℕ) (d : ℕ) → 0 < d → goesOn p d false ≡ eqb (get_or p ((d - 1) * 4 + 2) 0) 0
-goesOn-open p zero h = absurd (omega arith)
-goesOn-open p (suc d) h = let e : d ≡ suc d - 1 = omega arith in ap (λ (i : ℕ). eqb (get_or p (i * 4 + 2) 0) 0) e
+pub goes_further-open : (p : List ℕ) (d : ℕ) → 0 < d → goes_further p d false ≡ eqb (get_or p ((d - 1) * 4 + 2) 0) 0
+goes_further-open p zero h = absurd (omega arith)
+goes_further-open p (suc d) h = let e : d ≡ suc d - 1 = omega arith in ap (λ (i : ℕ). eqb (get_or p (i * 4 + 2) 0) 0) e
 
-pub afterTop-top : (p : List ℕ) (d : ℕ) → 0 < d → afterTop p d ≡ get_or p ((d - 1) * 4 + 2) 0
-afterTop-top p zero h = absurd (omega arith)
-afterTop-top p (suc d) h = let e : d ≡ suc d - 1 = omega arith in ap (λ (i : ℕ). get_or p (i * 4 + 2) 0) e
+pub after_top-top : (p : List ℕ) (d : ℕ) → 0 < d → after_top p d ≡ get_or p ((d - 1) * 4 + 2) 0
+after_top-top p zero h = absurd (omega arith)
+after_top-top p (suc d) h = let e : d ≡ suc d - 1 = omega arith in ap (λ (i : ℕ). get_or p (i * 4 + 2) 0) e

@@ -5,21 +5,21 @@
 --   as it was; else both are unchanged
 -- OutArgs, OutWritten == the same for a file that passes
 use Rattle.std.specs.Prelude.{ℕ, ◌+◌, ◌*◌, ◌≡◌, List, ◌++◌, length, drop}
-use Rattle.formats.specs.Plan.{planLength}
-use Rattle.formats.specs.Checks.{firstNo}
-use Rattle.planner.specs.File.{fileCount, outChecks}
+use Rattle.formats.specs.Plan.{plan_length}
+use Rattle.formats.specs.Checks.{first_no}
+use Rattle.planner.specs.File.{file_count, out_checks}
 use Rattle.planner.specs.Conversion.{plan_of, places_of}
 
 pub record OutArgs (b : List ℕ) (n : ℕ) (p ps : List ℕ) : Type 0 where
-  pub passes : firstNo (outChecks b (length p) (length ps)) ≡ 0
-  pub count : n ≡ fileCount b
+  pub passes : first_no (out_checks b (length p) (length ps)) ≡ 0
+  pub count : n ≡ file_count b
 
 pub record OutWritten (b p ps q qs : List ℕ) : Type 0 where
-  pub plan : q ≡ plan_of b ++ drop (planLength (2 * fileCount b + 1)) p
-  pub places : qs ≡ places_of b ++ drop (fileCount b) ps
+  pub plan : q ≡ plan_of b ++ drop (plan_length (2 * file_count b + 1)) p
+  pub places : qs ≡ places_of b ++ drop (file_count b) ps
 
 pub record OutDone (b p ps : List ℕ) (r : ℕ) (q qs : List ℕ) : Type 0 where
-  pub number : r ≡ firstNo (outChecks b (length p) (length ps))
+  pub number : r ≡ first_no (out_checks b (length p) (length ps))
   pub written : r ≡ 0 → OutWritten b p ps q qs
-  pub plan-kept : (r ≡ 0 → ⊥) → q ≡ p
-  pub places-kept : (r ≡ 0 → ⊥) → qs ≡ ps
+  pub plan_kept : (r ≡ 0 → ⊥) → q ≡ p
+  pub places_kept : (r ≡ 0 → ⊥) → qs ≡ ps

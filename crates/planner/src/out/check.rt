@@ -1,7 +1,7 @@
 // The checks 19 to 21 of a planner's file that goes out.
 ghost use Rattle.std.specs.Prelude.{◌≡◌};
-ghost use Rattle.formats.specs.Checks.{firstNo};
-ghost use Rattle.planner.specs.File.{is_preorder, wellFormed, outRoom, outChecks};
+ghost use Rattle.formats.specs.Checks.{first_no};
+ghost use Rattle.planner.specs.File.{is_preorder, well_formed, out_room, out_checks};
 
 use crate::{EMPTY_LABEL, FILE_LIMIT};
 use formats::bytes::read32;
@@ -30,7 +30,7 @@ fn is_preorder(counts: &[u8]) -> bool
 
 // Check 19: header, length and counts.
 fn well_formed(file: &[u8]) -> bool
-    ensures { result ≡ wellFormed file.now }
+    ensures { result ≡ well_formed file.now }
 {
     if file.len() < PLAN_HEAD {
         return false;
@@ -56,7 +56,7 @@ fn well_formed(file: &[u8]) -> bool
 
 // Check 21: n in its limit, and both outputs, of these lengths, long enough.
 fn room_fits(n: usize, plan: usize, places: usize) -> bool
-    ensures { result ≡ outRoom n plan places }
+    ensures { result ≡ out_room n plan places }
 {
     if FILE_LIMIT < n {
         return false;
@@ -69,7 +69,7 @@ fn room_fits(n: usize, plan: usize, places: usize) -> bool
 
 // The checks 19, 20 and 21, in this order.
 pub fn check_out(file: &[u8], plan: usize, places: usize) -> u8
-    ensures { result ≡ firstNo (outChecks file.now plan places) }
+    ensures { result ≡ first_no (out_checks file.now plan places) }
 {
     if !well_formed(file) {
         return 19;

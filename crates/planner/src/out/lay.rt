@@ -2,18 +2,18 @@
 // the nodes.
 ghost use Rattle.std.specs.Prelude.{◌≡◌, ℕ, ◌+◌, ◌*◌, ◌<◌, ◌≤◌, length};
 ghost use Rattle.std.proofs.lemmas.List.Edits.{sets};
-ghost use Rattle.formats.specs.Layout.{planHead};
-ghost use Rattle.formats.specs.Limits.{nodeLimit};
+ghost use Rattle.formats.specs.Layout.{plan_head};
+ghost use Rattle.formats.specs.Limits.{node_limit};
 ghost use Rattle.planner.specs.Siblings.{Siblings};
-ghost use Rattle.planner.specs.out.inner.Laid.{planHeader, Filled, LayArgs, Laid, WriteArgs, PlanWritten};
+ghost use Rattle.planner.specs.out.inner.Laid.{plan_header, Filled, LayArgs, Laid, WriteArgs, PlanWritten};
 
 use crate::EMPTY_LABEL;
 use formats::layout::PLAN_HEAD;
 
 // The header of a plan of n nodes; a planner's file of n nodes has the same.
 pub fn write_header(plan: &mut [u8], n: usize)
-    requires { (planHead ≤ length plan.old) × (n ≤ nodeLimit) }
-    ensures { plan.new ≡ sets plan.old 0 (planHeader n) }
+    requires { (plan_head ≤ length plan.old) × (n ≤ node_limit) }
+    ensures { plan.new ≡ sets plan.old 0 (plan_header n) }
 {
     let kinds = PLAN_HEAD + n;
     plan[0] = (n % 256) as u8;

@@ -2,7 +2,7 @@
 // buffer, which is written afterwards, four bytes an entry: the node's number, how many siblings come after it, and 1
 // for the first of its list.
 ghost use Rattle.std.specs.Prelude.{◌≡◌, ◌∷◌, ℕ, ◌+◌, ◌-◌, ◌*◌, ◌<◌, ◌≤◌, eqb, length, get_or, set};
-ghost use Rattle.planner.specs.out.inner.Stack.{goesOn, afterLeaf, afterTop, nodeOnTop, isLater, PushArgs};
+ghost use Rattle.planner.specs.out.inner.Stack.{goes_further, after_leaf, after_top, node_on_top, is_later, PushArgs};
 ghost use Rattle.planner.specs.out.inner.Stack.{Pushed, CloseArgs, ListsClosed, NodeArgs, NodeRead, PlaceArgs};
 ghost use Rattle.planner.specs.out.inner.Stack.{NodesPlaced};
 
@@ -56,7 +56,7 @@ fn push(plan: &mut [u8], depth: usize, v: usize, after: u8, first: u8)
 // How many siblings come after the top of the stack.
 fn to_come(plan: &[u8], depth: usize) -> u8
     requires { depth * 4 ≤ length plan.now }
-    ensures { result ≡ afterTop plan.now depth }
+    ensures { result ≡ after_top plan.now depth }
 {
     if depth == 0 {
         return 0;
@@ -67,7 +67,7 @@ fn to_come(plan: &[u8], depth: usize) -> u8
 // Whether the top is to be written: its list is being closed, or nothing comes after it.
 fn goes_on(plan: &[u8], depth: usize, closing: bool) -> bool
     requires { depth * 4 ≤ length plan.now }
-    ensures { result ≡ goesOn plan.now depth closing }
+    ensures { result ≡ goes_further plan.now depth closing }
 {
     if depth == 0 {
         return false;
@@ -81,7 +81,7 @@ fn goes_on(plan: &[u8], depth: usize, closing: bool) -> bool
 // The place behind the leaf that comes before the last of a list.
 fn after_leaf(closing: bool, next: usize) -> usize
     requires { next ≤ 65535 }
-    ensures { result ≡ afterLeaf closing next }
+    ensures { result ≡ after_leaf closing next }
 {
     if closing {
         return next;
@@ -92,7 +92,7 @@ fn after_leaf(closing: bool, next: usize) -> usize
 // The node of the entry `at`.
 fn node_on_top(plan: &[u8], at: usize) -> usize
     requires { at * 4 + 4 ≤ length plan.now }
-    ensures { result ≡ nodeOnTop plan.now at }
+    ensures { result ≡ node_on_top plan.now at }
 {
     plan[at * 4] as usize + 256 * (plan[at * 4 + 1] as usize)
 }
@@ -100,7 +100,7 @@ fn node_on_top(plan: &[u8], at: usize) -> usize
 // Whether the entry `at` is not the first of its list.
 fn is_later(plan: &[u8], at: usize) -> bool
     requires { at * 4 + 4 ≤ length plan.now }
-    ensures { result ≡ isLater plan.now at }
+    ensures { result ≡ is_later plan.now at }
 {
     plan[at * 4 + 3] != 1
 }

@@ -81,7 +81,7 @@ differing-most f g s2 t (suc n) i = go (eqb (get_or f (get_or t.codes i 0 / s2) 
 
 module _ (first second : List ℕ) (s1 s2 k : ℕ) (A : TwoTables first second s1 s2 k) where
   P : RulesPass first
-  P = rules-pass first A.IsFirst-passes
+  P = rules-pass first A.first_passes
 
   Q : RulesPass second
   Q = rules-pass second A.second_passes

@@ -81,7 +81,7 @@ pub load-tied : (κs : Lfts 4) (a : ArgsD load_fn.signature κs) (r : ResD load_
     (s : AtExit (ended_of 4 load-kinds.ps load-kinds.r) κs) → load-reads.Post κs a r s
     → ScreenInPlace a.0
     (screens.load_all (inputs_of a.1.0.now a.1.1.0.now a.1.1.1.0.now a.1.1.1.1.0.now))
-    (load_answer r.answer-1) r.all
+    (load_answer r.answer) r.all
 load-tied κs a r s p = does p.call
 
 -- Read takes the run by `&`, to read only

@@ -87,7 +87,7 @@ module _ {M : Type 1} {𝓤 : Ura M} {𝓛 : Logic 𝓤} {K : Type 0} {Γ : List
       (is-fact : (r : Res T.signature x.0) (ws : Lasts T x.0 x.3)
       → (c x.0 x.3).ensures g r (at_exit T x.0 x.3 ws) ≡ fact 𝓤 (Φ r ws)) (value : Res T.signature x.0 → Val)
       (spelled : (r : Res T.signature x.0) (v : Val) → Is (type_at T.signature.result x.0) r (v ∷ []) → v ≡ value r) where
-    pub calls-on : {i : Item 𝓤} → ent 𝓤 (mean 𝓛 i) ((triple_of 𝓛 T.signature (closing 𝓛 T c)).pre (x, g))
+    pub calls-on : {i : Item 𝓤} → ent 𝓤 (mean 𝓛 i) ((triple_of 𝓛 T.signature (closing 𝓛 T c)).requires (x, g))
         → Opds K 𝓛 (i ∷ Γ) E xs (passed 𝓛 T.signature x)
         → ((r : Res T.signature x.0) (ws : Lasts T x.0 x.3) → Φ r ws → Is (type_at T.signature.result x.0) r (value r ∷ [])
         → Seq K 𝓛 (‵ (lasts T x.0 x.3 ws) ∷ raw (alive 𝓛 T.signature x.0 x.1) ∷ Γ) (lands C Λ E d (value r) b q))
@@ -108,7 +108,7 @@ module _ {M : Type 1} {𝓤 : Ura M} {𝓛 : Logic 𝓤} {K : Type 0} {Γ : List
         k r ws e (subst (λ (u : Val). Is R r (u ∷ [])) (spelled r v is) is))))))
 
     pub calls-with : {P Q : Fml} {tokens : SProp 𝓤}
-        → sep 𝓤 (sep 𝓤 tokens (sem 𝓛 (fsep P Q))) (emp 𝓤) ≡ (triple_of 𝓛 T.signature (closing 𝓛 T c)).pre (x, g)
+        → sep 𝓤 (sep 𝓤 tokens (sem 𝓛 (fsep P Q))) (emp 𝓤) ≡ (triple_of 𝓛 T.signature (closing 𝓛 T c)).requires (x, g)
         → Opds K 𝓛 ((‵ P ⊛ ‵ Q ⊛ raw tokens) ∷ Γ) E xs (passed 𝓛 T.signature x)
         → ((r : Res T.signature x.0) (ws : Lasts T x.0 x.3) → Φ r ws → Is (type_at T.signature.result x.0) r (value r ∷ [])
         → Seq K 𝓛 (‵ (lasts T x.0 x.3 ws) ∷ raw (alive 𝓛 T.signature x.0 x.1) ∷ Γ) (lands C Λ E d (value r) b q))

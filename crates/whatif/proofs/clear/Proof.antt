@@ -75,7 +75,7 @@ refusal c =
     let s = entered d in
     let l = d.load.result in
     refused-said s.args.plan.now s.args.rules.now n.result b.result f.result l.session _ _ l.answer
-    f.ensures.0 d.load.ensures _ c.before.answer.given.1 s.pre.0 n.ensures b.ensures
+    f.ensures.0 d.load.ensures _ c.before.answer.given.1 s.requires.0 n.ensures b.ensures
 
 send-load-refusal-requires : tie.Need-send-load-refusal-requires
 send-load-refusal-requires c κs = refusal c

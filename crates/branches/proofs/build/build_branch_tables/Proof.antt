@@ -12,27 +12,27 @@ use Rattle.branches.proofs.build.build_branch_tables.Tie as tie
 
 -- all checks pass
 passed : (c : tie.Else-no-ne0) → let g = c.before.before.before.before.before.before.args in
-    first_no (branch_build_checks g.plan.now g.branch.now (length g.node_table-1.now) (length g.state_table-1.now)) ≡ 0
+    first_no (branch_build_checks g.plan.now g.branch.now (length g.node_table.now) (length g.state_table.now)) ≡ 0
 passed c = sym c.before.check_branch_build-no.ensures ∙ c.if-no-ne0.false
 
 accepts : (c : tie.Else-no-ne0) → let g = c.before.before.before.before.before.before.args in
-    Accepted g.plan.now g.branch.now (length g.node_table-1.now) (length g.state_table-1.now)
+    Accepted g.plan.now g.branch.now (length g.node_table.now) (length g.state_table.now)
 accepts c = let g = c.before.before.before.before.before.before.args in
-    accepted g.plan.now g.branch.now (length g.node_table-1.now) (length g.state_table-1.now) (passed c)
+    accepted g.plan.now g.branch.now (length g.node_table.now) (length g.state_table.now) (passed c)
 
 returns : tie.Need-returns-then-no-ne0
 returns c =
     let g = c.before.before.before.before.before.before.args in
     let r = c.before.check_branch_build-no in
-    build-refused (built_node_table g.plan.now) (built_branch_table g.plan.now g.branch.now) g.node_table-1.now
-    g.state_table-1.now _
+    build-refused (built_node_table g.plan.now) (built_branch_table g.plan.now g.branch.now) g.node_table.now
+    g.state_table.now _
     r.result r.ensures c.if-no-ne0.true
 
 write-branch-requires : tie.Need-write_branch-requires
 write-branch-requires c κs =
     let i = c.before.before.before.before.before in
     let g = i.before.before.before.before.before.before.args in
-    part-args g.plan.now g.branch.now (length g.node_table-1.now) (length g.state_table-1.now) (passed i) _ _ _
+    part-args g.plan.now g.branch.now (length g.node_table.now) (length g.state_table.now) (passed i) _ _ _
     c.before.before.before.before.read32-n.ensures c.before.before.before.read32-s.ensures
     c.before.before.read32-k.ensures
 
@@ -41,7 +41,7 @@ returns-2 c =
     let w = c.before.before.before.before in
     let i = w.before.before.before.before.before.before in
     let g = i.before.before.before.before.before.before.args in
-    build-done (built_node_table g.plan.now) (built_branch_table g.plan.now g.branch.now) g.node_table-1.now g.state_table-1.now _
+    build-done (built_node_table g.plan.now) (built_branch_table g.plan.now g.branch.now) g.node_table.now g.state_table.now _
     w.write_branch.new.1.1.1.1.1.0 w.write_branch.new.1.1.1.1.1.1.0 (passed i)
     w.write_branch.ensures.links w.write_branch.ensures.states
 

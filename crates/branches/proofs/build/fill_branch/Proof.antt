@@ -12,7 +12,7 @@ fill-steps-requires : tie.Need-fill_steps-requires
 fill-steps-requires c κs =
     let b = c.before.before.before.before.build_node_table in
     let a = c.before.before.before.before.before.before.before.before.before.before.before in
-    fill-branch-args _ _ _ _ _ _ _ a.requires a.args.node_table-1.now b.new.1.0 b.ensures b.auto.1.0
+    fill-branch-args _ _ _ _ _ _ _ a.requires a.args.node_table.now b.new.1.0 b.ensures b.auto.1.0
 
 fill-maps-requires : tie.Need-fill_maps-requires
 fill-maps-requires c κs =
@@ -22,7 +22,7 @@ fill-maps-requires c κs =
     let f = d.fill_steps in
     let b = e.build_node_table in
     rw f.auto.1.1.1.1.1.1.0
-    (fill-branch-args _ _ _ _ _ _ _ a.requires a.args.node_table-1.now b.new.1.0 b.ensures b.auto.1.0)
+    (fill-branch-args _ _ _ _ _ _ _ a.requires a.args.node_table.now b.new.1.0 b.ensures b.auto.1.0)
 
 returns : tie.Need-returns
 returns c =
@@ -32,7 +32,7 @@ returns c =
     let a = e.before.before.before.before.before.before.before in
     let f = d.fill_steps in
     let b = e.build_node_table in
-    filled _ _ _ _ _ _ _ a.requires a.args.node_table-1.now b.new.1.0 b.ensures a.args.state_table-1.now
+    filled _ _ _ _ _ _ _ a.requires a.args.node_table.now b.new.1.0 b.ensures a.args.state_table.now
     f.new.1.1.1.1.1.1.0 m.new.1.1.1.1.1.1.0 refl
     (m.auto.1.1.1.1.1.1.0 ∙ f.auto.1.1.1.1.1.1.0)
     f.ensures m.ensures

@@ -9,17 +9,17 @@ fill-branch-requires : tie.Need-fill_branch-requires
 fill-branch-requires c κs =
     let s = c.before.before.before.before.before.before.before.before.before in
     parts-filled s.args.plan.now s.args.branch.now s.args.n s.args.s s.args.k
-    (length s.args.node_table-1.now)
-    (length s.args.state_table-1.now) s.requires
+    (length s.args.node_table.now)
+    (length s.args.state_table.now) s.requires
 
 returns : tie.Need-returns
 returns c =
     let f = c.before.before.before.before in
     let s = f.before.before.before.before.before.before.before.before.before.before in
     parts-written s.args.plan.now s.args.branch.now s.args.n s.args.s s.args.k
-    (length s.args.node_table-1.now)
-    (length s.args.state_table-1.now) s.requires
-    s.args.node_table-1.now s.args.state_table-1.now f.fill_branch.new.1.1.1.1.1.0
+    (length s.args.node_table.now)
+    (length s.args.state_table.now) s.requires
+    s.args.node_table.now s.args.state_table.now f.fill_branch.new.1.1.1.1.1.0
     f.fill_branch.new.1.1.1.1.1.1.0
     f.fill_branch.ensures
 

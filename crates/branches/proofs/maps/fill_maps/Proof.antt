@@ -22,27 +22,27 @@ abbrev decreases-loop : tie.decreases-loop-v
 decreases-loop labels node_table steps s k n bytes₀ root v₀ state_table v = v
 
 entered : (s : tie.Start invariant-loop decreases-loop) → BranchArgs s.args.labels.now s.args.node_table.now s.args.steps.now
-    s.args.s s.args.k s.args.n (length s.args.state_table-1.now)
+    s.args.s s.args.k s.args.n (length s.args.state_table.now)
 entered s = s.requires
 
 pos : (s : tie.Start invariant-loop decreases-loop) → 0 < s.args.n
 pos s = args-pos _ _ _ _ _ _ _ (entered s)
 
 -- the buffer at the function's entry and after the root's map
-kept-length : (a : tie.At-loop-v invariant-loop decreases-loop) → length a.loop-v.state_table-1 ≡ length
-    a.before.before.before.before.before.before.before.before.before.args.state_table-1.now
+kept-length : (a : tie.At-loop-v invariant-loop decreases-loop) → length a.loop-v.state_table ≡ length
+    a.before.before.before.before.before.before.before.before.before.args.state_table.now
 kept-length a = a.loop-v.invariant.1 ∙ a.before.before.before.same_row.auto.0
 
 -- the maps from v on, since the function's entry
 mapped : (a : tie.At-loop-v invariant-loop decreases-loop)
     → let g = a.before.before.before.before.before.before.before.before.before.args in
-    Mapped g.labels.now g.node_table.now g.steps.now g.s g.k g.n a.loop-v.v g.state_table-1.now
-    a.loop-v.state_table-1
+    Mapped g.labels.now g.node_table.now g.steps.now g.s g.k g.n a.loop-v.v g.state_table.now
+    a.loop-v.state_table
 mapped a =
     let s = a.before.before.before.before.before.before.before.before.before in
     let r = a.before.before.before.same_row in
-    a.loop-v.invariant.2 s.args.state_table-1.now
-    (map-root _ _ _ _ _ _ _ (entered s) (s.args.n - 1) s.args.state_table-1.now r.new.0 (omega (arith, pos s))
+    a.loop-v.invariant.2 s.args.state_table.now
+    (map-root _ _ _ _ _ _ _ (entered s) (s.args.n - 1) s.args.state_table.now r.new.0 (omega (arith, pos s))
     r.ensures)
 
 sub-root : tie.Need-overflow_sub-root invariant-loop decreases-loop
@@ -52,7 +52,7 @@ same-row-requires : tie.Need-same_row-requires invariant-loop decreases-loop
 same-row-requires c κs =
     let s = c.before.before.before.before.before in
     record {
-      room = row_in s.args.s s.args.n (s.args.n - 1) (length s.args.state_table-1.now) (omega (arith, pos s))
+      room = row_in s.args.s s.args.n (s.args.n - 1) (length s.args.state_table.now) (omega (arith, pos s))
           s.requires.room;
       few = omega (arith, s.requires.few);
     }
@@ -66,7 +66,7 @@ node-map-requires c κs =
     let a = i.before in
     let s = a.before.before.before.before.before.before.before.before.before in
     let e : a.loop-v.v - 1 + 1 ≡ a.loop-v.v = omega (arith, i.loop-v-test.true) in
-    map-args _ _ _ _ _ _ _ (entered s) (a.loop-v.v - 1) s.args.state_table-1.now a.loop-v.state_table-1 (rw e (mapped a))
+    map-args _ _ _ _ _ _ _ (entered s) (a.loop-v.v - 1) s.args.state_table.now a.loop-v.state_table (rw e (mapped a))
     (omega (arith, a.loop-v.invariant.0, i.loop-v-test.true)) (omega (arith, kept-length a, s.requires.room))
 
 loop-again : tie.Need-loop-v-preserved invariant-loop decreases-loop
@@ -78,7 +78,7 @@ loop-again c =
     let e : a.loop-v.v - 1 + 1 ≡ a.loop-v.v = omega (arith, i.loop-v-test.true) in (
       omega (arith, a.loop-v.invariant.0),
       n.node_map.auto.1.1.1.1.1.1.0 ∙ a.loop-v.invariant.1,
-      λ b d. map-iteration _ _ _ _ _ _ _ (entered s) (a.loop-v.v - 1) b a.loop-v.state_table-1
+      λ b d. map-iteration _ _ _ _ _ _ _ (entered s) (a.loop-v.v - 1) b a.loop-v.state_table
           n.node_map.new.1.1.1.1.1.1.0
           (rw e (a.loop-v.invariant.2 b d)) (omega (arith, a.loop-v.invariant.0, i.loop-v-test.true)) n.node_map.ensures,
     )

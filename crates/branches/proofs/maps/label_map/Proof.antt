@@ -24,10 +24,10 @@ returns c =
     let i = n.before.before in
     let g = i.before.before.before.before.before.before.before.before.args in
     row-ext g.s (λ q. get_or g.steps.now (get_or g.labels.now g.v 0 + q * g.k) 0)
-    (node_map g.labels.now g.node_table.now g.steps.now g.s g.k g.state_table-1.now g.v) g.v g.s
-    g.state_table-1.now
+    (node_map g.labels.now g.node_table.now g.steps.now g.s g.k g.state_table.now g.v) g.v g.s
+    g.state_table.now
     n.near_row.new.0 n.near_row.ensures
-    (λ q l. sym (node_map-near g.labels.now g.node_table.now g.steps.now g.s g.k g.state_table-1.now g.v q
+    (λ q l. sym (node_map-near g.labels.now g.node_table.now g.steps.now g.s g.k g.state_table.now g.v q
     i.if-j-p.true))
 
 returns-2 : tie.Need-returns-else-j-p
@@ -37,12 +37,12 @@ returns-2 c =
     let g = i.before.before.before.before.before.before.before.before.args in
     let p = parent_cell g.node_table.now g.v in
     row-ext g.s
-    (step_cell g.s g.state_table-1.now p (jump_cell g.node_table.now p) g.steps.now g.k
+    (step_cell g.s g.state_table.now p (jump_cell g.node_table.now p) g.steps.now g.k
     (get_or g.labels.now g.v 0))
-    (node_map g.labels.now g.node_table.now g.steps.now g.s g.k g.state_table-1.now g.v) g.v g.s
-    g.state_table-1.now
+    (node_map g.labels.now g.node_table.now g.steps.now g.s g.k g.state_table.now g.v) g.v g.s
+    g.state_table.now
     n.step_row.new.0 n.step_row.ensures
-    (λ q l. sym (node_map-far g.labels.now g.node_table.now g.steps.now g.s g.k g.state_table-1.now g.v q
+    (λ q l. sym (node_map-far g.labels.now g.node_table.now g.steps.now g.s g.k g.state_table.now g.v q
     i.if-j-p.false))
 
 pub label_map_spec : {M : Type 1} → statement M

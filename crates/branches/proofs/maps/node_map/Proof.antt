@@ -19,7 +19,7 @@ label-map-requires : tie.Need-label_map-requires
 label-map-requires c κs =
     let s = c.before.before.before.before.before.before in
     let g = s.args in
-    subst (λ (x : ℕ). NodeArgs g.labels.now g.node_table.now g.steps.now x g.k g.state_table-1.now
+    subst (λ (x : ℕ). NodeArgs g.labels.now g.node_table.now g.steps.now x g.k g.state_table.now
     g.v) c.before.if-s-eq2.true s.requires
 
 returns : tie.Need-returns-then-s-eq2
@@ -28,13 +28,13 @@ returns c =
     let t = f.before.before in
     let g = t.before.before.before.before.before.args in
     by_count (sym t.if-s-eq2.true) g.labels.now g.node_table.now g.steps.now g.k g.v
-    g.state_table-1.now f.label_map.new.1.1.1.1.1.1.0 f.label_map.ensures
+    g.state_table.now f.label_map.new.1.1.1.1.1.1.0 f.label_map.ensures
 
 label-map-requires-2 : tie.Need-label_map-requires-then-s-eq4
 label-map-requires-2 c κs =
     let s = c.before.before.before.before.before.before.before in
     let g = s.args in
-    subst (λ (x : ℕ). NodeArgs g.labels.now g.node_table.now g.steps.now x g.k g.state_table-1.now
+    subst (λ (x : ℕ). NodeArgs g.labels.now g.node_table.now g.steps.now x g.k g.state_table.now
     g.v) c.before.if-s-eq4.true s.requires
 
 returns-2 : tie.Need-returns-then-s-eq4
@@ -43,13 +43,13 @@ returns-2 c =
     let t = f.before.before in
     let g = t.before.before.before.before.before.before.args in
     by_count (sym t.if-s-eq4.true) g.labels.now g.node_table.now g.steps.now g.k g.v
-    g.state_table-1.now f.label_map-then-s-eq4.new.1.1.1.1.1.1.0 f.label_map-then-s-eq4.ensures
+    g.state_table.now f.label_map-then-s-eq4.new.1.1.1.1.1.1.0 f.label_map-then-s-eq4.ensures
 
 label-map-requires-3 : tie.Need-label_map-requires-then-s-eq16
 label-map-requires-3 c κs =
     let s = c.before.before.before.before.before.before.before.before in
     let g = s.args in
-    subst (λ (x : ℕ). NodeArgs g.labels.now g.node_table.now g.steps.now x g.k g.state_table-1.now
+    subst (λ (x : ℕ). NodeArgs g.labels.now g.node_table.now g.steps.now x g.k g.state_table.now
     g.v) c.before.if-s-eq16.true s.requires
 
 returns-3 : tie.Need-returns-then-s-eq16
@@ -58,7 +58,7 @@ returns-3 c =
     let t = f.before.before in
     let g = t.before.before.before.before.before.before.before.args in
     by_count (sym t.if-s-eq16.true) g.labels.now g.node_table.now g.steps.now g.k g.v
-    g.state_table-1.now f.label_map-then-s-eq16.new.1.1.1.1.1.1.0 f.label_map-then-s-eq16.ensures
+    g.state_table.now f.label_map-then-s-eq16.new.1.1.1.1.1.1.0 f.label_map-then-s-eq16.ensures
 
 pub node_map_spec : {M : Type 1} → statement M
 node_map_spec =

@@ -16,7 +16,7 @@ returns c =
     let o = c.before.before in
     let g = o.before.before.before.before.before.before.before.args in
     refused-exported g.plan.now g.rules.now g.node_table.now g.state_table.now g.nodes.now
-    o.count-reply.result o.count-reply.ensures g.counts-1.now g.parts.now g.links.now c.if-answer-ne0.true
+    o.count-reply.result o.count-reply.ensures g.counts.now g.parts.now g.links.now c.if-answer-ne0.true
 
 read32-requires : tie.Need-read32-s-requires
 read32-requires c κs =
@@ -31,7 +31,7 @@ returns-2 c =
     let o = e.before.before in
     let g = o.before.before.before.before.before.before.before.args in
     short-exported g.plan.now g.rules.now g.node_table.now g.state_table.now g.nodes.now
-    o.count-reply.result o.count-reply.ensures g.counts-1.now g.parts.now g.links.now e.if-answer-ne0.false
+    o.count-reply.result o.count-reply.ensures g.counts.now g.parts.now g.links.now e.if-answer-ne0.false
     (omega (arith, c.before.read32-s.ensures, c.if-counts-s.true))
 
 copy-counts-requires : tie.Need-copy_counts-requires
@@ -41,7 +41,7 @@ copy-counts-requires c κs =
     let g = o.before.before.before.before.before.before.before.args in
     copy-args g.plan.now g.rules.now g.node_table.now g.state_table.now g.nodes.now
     o.count-reply.result o.count-reply.ensures e.if-answer-ne0.false
-    c.before.before.before.read32-s.result c.before.before.before.read32-s.ensures g.counts-1.now
+    c.before.before.before.read32-s.result c.before.before.before.read32-s.ensures g.counts.now
     (omega (arith, c.before.before.if-counts-s.false))
 
 returns-3 : tie.Need-returns
@@ -51,7 +51,7 @@ returns-3 c =
     let o = e.before.before in
     let g = o.before.before.before.before.before.before.before.args in
     counted-exported g.plan.now g.rules.now g.node_table.now g.state_table.now g.nodes.now
-    o.count-reply.result o.count-reply.ensures g.counts-1.now g.parts.now g.links.now e.if-answer-ne0.false
+    o.count-reply.result o.count-reply.ensures g.counts.now g.parts.now g.links.now e.if-answer-ne0.false
     x.before.read32-s.result x.before.read32-s.ensures (omega (arith, x.if-counts-s.false)) _
     c.before.before.copy_counts.ensures
 

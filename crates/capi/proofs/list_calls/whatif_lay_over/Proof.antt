@@ -20,7 +20,7 @@ returns c =
     let g = o.before.before.before.before.before.before.before.args in
     refused-exported g.lower_nodes.now g.lower_labels.now g.upper_nodes.now g.upper_labels.now
     o.lay_over-reply.result o.lay_over-reply.ensures
-    k.laying_number-number.result k.laying_number-number.ensures g.nodes-1.now g.labels-1.now g.count.now
+    k.laying_number-number.result k.laying_number-number.ensures g.nodes.now g.labels.now g.count.now
     c.if-number-ne0.true
 
 returns-2 : tie.Need-returns-then-nodes-n
@@ -30,7 +30,7 @@ returns-2 c =
     let g = o.before.before.before.before.before.before.before.args in
     nodes-short g.lower_nodes.now g.lower_labels.now g.upper_nodes.now g.upper_labels.now
     o.lay_over-reply.result o.lay_over-reply.ensures
-    k.laying_number-number.result k.laying_number-number.ensures g.nodes-1.now g.labels-1.now g.count.now
+    k.laying_number-number.result k.laying_number-number.ensures g.nodes.now g.labels.now g.count.now
     c.before.if-number-ne0.false c.if-nodes-n.true
 
 returns-3 : tie.Need-returns-then-labels-n
@@ -40,7 +40,7 @@ returns-3 c =
     let g = o.before.before.before.before.before.before.before.args in
     labels-short g.lower_nodes.now g.lower_labels.now g.upper_nodes.now g.upper_labels.now
     o.lay_over-reply.result o.lay_over-reply.ensures
-    k.laying_number-number.result k.laying_number-number.ensures g.nodes-1.now g.labels-1.now g.count.now
+    k.laying_number-number.result k.laying_number-number.ensures g.nodes.now g.labels.now g.count.now
     c.before.before.if-number-ne0.false c.if-labels-n.true
 
 copy-nodes-requires : tie.Need-copy_nodes-requires
@@ -51,7 +51,7 @@ copy-nodes-requires c κs =
     nodes-args g.lower_nodes.now g.lower_labels.now g.upper_nodes.now g.upper_labels.now
     o.lay_over-reply.result o.lay_over-reply.ensures
     k.laying_number-number.result k.laying_number-number.ensures c.before.before.before.before.before.if-number-ne0.false
-    g.nodes-1.now (omega (arith, c.before.before.before.before.if-nodes-n.false))
+    g.nodes.now (omega (arith, c.before.before.before.before.if-nodes-n.false))
 
 copy-labels-requires : tie.Need-copy_labels-requires
 copy-labels-requires c κs =
@@ -62,7 +62,7 @@ copy-labels-requires c κs =
     labels-args g.lower_nodes.now g.lower_labels.now g.upper_nodes.now g.upper_labels.now
     o.lay_over-reply.result o.lay_over-reply.ensures
     k.laying_number-number.result k.laying_number-number.ensures
-    e.before.before.if-number-ne0.false g.labels-1.now
+    e.before.before.if-number-ne0.false g.labels.now
     (omega (arith, e.if-labels-n.false))
 
 cast-count : tie.Need-overflow_cast-count
@@ -88,7 +88,7 @@ returns-4 c =
     let g = o.before.before.before.before.before.before.before.args in
     laid-exported g.lower_nodes.now g.lower_labels.now g.upper_nodes.now g.upper_labels.now
     o.lay_over-reply.result o.lay_over-reply.ensures
-    k.laying_number-number.result k.laying_number-number.ensures g.nodes-1.now g.labels-1.now g.count.now
+    k.laying_number-number.result k.laying_number-number.ensures g.nodes.now g.labels.now g.count.now
     e.before.before.if-number-ne0.false
     (omega (arith, e.before.if-nodes-n.false)) (omega (arith, e.if-labels-n.false)) _ _ _
     y.before.copy_nodes.ensures

@@ -15,7 +15,7 @@ returns : tie.Need-returns-then-number-ne0
 returns c =
     let g = c.before.before.before.before.before.args in
     refused-exported g.first.now g.second.now c.before.agree-reply.result c.before.agree-reply.ensures
-    g.lines-1.now g.agreed.now g.count.now c.if-number-ne0.true
+    g.lines.now g.agreed.now g.count.now c.if-number-ne0.true
 
 mul-if2 : tie.Need-overflow_mul-n
 mul-if2 c =
@@ -30,7 +30,7 @@ returns-2 : tie.Need-returns-then-lines-n
 returns-2 c =
     let g = c.before.before.before.before.before.before.args in
     short-exported g.first.now g.second.now c.before.before.agree-reply.result
-    c.before.before.agree-reply.ensures g.lines-1.now g.agreed.now g.count.now c.before.if-number-ne0.false
+    c.before.before.agree-reply.ensures g.lines.now g.agreed.now g.count.now c.before.if-number-ne0.false
     c.if-lines-n.true
 
 put-lines-requires : tie.Need-put_lines-requires
@@ -39,7 +39,7 @@ put-lines-requires c κs =
     lines-args g.first.now g.second.now
     c.before.before.before.before.before.before.before.agree-reply.result
     c.before.before.before.before.before.before.before.agree-reply.ensures
-    c.before.before.before.before.before.before.if-number-ne0.false g.lines-1.now (omega
+    c.before.before.before.before.before.before.if-number-ne0.false g.lines.now (omega
     (arith, c.before.before.before.before.before.if-lines-n.false))
 
 cast-count : tie.Need-overflow_cast-count
@@ -67,7 +67,7 @@ returns-3 c =
     agree-exported g.first.now g.second.now
     x11.agree-reply.result
     x11.agree-reply.ensures
-    g.lines-1.now g.agreed.now g.count.now
+    g.lines.now g.agreed.now g.count.now
     x10.if-number-ne0.false (omega
     (arith, x9.if-lines-n.false)) _ _ _
     x3.put_lines.ensures c.none_shown.ensures refl

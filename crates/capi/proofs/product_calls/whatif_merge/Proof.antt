@@ -12,7 +12,7 @@ use Rattle.products.proofs.merging.merge.Reads as merge-reads
 returns : tie.Need-returns
 returns c =
     let g = c.before.before.before.before.before.before.before.before.args in
-    merge-exported g.first.now g.second.now g.merged-1.now c.before.before.before.merge-answer.result _
+    merge-exported g.first.now g.second.now g.merged.now c.before.before.before.merge-answer.result _
     c.before.before.before.merge-answer.ensures c.merge_number.result c.merge_number.ensures
 
 pub whatif_merge_spec : {M : Type 1} → statement M

@@ -21,7 +21,7 @@ returns-2 c = busy-load _ _ _ (omega arith) (sym c.before.any_busy.ensures ∙ c
 slice-aggregate-whatif-load : tie.Need-slice_bounds-whatif_load-end-2
 slice-aggregate-whatif-load c =
     let s = c.before.before.before.before.before.before.before.before.before.before in
-    sym (length-take-le 983 s.args.records-1.now (omega arith))
+    sym (length-take-le 983 s.args.records.now (omega arith))
 
 returns-3 : tie.Need-returns-then-number-ne0
 returns-3 c =

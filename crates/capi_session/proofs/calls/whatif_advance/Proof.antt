@@ -28,7 +28,7 @@ returns-2 c =
     let i = d.before.before in
     let l = i.before in
     let k = l.before.before.before.before.before.before in
-    advance-made k.before.args.rec-1.now _ _ _ _ _ _ _ (passed-laid _ _ l.laid_out.ensures i.if-not-laid_out.false-raw)
+    advance-made k.before.args.rec.now _ _ _ _ _ _ _ (passed-laid _ _ l.laid_out.ensures i.if-not-laid_out.false-raw)
     (λ j. omega (arith, k.slice_known-1.given j)) d.decode-s.ensures v.advance_step-step.ensures p.store_advanced.ensures
 
 pub whatif_advance_spec : {M : Type 1} → statement M

@@ -51,14 +51,14 @@ keep-requires : tie.Need-keep-count-requires invariant-loop decreases-loop
 keep-requires c κs =
     let a = c.before.before.before.before.before.before.before.before.before.before.before.args in
     let l = c.before.before.before.loop-i in
-    keep-args a.labels.now a.nodes.now a.changes.now (left_within l.count l.left-1) l.i l.invariant _
+    keep-args a.labels.now a.nodes.now a.changes.now (left_within l.count l.left) l.i l.invariant _
     c.before.before.before.before.put_places.ensures c.before.before.loop-i-test.true
 
 loop-again : tie.Need-loop-i-preserved invariant-loop decreases-loop
 loop-again c =
     let a = c.before.before.before.before.before.before.before.before.before.before.before.before.args in
     let l = c.before.before.before.before.loop-i in
-    keep-again a.labels.now a.nodes.now a.changes.now (left_within l.count l.left-1) l.i l.invariant
+    keep-again a.labels.now a.nodes.now a.changes.now (left_within l.count l.left) l.i l.invariant
     c.before.before.before.loop-i-test.true _ c.keep-count.ensures
 
 returns-2 : tie.Need-returns invariant-loop decreases-loop
@@ -66,7 +66,7 @@ returns-2 c =
     let a = c.before.before.before.before.before.before.before.before.before.args in
     let l = c.before.loop-i in
     all_done a.labels.now a.nodes.now a.changes.now (fit c.before.before.before.before) _
-    (keep-done a.labels.now a.nodes.now a.changes.now (left_within l.count l.left-1) l.i l.invariant
+    (keep-done a.labels.now a.nodes.now a.changes.now (left_within l.count l.left) l.i l.invariant
     c.loop-i-test.false)
 
 pub differing_spec : {M : Type 1} → statement M

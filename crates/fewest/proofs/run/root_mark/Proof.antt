@@ -23,12 +23,12 @@ slice-read-x c = omega (arith, some_node c.before.before.before.before.before.be
 shared-slice-read-result : tie.Need-bounds-marks-x
 shared-slice-read-result c =
     let g = c.before.before.before.before.before.before.before.before.before.before.before.before.args in
-    omega (arith, c.before.before.before.before.before.before.before.before.before.before.before.before.requires.marks, mark-in g.kinds.now g.labels.now g.leaves.now g.inner.now g.s g.k c.before.before.before.before.before.before.before.before.before.before.before.before.requires.pass g.work-1.now c.before.before.before.before.run_Up.new.1.1.1.1.1.1.0 c.before.before.before.before.run_Up.ensures)
+    omega (arith, c.before.before.before.before.before.before.before.before.before.before.before.before.requires.marks, mark-in g.kinds.now g.labels.now g.leaves.now g.inner.now g.s g.k c.before.before.before.before.before.before.before.before.before.before.before.before.requires.pass g.work.now c.before.before.before.before.run_Up.new.1.1.1.1.1.1.0 c.before.before.before.before.run_Up.ensures)
 
 returns : tie.Need-returns
 returns c =
     let g = c.before.before.before.before.before.before.before.before.before.before.before.before.args in
-    root-marked g.kinds.now g.labels.now g.leaves.now g.inner.now g.s g.k c.before.before.before.before.before.before.before.before.before.before.before.before.requires.pass g.work-1.now c.before.before.before.before.run_Up.new.1.1.1.1.1.1.0 c.before.before.before.before.run_Up.ensures g.marks.now
+    root-marked g.kinds.now g.labels.now g.leaves.now g.inner.now g.s g.k c.before.before.before.before.before.before.before.before.before.before.before.before.requires.pass g.work.now c.before.before.before.before.run_Up.new.1.1.1.1.1.1.0 c.before.before.before.before.run_Up.ensures g.marks.now
 
 pub root_mark_spec : {M : Type 1} → statement M
 root_mark_spec =

@@ -2,40 +2,40 @@
 --
 -- entry_at p i == entry i: number in two bytes, siblings to come, 1 for the first of a list
 -- stack_of p d == the first d entries, the last of them on top
--- goesOn p d closing == whether the top is to be written; afterTop p d == how many siblings come after the top
--- nodeOnTop p i, isLater p i == the node of entry i; whether it is not the first of its list
--- afterLeaf closing next == the place behind the leaf that ends a list
+-- goes_further p d closing == whether the top is to be written; after_top p d == how many siblings come after the top
+-- node_on_top p i, is_later p i == the node of entry i; whether it is not the first of its list
+-- after_leaf closing next == the place behind the leaf that ends a list
 -- CloseArgs, ListsClosed; NodeArgs, NodeRead; PlaceArgs, NodesPlaced == what a function needs, and what it has done, by
 --   the definition of the loop: the same items are still to be written, to the same places
 use Rattle.std.specs.Prelude.{ℕ, zero, suc, ◌+◌, ◌-◌, ◌*◌, ◌≤◌, ◌<◌, ◌≡◌, Bool, true, false, cond, not, List, [], ◌∷◌, eqb, length, get_or}
 use Rattle.std.proofs.Math.Option.{Option}
-use Rattle.planner.specs.inner.OutMachine.{Entry, entry, toCome, closed, outward, Written, placed}
+use Rattle.planner.specs.inner.OutMachine.{Entry, entry, to_come, closed, outward, Written, placed}
 
-abbrev pub nodeOnTop : List ℕ → ℕ → ℕ
-nodeOnTop p i = get_or p (i * 4) 0 + 256 * get_or p (i * 4 + 1) 0
+abbrev pub node_on_top : List ℕ → ℕ → ℕ
+node_on_top p i = get_or p (i * 4) 0 + 256 * get_or p (i * 4 + 1) 0
 
-abbrev pub isLater : List ℕ → ℕ → Bool
-isLater p i = not (eqb (get_or p (i * 4 + 3) 0) 1)
+abbrev pub is_later : List ℕ → ℕ → Bool
+is_later p i = not (eqb (get_or p (i * 4 + 3) 0) 1)
 
 abbrev pub entry_at : List ℕ → ℕ → Entry
-entry_at p i = entry (nodeOnTop p i) (get_or p (i * 4 + 2) 0) (eqb (get_or p (i * 4 + 3) 0) 1)
+entry_at p i = entry (node_on_top p i) (get_or p (i * 4 + 2) 0) (eqb (get_or p (i * 4 + 3) 0) 1)
 
 unfoldable pub stack_of : List ℕ → ℕ → List Entry
 stack_of p zero = []
 stack_of p (suc i) = entry_at p i ∷ stack_of p i
 
-abbrev pub afterTop : List ℕ → ℕ → ℕ
-afterTop p zero = 0
-afterTop p (suc i) = get_or p (i * 4 + 2) 0
+abbrev pub after_top : List ℕ → ℕ → ℕ
+after_top p zero = 0
+after_top p (suc i) = get_or p (i * 4 + 2) 0
 
-abbrev pub goesOn : List ℕ → ℕ → Bool → Bool
-goesOn p zero closing = false
-goesOn p (suc i) true = true
-goesOn p (suc i) false = eqb (get_or p (i * 4 + 2) 0) 0
+abbrev pub goes_further : List ℕ → ℕ → Bool → Bool
+goes_further p zero closing = false
+goes_further p (suc i) true = true
+goes_further p (suc i) false = eqb (get_or p (i * 4 + 2) 0) 0
 
-abbrev pub afterLeaf : Bool → ℕ → ℕ
-afterLeaf true next = next
-afterLeaf false next = next + 1
+abbrev pub after_leaf : Bool → ℕ → ℕ
+after_leaf true next = next
+after_leaf false next = next + 1
 
 pub record PushArgs (p : List ℕ) (depth v : ℕ) : Type 0 where
   pub room : depth * 4 + 4 ≤ length p
@@ -72,7 +72,7 @@ pub record NodeRead (v c depth next left first : ℕ) (p ps : List ℕ) (depth�
   pub deeper : depth₁ ≤ depth + 1
   pub same : length q ≡ length p
   pub kept : (j : ℕ) → depth * 4 + 4 ≤ j → get_or q j 0 ≡ get_or p j 0
-  pub same-places : length qs ≡ length ps
+  pub same_places : length qs ≡ length ps
 
 pub record PlaceArgs (cs p ps : List ℕ) : Type 0 where
   pub small : length cs ≤ 32767

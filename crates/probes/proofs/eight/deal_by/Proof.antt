@@ -24,14 +24,14 @@ loop-again : tie.Need-loop-left-preserved invariant-loop decreases-loop
 loop-again c =
     let d = c.before.before in
     let l = d.before.before.loop-left in (
-      dealt-once _ l.u-1 l.at l.left _ _ (omega arith) d.deal_on-out.ensures c.next_after-at.ensures ∙ l.invariant.0,
-      next-once _ l.u-1 l.at l.left _ _ (omega arith) d.deal_on-out.ensures c.next_after-at.ensures ∙ l.invariant.1,
+      dealt-once _ l.u l.at l.left _ _ (omega arith) d.deal_on-out.ensures c.next_after-at.ensures ∙ l.invariant.0,
+      next-once _ l.u l.at l.left _ _ (omega arith) d.deal_on-out.ensures c.next_after-at.ensures ∙ l.invariant.1,
     )
 
 returns : tie.Need-returns invariant-loop decreases-loop
 returns c =
     let l = c.before.loop-left in
-    (all-dealt _ l.u-1 l.at l.left (omega arith) ∙ l.invariant.0, next-dealt _ l.u-1 l.at l.left (omega arith) ∙ l.invariant.1)
+    (all-dealt _ l.u l.at l.left (omega arith) ∙ l.invariant.0, next-dealt _ l.u l.at l.left (omega arith) ∙ l.invariant.1)
 
 pub deal_by_spec : {M : Type 1} → statement M
 deal_by_spec =

@@ -22,7 +22,7 @@ loop-holds c = refl
 loop-again : tie.Need-loop-left-preserved invariant-loop decreases-loop
 loop-again c =
     let l = c.before.before.before.loop-left in
-    once_more _ l.u-1 _ l.left l.invariant _ (omega arith) c.before.advance_at-out.ensures.leaves
+    once_more _ l.u _ l.left l.invariant _ (omega arith) c.before.advance_at-out.ensures.leaves
 
 returns : tie.Need-returns invariant-loop decreases-loop
 returns c =

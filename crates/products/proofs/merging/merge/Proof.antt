@@ -28,14 +28,14 @@ second_passes e = sym e.before.check_rule_bytes-n2.ensures ∙ e.if-n2-ne0.false
 returns : tie.Need-returns-then-n1-ne0
 returns c =
     let g = c.before.before.before.before.before.args in
-    refused-done g.first.now g.second.now g.out-1.now _ c.if-n1-ne0.true (first-no g.first.now
-    g.second.now g.out-1.now _ c.before.check_rule_bytes-n1.ensures c.if-n1-ne0.true)
+    refused-done g.first.now g.second.now g.out.now _ c.if-n1-ne0.true (first-no g.first.now
+    g.second.now g.out.now _ c.before.check_rule_bytes-n1.ensures c.if-n1-ne0.true)
 
 returns-2 : tie.Need-returns-then-n2-ne0
 returns-2 c =
     let g = c.before.before.before.before.before.before.before.args in
-    refused-done g.first.now g.second.now g.out-1.now _ c.if-n2-ne0.true (second-no g.first.now
-    g.second.now g.out-1.now (first_passes c.before.before) _ c.before.check_rule_bytes-n2.ensures
+    refused-done g.first.now g.second.now g.out.now _ c.if-n2-ne0.true (second-no g.first.now
+    g.second.now g.out.now (first_passes c.before.before) _ c.before.check_rule_bytes-n2.ensures
     c.if-n2-ne0.true)
 
 read32-requires : tie.Need-read32-k-requires
@@ -47,8 +47,8 @@ read32-requires-2 c κs = omega (arith, (rules-pass _ (second_passes c.before)).
 returns-3 : tie.Need-returns-then-read32-k
 returns-3 c =
     let g = c.before.before.before.before.before.before.before.before.before.before.args in
-    refused-done g.first.now g.second.now g.out-1.now 23 (λ z. omega arith)
-    (labels-no g.first.now g.second.now g.out-1.now (first_passes
+    refused-done g.first.now g.second.now g.out.now 23 (λ z. omega arith)
+    (labels-no g.first.now g.second.now g.out.now (first_passes
     c.before.before.before.before.before) (second_passes c.before.before.before) (λ e. c.if-read32-k.true
     (c.before.read32.ensures ∙ sym e ∙ sym c.before.before.read32-k.ensures)))
 
@@ -90,8 +90,8 @@ returns-4 : tie.Need-returns-then-s-gt-STATE_LIMIT
 returns-4 c =
     let C = counted c.before in
     let g = c.before.before.before.before.before.before.before.before.before.before.before.before.before.args in
-    refused-done g.first.now g.second.now g.out-1.now 24 (λ z. omega arith)
-    (states-no g.first.now g.second.now g.out-1.now C.one C.two C.same _ _ _ C.of_one
+    refused-done g.first.now g.second.now g.out.now 24 (λ z. omega arith)
+    (states-no g.first.now g.second.now g.out.now C.one C.two C.same _ _ _ C.of_one
     C.of_two C.labels c.if-s-gt-STATE_LIMIT.true)
 
 add-if5 : tie.Need-overflow_add-k
@@ -111,8 +111,8 @@ returns-5 c =
     let n = c.before in
     let C = counted n.before.before in
     let g = n.before.before.before.before.before.before.before.before.before.before.before.before.before.before.args in
-    refused-done g.first.now g.second.now g.out-1.now 11 (λ z. omega arith)
-    (room-no g.first.now g.second.now g.out-1.now C.one C.two C.same _ _ _ C.of_one
+    refused-done g.first.now g.second.now g.out.now 11 (λ z. omega arith)
+    (room-no g.first.now g.second.now g.out.now C.one C.two C.same _ _ _ C.of_one
     C.of_two C.labels (omega (arith, n.before.if-s-gt-STATE_LIMIT.false)) n.inner_count.result n.inner_count.ensures.value c.if-out-k.true)
 
 put-table-requires : tie.Need-put_table-requires

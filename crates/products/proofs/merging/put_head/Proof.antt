@@ -21,7 +21,7 @@ returns c =
     let s = x22 in
     let g = s.args in
     head-written g.s g.k
-    x20.inner_count.result g.out-1.now x18.put32.new.0 x14.put32-2.new.0
+    x20.inner_count.result g.out.now x18.put32.new.0 x14.put32-2.new.0
     x10.put32-3.new.0
     x6.put32-4.new.0 x2.put32-5.new.0 s.requires
     x20.inner_count.ensures.value

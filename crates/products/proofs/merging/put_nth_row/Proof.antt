@@ -19,26 +19,26 @@ module _ (s : tie.Start) where
   small = let g = s.args in rows-small g.first.now g.second.now g.s1 g.s2 g.k g.r s.requires.inner s.requires.inside
 
   runs : (length s.args.first.now ≤ 16384) × (length s.args.second.now ≤ 16384)
-  runs = let g = s.args in runs-small g.first.now g.second.now g.s1 g.s2 g.k g.r s.pre.inner s.pre.inside
+  runs = let g = s.args in runs-small g.first.now g.second.now g.s1 g.s2 g.k g.r s.requires.inner s.requires.inside
 
   one_end : let g = s.args in first_row g.s1 g.s2 g.k g.r + g.s1 ≤ length g.first.now
-  one_end = let g = s.args in first-end g.first.now g.second.now g.s1 g.s2 g.k g.r s.pre.inner s.pre.inside
+  one_end = let g = s.args in first-end g.first.now g.second.now g.s1 g.s2 g.k g.r s.requires.inner s.requires.inside
 
   two-end : let g = s.args in second_row g.s2 g.k g.r + g.s2 ≤ length g.second.now
-  two-end = let g = s.args in second-end g.first.now g.second.now g.s1 g.s2 g.k g.r s.pre.inner s.pre.inside
+  two-end = let g = s.args in second-end g.first.now g.second.now g.s1 g.s2 g.k g.r s.requires.inner s.requires.inside
 
 put-row-requires : tie.Need-put_row-requires
 put-row-requires c κs =
     let s = c.before.before.before.before.before.before in
     let g = s.args in
     nth-row g.first.now g.second.now g.s1 g.s2 g.k g.r s.requires.inner s.requires.inside g.at
-    g.out-1.now s.requires.room
+    g.out.now s.requires.room
 
 returns : tie.Need-returns
 returns c =
     let s = c.before.before.before.before.before.before.before.before.before in
     let g = s.args in
-    c.before.before.put_row.ensures ∙ ap (λ (x : List ℕ). written g.at x g.out-1.now) (nth-is g.first.now
+    c.before.before.put_row.ensures ∙ ap (λ (x : List ℕ). written g.at x g.out.now) (nth-is g.first.now
     g.second.now g.s1 g.s2 g.k g.r s.requires.inner s.requires.inside)
 
 pub put_nth_row_spec : {M : Type 1} → statement M

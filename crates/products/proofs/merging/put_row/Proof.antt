@@ -67,7 +67,7 @@ returns : tie.Need-returns invariant-loop decreases-loop
 returns c =
     let g = c.before.before.before.before.before.args in
     let l = c.before.loop-p in
-    row_done g.first.now g.second.now g.s2 g.at g.out-1.now l.out-1 l.p l.invariant.1 l.invariant.2
+    row_done g.first.now g.second.now g.s2 g.at g.out.now l.out l.p l.invariant.1 l.invariant.2
     c.loop-p-test.false
 
 pub put_row_spec : {M : Type 1} → statement M

@@ -18,7 +18,7 @@ put-leaves-requires : tie.Need-put_leaves-requires
 put-leaves-requires c κs =
     let s = c.before.before.before.before.before.before.before.before.before.before.before.before.before in
     let T = s.requires.tables in
-    let o = s.args.out-1.now in
+    let o = s.args.out.now in
     leaves-args _ _ _ _ _ _ s.requires _ _ _ (leaves-first _ _ _ _ _ T) (leaves-second _ _ _ _ _ T)
     (length-1 _ _ _ _ _ _ s.requires _ o o o 0 c.before.before.before.before.before.put_head.ensures)
 
@@ -29,7 +29,7 @@ put-inner-requires c κs =
     let x14 = x11.before.before.before in
     let s = x14.before.before.before.before.before in
     let T = s.requires.tables in
-    let o = s.args.out-1.now in
+    let o = s.args.out.now in
     inner-args _ _ _ _ _ _ s.requires _ _ _ (inner_first _ _ _ _ _ T _ x14.before.inner_count.ensures.value)
     (inner-second _ _ _ _ _ T _ x14.inner_count-2.ensures.value)
     (length-2 _ _ _ _ _ _ s.requires _ _ o o 0 x11.put_head.ensures _ _ (leaves-first _ _ _ _ _ T)
@@ -47,7 +47,7 @@ put-marks-requires c κs =
     let n = x19.before.inner_count-2.ensures.value in
     marks-args _ _ _ _ _ _ s.requires _ _ x19.inner_count-3.result _ (marks-first _ _ _ _ _ T _ m)
     (marks-second _ _ _ _ _ T _ n) x19.inner_count-3.ensures.value
-    (length-3 _ _ _ _ _ _ s.requires _ _ _ s.args.out-1.now 0 x17.put_head.ensures _ _ (leaves-first _ _ _ _ _ T)
+    (length-3 _ _ _ _ _ _ s.requires _ _ _ s.args.out.now 0 x17.put_head.ensures _ _ (leaves-first _ _ _ _ _ T)
     (leaves-second _ _ _ _ _ T) x11.put_leaves.ensures _ _ (inner_first _ _ _ _ _ T _ m)
     (inner-second _ _ _ _ _ T _ n) x5.put_inner.ensures)
 

@@ -17,11 +17,11 @@ same-join : (X : View) (a : ℕ) (x y l r : Option Reached) → l ≡ x → r �
     → climbed_of (join_on X a x y) ≡ climbed_of (join_on X a l r)
 same-join X a x y l r e f = ap₂ (λ (i j : Option Reached). climbed_of (join_on X a i j)) (sym e) (sym f)
 
-left_is : (l : tie.In-Reached-2) → reached_in l.before.before.before.args.left-1
+left_is : (l : tie.In-Reached-2) → reached_in l.before.before.before.args.left
     ≡ some l.left-1.given.0.0
 left_is l = ap reached_in l.left-1.given.1
 
-right_is : (r : tie.In-Reached-right-2) → reached_in r.before.before.before.before.before.before.args.right-1
+right_is : (r : tie.In-Reached-right-2) → reached_in r.before.before.before.before.before.before.args.right
     ≡ some r.right-1.given.0.0
 right_is r = ap reached_in r.right-1.given.1
 
@@ -88,7 +88,7 @@ returns-3 c =
 returns-4 : tie.Need-returns-in-OutOfRange
 returns-4 c =
     let s = c.before.before.before in
-    join-left (view s) s.args.a (reached_in s.args.right-1)
+    join-left (view s) s.args.a (reached_in s.args.right)
     ∙ same-join (view s) s.args.a _ _ _ _ (ap reached_in c.enum_told-in-OutOfRange-1.given.1) refl
 
 pub join_on_spec : {M : Type 1} → statement M

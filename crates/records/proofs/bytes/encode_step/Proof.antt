@@ -10,13 +10,13 @@ use Rattle.records.proofs.bytes.encode_step.Statement.{statement}
 use Rattle.records.proofs.bytes.encode_step.Tie as tie
 
 returns : tie.Need-returns-then-out-ne-RECORD_BYTES
-returns c = step_other c.before.before.args.out-1.now _ c.if-out-ne-RECORD_BYTES.true
+returns c = step_other c.before.before.args.out.now _ c.if-out-ne-RECORD_BYTES.true
 
 slice-aggregate-put-head : tie.Need-slice_bounds-put_head-end-2
-slice-aggregate-put-head c = sym (length-take-le 13 c.before.before.before.args.out-1.now (omega arith))
+slice-aggregate-put-head c = sym (length-take-le 13 c.before.before.before.args.out.now (omega arith))
 
 put-head-requires : tie.Need-put_head-requires
-put-head-requires c κs = length-take-le 13 c.before.before.before.args.out-1.now (omega arith)
+put-head-requires c κs = length-take-le 13 c.before.before.before.args.out.now (omega arith)
 
 returns-2 : tie.Need-returns
 returns-2 c =
@@ -24,7 +24,7 @@ returns-2 c =
     let p₂ = p₃.before.before.before.before in
     let p₁ = p₂.before.before.before.before in
     let a = p₁.before.before.before.before in
-    step-done a.args.out-1.now a.args.h a.args.at a.args.state _ _ _ (omega arith)
+    step-done a.args.out.now a.args.h a.args.at a.args.state _ _ _ (omega arith)
     p₁.put_head.ensures p₂.put_state.ensures p₃.put_last.ensures
 
 pub encode_step_spec : {M : Type 1} → statement M

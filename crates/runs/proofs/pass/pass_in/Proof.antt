@@ -39,7 +39,7 @@ labelled l = changed (entered l).args.labels.now (entered l).args.nodes.now (ent
 labelled-length : (l : tie.At-loop-v invariant-loop decreases-loop) → length (labelled l) ≡ length (entered l).args.kinds.now
 labelled-length l =
     let s = entered l in
-    changed-length s.args.labels.now s.args.nodes.now s.args.news.now ∙ s.pre.0.labelled
+    changed-length s.args.labels.now s.args.nodes.now s.args.news.now ∙ s.requires.0.labelled
 
 labels_in : (l : tie.At-loop-v invariant-loop decreases-loop) (v : ℕ) → v < length (entered l).args.labels.now
     → get_or (labelled l) v 0 < (entered l).args.k
@@ -49,7 +49,7 @@ labels_in l v h =
     let vs = s.args.nodes.now in
     let bs = s.args.news.now in
     rw (label-changed ls vs bs v h)
-    (label_below s.args.k (get_or ls v 0) vs bs v (s.pre.0.labels_below v) s.pre.0.changes_below)
+    (label_below s.args.k (get_or ls v 0) vs bs v (s.requires.0.labels_below v) s.requires.0.changes_below)
 
 -- the marks say what the labels as changed are
 marks-are : (l : tie.At-loop-v invariant-loop decreases-loop) {to : ℕ} {marks : List ℕ}
@@ -64,7 +64,7 @@ marks-are l {marks = marks} m h u b =
     let e : u ≡ v + u - v = omega arith in
     ap (λ (i : ℕ). marked (get_or ls (v + u) 0) (get_or marks i 0)) e
     ∙ m.at (get_or ls (v + u) 0) (v + u) (omega arith) (omega arith)
-    ∙ sym (label-changed ls s.args.nodes.now s.args.news.now (v + u) (omega (arith, s.pre.0.labelled)))
+    ∙ sym (label-changed ls s.args.nodes.now s.args.news.now (v + u) (omega (arith, s.requires.0.labelled)))
 
 -- ---- the needs
 
@@ -76,7 +76,7 @@ loop-holds c =
       pass-start s.requires.1 s.requires.0.postorder,
       refl,
       ap (reads s.args.s s.args.k s.args.leaves.now s.args.inner.now s.args.kinds.now
-          (changed s.args.labels.now s.args.nodes.now s.args.news.now)) (no-trees s.args.states-1.now),
+          (changed s.args.labels.now s.args.nodes.now s.args.news.now)) (no-trees s.args.states.now),
     )
 
 span-end-requires : tie.Need-span_end-to-requires invariant-loop decreases-loop
@@ -88,7 +88,7 @@ slice-aggregate-mark-in c = sym c.before.unmarked-marks.ensures.size
 mark-in-requires : tie.Need-mark_in-requires invariant-loop decreases-loop
 mark-in-requires c κs =
     let e = c.before.before.span_end-to.ensures in
-    let p = (entered c.before.before.before.before).pre.0 in (
+    let p = (entered c.before.before.before.before).requires.0 in (
       record {
         rising = omega (arith, e.rising);
         few = e.few;
@@ -117,7 +117,7 @@ turns-requires c κs =
         leaf_below = p.leaf_below;
         inner_count = p.inner_count;
         inner_below = p.inner_below;
-        states = p.states-1;
+        states = p.states;
         letters = p.letters;
       },
       record {
@@ -167,7 +167,7 @@ returns c =
     let l = c.before in
     let s = entered l in
     pass-end (labelled l) s.args.leaves.now s.args.inner.now s.args.k l.loop-v.invariant.2 l.loop-v.invariant.4
-    (omega (arith, l.loop-v.invariant.0, c.loop-v-test.false)) (labelled-length l) s.pre.0.postorder
+    (omega (arith, l.loop-v.invariant.0, c.loop-v-test.false)) (labelled-length l) s.requires.0.postorder
 
 pub pass_in_spec : {M : Type 1} → statement M
 pass_in_spec =

@@ -47,7 +47,7 @@ shared-slice-read-if1 c =
     omega (arith, l.loop-v.invariant.0, a.room, stretch-inside a l.loop-v.invariant.1)
 
 shared-slice-read-a : tie.Need-bounds-labels-v invariant-loop decreases-loop
-shared-slice-read-a c = omega (arith, inside c.before, (entered c.before.before.before).pre.1.labelled)
+shared-slice-read-a c = omega (arith, inside c.before, (entered c.before.before.before).requires.1.labelled)
 
 cast-a : tie.Need-overflow_cast-a invariant-loop decreases-loop
 cast-a c =
@@ -67,7 +67,7 @@ step-requires c κs =
 add-v : tie.Need-overflow_add-v invariant-loop decreases-loop
 add-v c =
     let i = c.before.before.before.before.before in
-    record { fits = omega (arith, inside i, (entered i.before.before).pre.0.most) }
+    record { fits = omega (arith, inside i, (entered i.before.before).requires.0.most) }
 
 loop-less : tie.Need-loop-v-smaller invariant-loop decreases-loop
 loop-less c = omega (arith, inside c.before.before.before.before.before)

@@ -52,7 +52,7 @@ label-at-requires c κs =
     (omega (arith, a.inside, a.labelled), omega (arith, a.room))
 
 cast-a : tie.Need-overflow_cast-a invariant-loop decreases-loop
-cast-a c = record { fits = omega (arith, label_in c, (entered c.before.before).pre.0.letters) }
+cast-a c = record { fits = omega (arith, label_in c, (entered c.before.before).requires.0.letters) }
 
 step-requires : tie.Need-step-turned-requires invariant-loop decreases-loop
 step-requires c κs =

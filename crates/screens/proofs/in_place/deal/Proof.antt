@@ -148,7 +148,7 @@ module _ {M : Type 1} {𝓤 : Ura M} (𝓛 : Logic 𝓤) (at_mem : Memory → SP
   PhaseIs i = Is P.the_row (at a.0.now i).head.phase (phase-vals (at a.0.now i).head.phase)
 
   goes-next : PhaseIs 0 → PhaseIs 1 → PhaseIs 2 → PhaseIs 3 → PhaseIs 4 → PhaseIs 5 → PhaseIs 6 → PhaseIs 7 → ent 𝓤
-      (emp 𝓤) ((Next 𝓛 at_mem run).pre to-next)
+      (emp 𝓤) ((Next 𝓛 at_mem run).requires to-next)
   goes-next i₀ i₁ i₂ i₃ i₄ i₅ i₆ i₇ = qed 𝓛 [] ∵ nothing ! $ owned ! usize (Is usize) (uint_Makes 𝓛 w64) a.1.0 _ (refl, fits) $ fjoin ! $ owned ! P.the_row (Is P.the_row) (EL.makes P.the_type P'.the_plain 𝓛) (at
       a.0.now 7).head.phase _ i₇ $ fjoin ! $ owned ! P.the_row (Is P.the_row) (EL.makes P.the_type P'.the_plain
       𝓛) (at a.0.now 6).head.phase _ i₆ $ fjoin ! $ owned ! P.the_row (Is P.the_row) (EL.makes P.the_type
@@ -175,7 +175,7 @@ module _ {M : Type 1} {𝓤 : Ura M} (𝓛 : Logic 𝓤) (at_mem : Memory → SP
   to-tell r f = ((tt, tt, tt, (r.answer, (f, tt)), (EL.vals E.the_type E'.the_laws r.answer, (vint w64 f ∷ [], tt))), tt)
 
   goes-tell : (r : Advanced) (f : ℕ) → Is E.the_row r.answer (EL.vals E.the_type E'.the_laws r.answer) → f < 2 ^
-      64 → ent 𝓤 (emp 𝓤) ((Tell 𝓛 at_mem run).pre (to-tell r f))
+      64 → ent 𝓤 (emp 𝓤) ((Tell 𝓛 at_mem run).requires (to-tell r f))
   goes-tell r f is f-fits = qed 𝓛 [] ∵ nothing ! $ owned ! usize (Is usize) (uint_Makes 𝓛 w64) f _
       (refl, f-fits) $ fjoin ! $ owned ! E.the_row (Is E.the_row) (EL.makes E.the_type E'.the_plain 𝓛) r.answer
       _ is $ fjoin ! $ nothing ! $ join ! $ frame ! $ done !
@@ -309,7 +309,7 @@ module _ {M : Type 1} {𝓤 : Ura M} (𝓛 : Logic 𝓤) (at_mem : Memory → SP
         (init ! 12 refl ((EL.lawful P.the_type P'.the_laws 𝓛 tt).typed (at a.0.now 7).head.phase _
         (phase-is (at a.0.now 7) g₇)).0) $ elem_back ! T.the_row full_share a.0.now 7 fresh_session (vals (at
         a.0.now 7)) a.0.ref_ptr.0 a.0.ref_ptr.1 (has a.0.now 7 eight (lit≤ tt)) $
-        use0 𝓛 (raw ((Next 𝓛 at_mem run).pre to-next)) (goes-next (phase-is (at a.0.now 0) g₀) (phase-is (at
+        use0 𝓛 (raw ((Next 𝓛 at_mem run).requires to-next)) (goes-next (phase-is (at a.0.now 0) g₀) (phase-is (at
         a.0.now 1) g₁) (phase-is (at a.0.now 2) g₂) (phase-is (at a.0.now 3) g₃) (phase-is (at a.0.now 4) g₄) (phase-is (at a.0.now 5) g₅) (phase-is (at a.0.now 6) g₆) (phase-is (at a.0.now 7)
         g₇)) $ calls_at ! fm (Next 𝓛 at_mem run) known_next to-next (and_then ! (of-local ! 39 refl) (and_then !
         (of-local ! 35 refl) (and_then ! (of-local ! 31 refl) (and_then ! (of-local ! 27 refl) (and_then ! (of-local !
@@ -358,7 +358,7 @@ module _ {M : Type 1} {𝓤 : Ura M} (𝓛 : Logic 𝓤) (at_mem : Memory → SP
         (sub ! 0 refl (whole !)))) (of-local ! 47 refl) tt) (init ! 7 refl (tt, tt)) $
         rewrite ! 7 (λ (p : ℕ). ‵ (fat full_share ty_ptr l₃₀ 0 (vptr a.0.ref_ptr.0 p))) (sym (place_is 992 a.0.ref_ptr.1 f)) refl $ assigns ! (of_opd ! (load ! (from ! (fld ! refl (stop !))) (look_in ! 49 (sub ! 1 refl (whole
         !))))) (from ! (hop ! (look ! 7 refl) (stop !))) (store_raw ! 2 refl ((LL.lawful T.the_type T'.the_laws 𝓛
-        ).typed r.session _ owed.1.0).0) $ use0 𝓛 (raw ((Tell 𝓛 at_mem run).pre (to-tell r f))) (goes-tell r
+        ).typed r.session _ owed.1.0).0) $ use0 𝓛 (raw ((Tell 𝓛 at_mem run).requires (to-tell r f))) (goes-tell r
         f owed.0 isf.1) $ calls_at ! fm (Tell 𝓛 at_mem run) known-tell (to-tell r f) (and_then ! (load !
         (from ! (fld ! refl (stop !))) (look_in ! 50 (sub ! 0 refl (whole !)))) (and_then ! (of-local ! 54 refl)
         (no_more !))) (λ v₂. use1 𝓛 (later (some (λ (t : DealAnswer). (‵ ftrue ⊛ ‵ ((D.the_row).own_val t (v₂ ∷ []))) ⊛ raw

@@ -116,7 +116,7 @@ module _ {M : Type 1} {𝓤 : Ura M} (𝓛 : Logic 𝓤) (at_mem : Memory → SP
   to_step = ((tt, tt, tt, given, (vals (at a.0.now a.1.0), tt)), tt)
 
   goes_step : Is T.the_row (at a.0.now a.1.0) (vals (at a.0.now a.1.0)) → ent 𝓤 (emp 𝓤) ((Step 𝓛
-      at_mem run).pre to_step)
+      at_mem run).requires to_step)
   goes_step g = qed 𝓛 [] ∵ nothing ! $ owned ! T.the_row (Is T.the_row) (LL.makes T.the_type T'.the_plain 𝓛) (at
       a.0.now a.1.0) _ g $ fjoin ! $ nothing ! $ join ! $ frame ! $ done !
 
@@ -166,7 +166,7 @@ module _ {M : Type 1} {𝓤 : Ura M} (𝓛 : Logic 𝓤) (at_mem : Memory → SP
         sets ! (of_opd ! (of-local ! 5 refl)) (init ! 13 refl ((LL.lawful T.the_type T'.the_laws 𝓛).typed (at
         a.0.now a.1.0) _ g).0) $ elem_back ! T.the_row q a.0.now a.1.0 fresh_session (vals (at a.0.now a.1.0)) a.0.ref_ptr.0 a.0.ref_ptr.1 (has a.0.now a.1.0 eight inside) $
         shuts_slice ! tt T.the_row q a.0.now a.0.ref_ptr.0 a.0.ref_ptr.1 $
-        use0 𝓛 (raw ((Step 𝓛 at_mem run).pre to_step)) (goes_step g) $ calls_at ! fm (Step 𝓛 at_mem run) known
+        use0 𝓛 (raw ((Step 𝓛 at_mem run).requires to_step)) (goes_step g) $ calls_at ! fm (Step 𝓛 at_mem run) known
         to_step (and_then ! (of-local ! 11 refl) (no_more !)) (λ v. use1 𝓛 (later (some (λ (r : ReadAnswer). (‵ ftrue
         ⊛ ‵ ((E.the_row).own_val r (v ∷ []))) ⊛ raw (Ensured r)))) (id⊢ 𝓤 _) $ await ! tt $ pick ! (λ r. split ! $
         move ! (1 ∷ []) $ use1 𝓛 (raw (fact 𝓤 (read_answer r ≡ answer_on (at a.0.now a.1.0) calls.read))) (said

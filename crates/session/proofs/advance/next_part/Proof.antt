@@ -11,22 +11,22 @@ of a = a.before.before.before.before.before.before.before.before.before.before.b
 slice-aggregate-part : tie.Need-slice_bounds-part-end
 slice-aggregate-part c =
     let a = of c.before in
-    sym (length-take-le a.args.h.parts a.args.roots.now a.pre.few_parts)
+    sym (length-take-le a.args.h.parts a.args.roots.now a.requires.few_parts)
 
 slice-aggregate-part-2 : tie.Need-slice_bounds-part-end-2
 slice-aggregate-part-2 c =
     let a = of c.before.before in
-    sym (length-take-le a.args.h.handled a.args.states.now a.pre.few_handled)
+    sym (length-take-le a.args.h.handled a.args.states.now a.requires.few_handled)
 
 slice-aggregate-part-3 : tie.Need-slice_bounds-part-end-3
 slice-aggregate-part-3 c =
     let a = of c.before.before.before in
-    sym (length-take-le a.args.h.m a.args.nodes.now a.pre.few)
+    sym (length-take-le a.args.h.m a.args.nodes.now a.requires.few)
 
 slice-aggregate-part-4 : tie.Need-slice_bounds-part-end-4
 slice-aggregate-part-4 c =
     let a = of c.before.before.before.before in
-    sym (length-take-le a.args.h.m a.args.labels.now a.pre.few_labels)
+    sym (length-take-le a.args.h.m a.args.labels.now a.requires.few_labels)
 
 returns : tie.Need-returns
 returns c = (c.part.ensures.result, c.part.ensures.passed_most)

@@ -85,7 +85,7 @@ module _ {M : Type 1} {𝓤 : Ura M} (𝓛 : Logic 𝓤) (at_mem : Memory → SP
   abbrev to_step : (Step 𝓛 at_mem run).Ghost
   to_step = ((tt, tt, tt, (a.0.now, tt), (vals a.0.now, tt)), tt)
 
-  goes_step : ent 𝓤 (sem 𝓛 ((T.the_row).own_val a.0.now (vals a.0.now))) ((Step 𝓛 at_mem run).pre to_step)
+  goes_step : ent 𝓤 (sem 𝓛 ((T.the_row).own_val a.0.now (vals a.0.now))) ((Step 𝓛 at_mem run).requires to_step)
   goes_step = qed 𝓛 (‵ ((T.the_row).own_val a.0.now (vals a.0.now)) ∷ []) ∵ nothing ! $ move ! (1 ∷ 0 ∷ []) $
       fjoin ! $ nothing ! $ join ! $ frame ! $ done !
 
@@ -111,7 +111,7 @@ module _ {M : Type 1} {𝓤 : Ura M} (𝓛 : Logic 𝓤) (at_mem : Memory → SP
         !))) (look_raw ! 0 refl))) (init ! 6 refl ((LL.lawful T.the_type T'.the_laws 𝓛).typed a.0.now _ g
         ).0) $ shuts ! tt T.the_row q a.0.now (vals a.0.now) a.0.ref_ptr.0 a.0.ref_ptr.1 $
         owned ! T.the_row (Is T.the_row) (LL.makes T.the_type T'.the_plain 𝓛) a.0.now (vals a.0.now) g $
-        use1 𝓛 (raw ((Step 𝓛 at_mem run).pre to_step)) goes_step $ calls_at ! fm (Step 𝓛 at_mem run) known
+        use1 𝓛 (raw ((Step 𝓛 at_mem run).requires to_step)) goes_step $ calls_at ! fm (Step 𝓛 at_mem run) known
         to_step (and_then ! (of-local ! 6 refl) (no_more !)) (λ v. use1 𝓛 (later (some (λ (r : ReadAnswer). (‵ ftrue ⊛
         ‵ ((E.the_row).own_val r (v ∷ []))) ⊛ raw (Ensured r)))) (id⊢ 𝓤 _) $ await ! tt $ pick ! (λ r. split ! $
         move ! (1 ∷ []) $ use1 𝓛 (raw (fact 𝓤 (Holds r))) (said r) $ heard ! (Holds r) (λ e. split ! $

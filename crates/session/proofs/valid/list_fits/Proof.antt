@@ -22,12 +22,12 @@ returns c = λ rs qs. list-long (of c.before.before.before.before rs qs) c.if-m-
 slice-aggregate-below : tie.Need-slice_bounds-below-end
 slice-aggregate-below c =
     let a = at c.before in
-    take_long 64 a.args.h.m a.args.nodes.now a.pre.nodes (omega arith)
+    take_long 64 a.args.h.m a.args.nodes.now a.requires.nodes (omega arith)
 
 slice-aggregate-all-below : tie.Need-slice_bounds-all_below-end
 slice-aggregate-all-below c =
     let a = at c.before.before.before in
-    take_long 64 a.args.h.m a.args.labels.now a.pre.labels (omega arith)
+    take_long 64 a.args.h.m a.args.labels.now a.requires.labels (omega arith)
 
 zero-pairs-requires : tie.Need-zero_pairs-requires
 zero-pairs-requires c κs =

@@ -26,12 +26,12 @@ returns-2 c =
 slice-aggregate-rises-to : tie.Need-slice_bounds-rises_to-end
 slice-aggregate-rises-to c =
     let a = at c.before.before in
-    take_long 254 a.args.h.parts a.args.roots.now a.pre.roots (omega arith)
+    take_long 254 a.args.h.parts a.args.roots.now a.requires.roots (omega arith)
 
 slice-aggregate-all-below : tie.Need-slice_bounds-all_below-end
 slice-aggregate-all-below c =
     let a = at c.before.before.before.before.before.before in
-    take_long 254 a.args.h.handled a.args.states.now a.pre.states (omega arith)
+    take_long 254 a.args.h.handled a.args.states.now a.requires.states (omega arith)
 
 returns-3 : tie.Need-returns
 returns-3 c =

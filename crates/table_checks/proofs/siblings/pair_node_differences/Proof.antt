@@ -59,7 +59,7 @@ returns c =
     let s = c.before.before.before.before.before.before.before.before.before in
     let l = c.before.before.before.before.before.before.before.left_in-left in
     let j = c.before.before.before.before.before.before.pair_jump-to in
-    let x = c.before.Numbers-of in
+    let x = c.before.numbers_of-a in
     let y = c.numbers_of-b in
     pair-packed _ _ _ (λ i. omega (arith, c.before.before.shared_slice_known-5-1.given i))
     (omega (arith, s.requires.0.inside, s.requires.0.most)) l.result j.result x.result y.result l.ensures

@@ -14,8 +14,8 @@ use Rattle.tables.proofs.build.build_tables.Tie as tie
 passed : (c : tie.Else-refused-ne0)
     → Passed c.before.before.before.before.before.before.args.plan.now
     c.before.before.before.before.before.before.args.rules.now
-    c.before.before.before.before.before.before.args.node_table-1.now
-    c.before.before.before.before.before.before.args.state_table-1.now
+    c.before.before.before.before.before.before.args.node_table.now
+    c.before.before.before.before.before.before.args.state_table.now
 passed c = sym c.before.check_build-refused.ensures ∙ c.if-refused-ne0.false
 
 returns : tie.Need-returns-then-refused-ne0
@@ -23,9 +23,9 @@ returns c =
     let k = c.before in
     let s = k.before.before.before.before.before in
     build-refused (built_node_table s.args.plan.now) (built_state_table s.args.plan.now s.args.rules.now)
-    s.args.node_table-1.now s.args.state_table-1.now
-    (first_no (build_checks s.args.plan.now s.args.rules.now (length s.args.node_table-1.now)
-    (length s.args.state_table-1.now)))
+    s.args.node_table.now s.args.state_table.now
+    (first_no (build_checks s.args.plan.now s.args.rules.now (length s.args.node_table.now)
+    (length s.args.state_table.now)))
     k.check_build-refused.result k.check_build-refused.ensures c.if-refused-ne0.true
 
 read32-requires : tie.Need-read32-n-requires
@@ -33,7 +33,7 @@ read32-requires c κs =
     let s = c.before.before.before.before.before.before in
     omega (
       arith,
-      plan-headed s.args.plan.now s.args.rules.now s.args.node_table-1.now s.args.state_table-1.now
+      plan-headed s.args.plan.now s.args.rules.now s.args.node_table.now s.args.state_table.now
           (passed c),
     )
 
@@ -42,7 +42,7 @@ read32-requires-2 c κs =
     let s = c.before.before.before.before.before.before.before in
     omega (
       arith,
-      rules-headed s.args.plan.now s.args.rules.now s.args.node_table-1.now s.args.state_table-1.now
+      rules-headed s.args.plan.now s.args.rules.now s.args.node_table.now s.args.state_table.now
           (passed c.before),
     )
 
@@ -51,7 +51,7 @@ read32-requires-3 c κs =
     let s = c.before.before.before.before.before.before.before.before in
     omega (
       arith,
-      rules-headed s.args.plan.now s.args.rules.now s.args.node_table-1.now s.args.state_table-1.now
+      rules-headed s.args.plan.now s.args.rules.now s.args.node_table.now s.args.state_table.now
           (passed c.before.before),
     )
 
@@ -60,7 +60,7 @@ write-tables-requires c κs =
     let k = c.before.before in
     let e = k.before.before.before in
     let s = e.before.before.before.before.before.before in
-    build-args s.args.plan.now s.args.rules.now s.args.node_table-1.now s.args.state_table-1.now
+    build-args s.args.plan.now s.args.rules.now s.args.node_table.now s.args.state_table.now
     k.before.before.read32-n.result k.before.read32-s.result k.read32-k.result
     (passed e) k.before.before.read32-n.ensures k.before.read32-s.ensures k.read32-k.ensures
 
@@ -70,9 +70,9 @@ returns-2 c =
     let e = w.before.before.before.before.before.before in
     let s = e.before.before.before.before.before.before in
     build-done (built_node_table s.args.plan.now) (built_state_table s.args.plan.now s.args.rules.now)
-    s.args.node_table-1.now s.args.state_table-1.now
-    (first_no (build_checks s.args.plan.now s.args.rules.now (length s.args.node_table-1.now)
-    (length s.args.state_table-1.now)))
+    s.args.node_table.now s.args.state_table.now
+    (first_no (build_checks s.args.plan.now s.args.rules.now (length s.args.node_table.now)
+    (length s.args.state_table.now)))
     w.write_tables.new.1.1.1.1.1.0 w.write_tables.new.1.1.1.1.1.1.0 (passed e)
     w.write_tables.ensures.links w.write_tables.ensures.states
 

@@ -8,7 +8,7 @@ use Rattle.tables.proofs.build.write_tables.Tie as tie
 build-node-table-requires : tie.Need-build_node_table-requires
 build-node-table-requires c κs =
     let s = c.before.before.before.before.before.before.before in
-    link-args-of s.args.plan.now s.args.rules.now s.args.node_table-1.now s.args.state_table-1.now s.args.n
+    link-args-of s.args.plan.now s.args.rules.now s.args.node_table.now s.args.state_table.now s.args.n
     s.args.s s.args.k s.requires
 
 write-states-requires : tie.Need-write_states-requires
@@ -16,7 +16,7 @@ write-states-requires c κs =
     let l = c.before.before.before.before.before.before.before.before in
     let i = l.before.before.before in
     let s = i.before.before.before.before.before in
-    table-args-of s.args.plan.now s.args.rules.now s.args.node_table-1.now s.args.state_table-1.now s.args.n
+    table-args-of s.args.plan.now s.args.rules.now s.args.node_table.now s.args.state_table.now s.args.n
     s.args.s s.args.k s.requires
     l.build_node_table.new.1.0 (omega arith) l.build_node_table.ensures i.inner_count.result
     i.inner_count.ensures.value
@@ -27,7 +27,7 @@ returns c =
     let l = w.before.before.before.before.before.before.before.before.before in
     let i = l.before.before.before in
     let s = i.before.before.before.before.before in
-    both-written-of s.args.plan.now s.args.rules.now s.args.node_table-1.now s.args.state_table-1.now s.args.n
+    both-written-of s.args.plan.now s.args.rules.now s.args.node_table.now s.args.state_table.now s.args.n
     s.args.s s.args.k s.requires
     l.build_node_table.new.1.0 (omega arith) l.build_node_table.ensures i.inner_count.result
     i.inner_count.ensures.value

@@ -31,7 +31,7 @@ list-inner-requires c κs =
     let s = c.before.before.before.before.before.before.before in
     let g = s.args in
     list-args g.kinds.now g.labels.now g.node_table.now g.inner.now g.s g.k s.requires.first
-    s.requires.args g.b g.e (length g.list-1.now) s.requires.order s.requires.inside s.requires.fits
+    s.requires.args g.b g.e (length g.list.now) s.requires.order s.requires.inside s.requires.fits
 
 loop-holds : tie.Need-loop-i-init invariant-loop decreases-loop
 loop-holds c =
@@ -42,7 +42,7 @@ loop-holds c =
       omega arith,
       refl,
       λ first W. pairs-down g.kinds.now g.labels.now g.node_table.now g.inner.now g.s g.k first
-          g.state_table-1.now
+          g.state_table.now
           (from g.b li.list_inner-i.new.1.1.1.0 li.list_inner-i.result) g.e L.rest W,
     )
 
@@ -67,10 +67,10 @@ fill-children-requires c κs =
     let i : ℕ = a.loop-i.i in
     let h : i - 1 < li.list_inner-i.result = omega (arith, a.loop-i.invariant.0, c.before.before.loop-i-test.true) in
     pair-args g.kinds.now g.labels.now g.node_table.now g.inner.now g.s g.k s.requires.first
-    s.requires.args a.loop-i.state_table-1 (get_or l (i - 1) 0)
+    s.requires.args a.loop-i.state_table (get_or l (i - 1) 0)
     (a.loop-i.invariant.1 ∙ s.requires.same) (omega (arith, L.ends (i - 1) h, s.requires.inside)) (L.inner (i - 1) h)
     (subst (λ (x : ℕ). Pairs g.kinds.now g.labels.now g.node_table.now g.inner.now g.s g.k x
-    s.requires.first a.loop-i.state_table-1)
+    s.requires.first a.loop-i.state_table)
     (last-from g.b l i c.before.before.loop-i-test.true) (a.loop-i.invariant.2 s.requires.first s.requires.done))
 
 loop-again : tie.Need-loop-i-preserved invariant-loop decreases-loop
@@ -91,10 +91,10 @@ loop-again c =
       λ first W. pairs-down g.kinds.now g.labels.now g.node_table.now g.inner.now g.s
           g.k first after (from g.b l (i - 1)) (get_or l (i - 1) 0) (λ p. L.gaps (i - 1) p h)
           (pairs-turn g.kinds.now g.labels.now g.node_table.now g.inner.now g.s g.k first
-          a.loop-i.state_table-1 (get_or l (i - 1) 0) after s.requires.args.rules.inner_below
+          a.loop-i.state_table (get_or l (i - 1) 0) after s.requires.args.rules.inner_below
           (omega (arith, L.ends (i - 1) h, s.requires.inside)) (L.inner (i - 1) h)
           (subst (λ (x : ℕ). Pairs g.kinds.now g.labels.now g.node_table.now g.inner.now g.s
-          g.k x first a.loop-i.state_table-1)
+          g.k x first a.loop-i.state_table)
           (last-from g.b l i t.loop-i-test.true) (a.loop-i.invariant.2 first W)) f.fill_children.ensures),
     )
 
@@ -107,7 +107,7 @@ returns c first W =
     let l = li.list_inner-i.new.1.1.1.0 in
     let z : a.loop-i.i ≡ 0 = omega (arith, c.loop-i-test.false) in
     subst (λ (x : ℕ). Pairs g.kinds.now g.labels.now g.node_table.now g.inner.now g.s g.k x first
-    a.loop-i.state_table-1) (ap (from g.b l) z ∙ from_zero g.b l)
+    a.loop-i.state_table) (ap (from g.b l) z ∙ from_zero g.b l)
     (a.loop-i.invariant.2 first W)
 
 pub fill_block_spec : {M : Type 1} → statement M

@@ -36,16 +36,16 @@ entry a =
 -- over the buffer at entry
 done : (a : tie.At-loop-e invariant-loop decreases-loop)
     → Pairs (entry a).args.kinds.now (entry a).args.labels.now (entry a).args.node_table.now
-    (entry a).args.inner.now (entry a).args.s (entry a).args.k a.loop-e.e (entry a).args.state_table-1.now
-    a.loop-e.state_table-1
+    (entry a).args.inner.now (entry a).args.s (entry a).args.k a.loop-e.e (entry a).args.state_table.now
+    a.loop-e.state_table
 done a =
     let f = a.before.before.before.before in
     let r = f.before.before.before.before.before.before in
     let s = r.before.before.before.before.before.before.before in
     let g = s.args in
-    a.loop-e.invariant.4 g.state_table-1.now
-    (f.fill_block.ensures g.state_table-1.now
-    (top g.kinds.now g.labels.now g.node_table.now g.inner.now g.s g.k g.state_table-1.now
+    a.loop-e.invariant.4 g.state_table.now
+    (f.fill_block.ensures g.state_table.now
+    (top g.kinds.now g.labels.now g.node_table.now g.inner.now g.s g.k g.state_table.now
     r.same_row.new.0 s.requires r.same_row.ensures))
 
 sub-same-row : tie.Need-overflow_sub-n invariant-loop decreases-loop
@@ -54,7 +54,7 @@ sub-same-row c =
     let g = s.args in
     omega (
       arith,
-      map-some g.kinds.now g.labels.now g.node_table.now g.inner.now g.s g.k g.state_table-1.now
+      map-some g.kinds.now g.labels.now g.node_table.now g.inner.now g.s g.k g.state_table.now
           s.requires,
     )
 
@@ -62,7 +62,7 @@ same-row-requires : tie.Need-same_row-requires invariant-loop decreases-loop
 same-row-requires c κs =
     let s = c.before.before.before.before.before.before in
     let g = s.args in
-    root-args g.kinds.now g.labels.now g.node_table.now g.inner.now g.s g.k g.state_table-1.now
+    root-args g.kinds.now g.labels.now g.node_table.now g.inner.now g.s g.k g.state_table.now
     s.requires
 
 fill-block-requires : tie.Need-fill_block-requires invariant-loop decreases-loop
@@ -72,10 +72,10 @@ fill-block-requires c κs =
     let s = r.before.before.before.before.before.before.before in
     let g = s.args in
     record {
-      first = g.state_table-1.now;
+      first = g.state_table.now;
       args = s.requires;
       done = top g.kinds.now g.labels.now g.node_table.now g.inner.now g.s g.k
-          g.state_table-1.now r.same_row.new.0 s.requires r.same_row.ensures;
+          g.state_table.now r.same_row.new.0 s.requires r.same_row.ensures;
       same = omega arith;
       order = omega arith;
       inside = omega arith;
@@ -95,8 +95,8 @@ fill-block-requires-2 c κs =
     let a = c.before.before.before in
     let s = entry a in
     record {
-      first = s.args.state_table-1.now;
-      args = s.pre;
+      first = s.args.state_table.now;
+      args = s.requires;
       done = done a;
       same = omega (arith, a.loop-e.invariant.2);
       order = omega arith;
@@ -122,10 +122,10 @@ returns c =
     let s = entry a in
     let g = s.args in
     let z : a.loop-e.e ≡ 0 = omega (arith, c.loop-e-test.false) in
-    pairs-all g.kinds.now g.labels.now g.node_table.now g.inner.now g.s g.k g.state_table-1.now
-    a.loop-e.state_table-1
+    pairs-all g.kinds.now g.labels.now g.node_table.now g.inner.now g.s g.k g.state_table.now
+    a.loop-e.state_table
     (subst (λ (x : ℕ). Pairs g.kinds.now g.labels.now g.node_table.now g.inner.now g.s g.k x
-    g.state_table-1.now a.loop-e.state_table-1) z (done a))
+    g.state_table.now a.loop-e.state_table) z (done a))
 
 pub fill_maps_spec : {M : Type 1} → statement M
 fill_maps_spec =

@@ -14,50 +14,50 @@ use Rattle.tables.proofs.maps.fill_pair.Tie as tie
 
 -- a node's state byte is inside the table
 state_in : (s : tie.Start) (u : ℕ) → u < length s.args.labels.now
-    → u * (s.args.s + 1) < length s.args.state_table-1.now
+    → u * (s.args.s + 1) < length s.args.state_table.now
 state_in s u h = omega (arith, stride (s.args.s + 1) u (length s.args.labels.now) h, s.requires.room)
 
 left_in : (s : tie.Start)
-    → left_of s.args.node_table.now s.args.v * (s.args.s + 1) < length s.args.state_table-1.now
+    → left_of s.args.node_table.now s.args.v * (s.args.s + 1) < length s.args.state_table.now
 left_in s =
     let g = s.args in
     state_in s (left_of g.node_table.now g.v)
     (omega (
       arith,
-      left_below g.labels.now g.node_table.now g.inner.now g.s g.k g.state_table-1.now
+      left_below g.labels.now g.node_table.now g.inner.now g.s g.k g.state_table.now
           g.v s.requires,
       s.requires.inside,
     ))
 
-right_in : (s : tie.Start) → (s.args.v - 1) * (s.args.s + 1) < length s.args.state_table-1.now
+right_in : (s : tie.Start) → (s.args.v - 1) * (s.args.s + 1) < length s.args.state_table.now
 right_in s = state_in s (s.args.v - 1) (omega (arith, s.requires.inside))
 
 -- and a rule's index is small
 left-state-below : (s : tie.Start)
-    → state_cell s.args.s s.args.state_table-1.now (left_of s.args.node_table.now s.args.v) < s.args.s
+    → state_cell s.args.s s.args.state_table.now (left_of s.args.node_table.now s.args.v) < s.args.s
 left-state-below s =
     let g = s.args in
     s.requires.state_below (left_of g.node_table.now g.v)
     (omega (
       arith,
-      left_below g.labels.now g.node_table.now g.inner.now g.s g.k g.state_table-1.now
+      left_below g.labels.now g.node_table.now g.inner.now g.s g.k g.state_table.now
           g.v s.requires,
       s.requires.inside,
     ))
 
 row_small : (s : tie.Start) → Small s.args.s s.args.k
-    (state_cell s.args.s s.args.state_table-1.now (left_of s.args.node_table.now s.args.v))
+    (state_cell s.args.s s.args.state_table.now (left_of s.args.node_table.now s.args.v))
     (get_or s.args.labels.now s.args.v 0)
 row_small s =
     let g = s.args in
-    small g.s g.k (state_cell g.s g.state_table-1.now (left_of g.node_table.now g.v))
+    small g.s g.k (state_cell g.s g.state_table.now (left_of g.node_table.now g.v))
     (get_or g.labels.now g.v 0) s.requires.few s.requires.labels (s.requires.below g.v)
     (omega (arith, left-state-below s, s.requires.few))
 
 step_small : (s : tie.Start) → s.args.k * s.args.s < 65536
 step_small s = omega (arith, mul-le-mul_right s.args.s s.requires.labels, s.requires.few)
 
-right_below : (s : tie.Start) → state_cell s.args.s s.args.state_table-1.now (s.args.v - 1) < s.args.s
+right_below : (s : tie.Start) → state_cell s.args.s s.args.state_table.now (s.args.v - 1) < s.args.s
 right_below s = s.requires.state_below (s.args.v - 1) (omega (arith, s.requires.inside))
 
 cast-left : tie.Need-overflow_cast-left
@@ -133,7 +133,7 @@ near-pair-requires : tie.Need-near_pair-requires
 near-pair-requires c κs =
     let s = c.before.before.before.before.before.before.before.before.before.before.before.before in
     let g = s.args in
-    near-pair-args g.labels.now g.node_table.now g.inner.now g.s g.k g.state_table-1.now g.v
+    near-pair-args g.labels.now g.node_table.now g.inner.now g.s g.k g.state_table.now g.v
     s.requires
 
 mul-far-pair : tie.Need-overflow_mul-k-else-node_table-right
@@ -146,7 +146,7 @@ far-pair-requires : tie.Need-far_pair-requires
 far-pair-requires c κs =
     let s = c.before.before.before.before.before.before.before.before.before.before.before.before in
     let g = s.args in
-    far-pair-args g.labels.now g.node_table.now g.inner.now g.s g.k g.state_table-1.now g.v
+    far-pair-args g.labels.now g.node_table.now g.inner.now g.s g.k g.state_table.now g.v
     s.requires
 
 returns : tie.Need-returns-then-node_table-right
@@ -155,7 +155,7 @@ returns c =
     let i = n.before.before in
     let s = i.before.before.before.before.before.before.before.before.before.before.before in
     let g = s.args in
-    near-values g.labels.now g.node_table.now g.inner.now g.s g.k g.state_table-1.now g.v
+    near-values g.labels.now g.node_table.now g.inner.now g.s g.k g.state_table.now g.v
     n.near_pair.new.0 i.if-node_table-right.true n.near_pair.ensures
 
 returns-2 : tie.Need-returns-else-node_table-right
@@ -164,7 +164,7 @@ returns-2 c =
     let i = n.before.before in
     let s = i.before.before.before.before.before.before.before.before.before.before.before in
     let g = s.args in
-    far-values g.labels.now g.node_table.now g.inner.now g.s g.k g.state_table-1.now g.v
+    far-values g.labels.now g.node_table.now g.inner.now g.s g.k g.state_table.now g.v
     n.far_pair.new.0 i.if-node_table-right.false n.far_pair.ensures
 
 pub fill_pair_spec : {M : Type 1} → statement M

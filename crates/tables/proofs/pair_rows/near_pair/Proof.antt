@@ -12,7 +12,7 @@ near-rows16-requires : tie.Need-near_rows16-requires
 near-rows16-requires c κs =
     let s = c.before.before.before.before in
     let g = s.args in
-    subst (λ (x : ℕ). NearPairArgs (length g.state_table-1.now) x g.right g.left (length g.table.now)
+    subst (λ (x : ℕ). NearPairArgs (length g.state_table.now) x g.right g.left (length g.table.now)
     g.row g.col g.step) c.before.if-s-eq16.true s.requires
 
 returns : tie.Need-returns-then-s-eq16
@@ -21,7 +21,7 @@ returns c =
     let t = f.before.before in
     let g = t.before.before.before.args in
     subst (λ (y : ℕ). PairRowed y (λ q. get_or g.table.now (g.row + q * 1) 0)
-    (λ q. get_or g.table.now (g.col + q * g.step) 0) g.right g.left g.state_table-1.now
+    (λ q. get_or g.table.now (g.col + q * g.step) 0) g.right g.left g.state_table.now
     f.near_rows16.new.0) (sym t.if-s-eq16.true) f.near_rows16.ensures
 
 pub near_pair_spec : {M : Type 1} → statement M

@@ -39,7 +39,7 @@ returns c =
     let a = m.before.before.before.before in
     let g = a.before.before.before.before.before.args in
     joined-lost g.n g.s g.k g.labels.now g.steps.now g.node_table.now g.state_table.now
-    g.from g.to a.loop-moves.map-1 a.loop-moves.v a.loop-moves.links a.loop-moves.invariant.0 _ m.remember_moves-x.result
+    g.from g.to a.loop-moves.map a.loop-moves.v a.loop-moves.links a.loop-moves.invariant.0 _ m.remember_moves-x.result
     g.q
     m.remember_moves-x.ensures (not-true _ c.if-not-x.true)
 
@@ -80,7 +80,7 @@ loop-less c =
     let s = a.before.before.before.before.before in
     let g = s.args in
     joined-rises g.n g.s g.k g.labels.now g.steps.now g.node_table.now g.state_table.now
-    g.from g.to a.loop-moves.map-1 a.loop-moves.v a.loop-moves.links a.loop-moves.invariant.0 _ m.remember_moves-x.result
+    g.from g.to a.loop-moves.map a.loop-moves.v a.loop-moves.links a.loop-moves.invariant.0 _ m.remember_moves-x.result
     m.remember_moves-x.ensures (not-false _ e.if-not-x.false)
     (omega (arith, m.before.before.loop-moves-test.true, m.before.before.before.depth_at.ensures))
 
@@ -92,7 +92,7 @@ loop-again c =
     let s = a.before.before.before.before.before in
     let g = s.args in (
       joined-iteration g.n g.s g.k g.labels.now g.steps.now g.node_table.now
-          g.state_table.now g.from g.to a.loop-moves.map-1 a.loop-moves.v a.loop-moves.links a.loop-moves.invariant.0 _
+          g.state_table.now g.from g.to a.loop-moves.map a.loop-moves.v a.loop-moves.links a.loop-moves.invariant.0 _
           m.remember_moves-x.result m.remember_moves-x.ensures (not-false _ e.if-not-x.false)
           _ c.fold_moves-map.ensures,
       search rules,
@@ -108,9 +108,9 @@ returns-2 c =
     let s = a.before.before.before.before.before in
     let g = s.args in
     replay-lost g.n g.s g.k g.labels.now g.steps.now g.node_table.now g.state_table.now
-    g.from g.to a.loop-moves.invariant.0.moves-1 g.q _
+    g.from g.to a.loop-moves.invariant.0.moves g.q _
     (joined-whole g.n g.s g.k g.labels.now g.steps.now g.node_table.now g.state_table.now
-    g.from g.to a.loop-moves.map-1 a.loop-moves.v a.loop-moves.links a.loop-moves.invariant.0
+    g.from g.to a.loop-moves.map a.loop-moves.v a.loop-moves.links a.loop-moves.invariant.0
     (omega (arith, e.loop-moves-test.false, e.before.depth_at.ensures)))
     (a.loop-moves.invariant.0.down g.q s.requires.state) c.if-s-y.true
 
@@ -127,14 +127,14 @@ returns-3 c =
     let s = a.before.before.before.before.before in
     let g = s.args in
     replay-done g.n g.s g.k g.labels.now g.steps.now g.node_table.now g.state_table.now
-    g.from g.to a.loop-moves.invariant.0.moves-1 g.q _
+    g.from g.to a.loop-moves.invariant.0.moves g.q _
     (joined-whole g.n g.s g.k g.labels.now g.steps.now g.node_table.now g.state_table.now
-    g.from g.to a.loop-moves.map-1 a.loop-moves.v a.loop-moves.links a.loop-moves.invariant.0
+    g.from g.to a.loop-moves.map a.loop-moves.v a.loop-moves.links a.loop-moves.invariant.0
     (omega (arith, e.loop-moves-test.false, e.before.depth_at.ensures)))
     (a.loop-moves.invariant.0.down g.q s.requires.state) c.before.before.if-s-y.false _ _ a.loop-moves.invariant.0.count
     (ap₂ (λ (x y : ℕ). x - y) c.before.depth_at-2.ensures c.depth_at-3.ensures ∙ joined-passed g.n g.s
     g.k g.labels.now g.steps.now g.node_table.now g.state_table.now g.from g.to
-    a.loop-moves.map-1 a.loop-moves.v a.loop-moves.links a.loop-moves.invariant.0)
+    a.loop-moves.map a.loop-moves.v a.loop-moves.links a.loop-moves.invariant.0)
 
 pub replay_parts_spec : {M : Type 1} → statement M
 replay_parts_spec =

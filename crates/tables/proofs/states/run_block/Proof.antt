@@ -30,14 +30,14 @@ leaf-states-requires c κs =
     let s = c.before.before.before.before.before.before.before.before in
     let g = s.args in
     leaf-args g.kinds.now g.labels.now g.node_table.now g.leaves.now g.inner.now g.s g.k
-    (length g.state_table-1.now) s.requires.args g.b g.e s.requires.order s.requires.inside
+    (length g.state_table.now) s.requires.args g.b g.e s.requires.order s.requires.inside
 
 list-inner-requires : tie.Need-list_inner-c-requires invariant-loop decreases-loop
 list-inner-requires c κs =
     let s = c.before.before.before.before.before.before.before.before.before.before.before.before in
     let g = s.args in
     list-states g.kinds.now g.labels.now g.node_table.now g.leaves.now g.inner.now g.s g.k
-    (length g.state_table-1.now) s.requires.args g.b g.e (length g.list-1.now) s.requires.order s.requires.inside
+    (length g.state_table.now) s.requires.args g.b g.e (length g.list.now) s.requires.order s.requires.inside
     s.requires.fits
 
 loop-holds : tie.Need-loop-i-init invariant-loop decreases-loop
@@ -78,50 +78,50 @@ inner-at t = (listing t.before).list_inner-c.ensures.ends t.before.loop-i.i t.lo
 
 -- its state byte is inside the table
 place_in : (t : tie.In-loop-i invariant-loop decreases-loop)
-    → node t.before * ((start t.before).args.s + 1) < length t.before.loop-i.state_table-1
+    → node t.before * ((start t.before).args.s + 1) < length t.before.loop-i.state_table
 place_in t =
     let a = t.before in
     let s = start a in
     omega (
       arith,
-      stride (s.args.s + 1) (node a) (length s.args.kinds.now) (omega (arith, inner-at t, s.pre.inside)),
-      s.pre.args.room,
+      stride (s.args.s + 1) (node a) (length s.args.kinds.now) (omega (arith, inner-at t, s.requires.inside)),
+      s.requires.args.room,
       a.loop-i.invariant.1,
     )
 
 -- the lengths are the table's at entry
 state-args : (a : tie.At-loop-i invariant-loop decreases-loop) → StateArgs (start a).args.kinds.now (start a).args.labels.now
     (start a).args.node_table.now (start a).args.leaves.now (start a).args.inner.now (start a).args.s
-    (start a).args.k (length a.loop-i.state_table-1)
+    (start a).args.k (length a.loop-i.state_table)
 state-args a =
     let s = start a in
     let g = s.args in
-    let z : length g.state_table-1.now ≡ length a.loop-i.state_table-1 = omega (arith, a.loop-i.invariant.1) in
+    let z : length g.state_table.now ≡ length a.loop-i.state_table = omega (arith, a.loop-i.invariant.1) in
     subst (StateArgs g.kinds.now g.labels.now g.node_table.now g.leaves.now g.inner.now g.s
     g.k)
-    z s.pre.args
+    z s.requires.args
 
 -- the leaves before the listed node are passed by
 before-node : (t : tie.In-loop-i invariant-loop decreases-loop) (first : List ℕ)
     → Reached t.before (start t.before).args.b first (leafing t.before).leaf_states.last.1.1.1.1.1.0
-    → Reached t.before (node t.before) first t.before.loop-i.state_table-1
+    → Reached t.before (node t.before) first t.before.loop-i.state_table
 before-node t first W =
     let a = t.before in
     let g = (start a).args in
     let l = (listing a).list_inner-c.new.1.1.1.0 in
     states-raise g.s g.k g.leaves.now g.inner.now g.kinds.now g.labels.now
-    (from g.b l a.loop-i.i) (node a) g.e first a.loop-i.state_table-1
+    (from g.b l a.loop-i.i) (node a) g.e first a.loop-i.state_table
     (λ p. (listing a).list_inner-c.ensures.gaps a.loop-i.i p t.loop-i-test.true) (a.loop-i.invariant.2 first W)
 
 -- the block's nodes as leaves
 as-leaves : (a : tie.At-loop-i invariant-loop decreases-loop) (first : List ℕ)
     → Runs (start a).args.s (start a).args.k (start a).args.leaves.now (start a).args.inner.now
-    (start a).args.kinds.now (start a).args.labels.now (start a).args.b first (start a).args.state_table-1.now
+    (start a).args.kinds.now (start a).args.labels.now (start a).args.b first (start a).args.state_table.now
     → Reached a (start a).args.b first (leafing a).leaf_states.new.1.1.1.1.1.0
 as-leaves a first W =
     let g = (start a).args in
     leaf-states g.s g.k g.leaves.now g.inner.now g.kinds.now g.labels.now g.b g.e first
-    g.state_table-1.now (leafing a).leaf_states.new.1.1.1.1.1.0 (start a).requires.inside W
+    g.state_table.now (leafing a).leaf_states.new.1.1.1.1.1.0 (start a).requires.inside W
     (leafing a).leaf_states.ensures
 
 slice-read-v : tie.Need-bounds-list-i invariant-loop decreases-loop
@@ -136,7 +136,7 @@ shared-slice-read-inner-state : tie.Need-bounds-labels-v invariant-loop decrease
 shared-slice-read-inner-state c =
     let t = c.before.before.before in
     let s = start t.before in
-    omega (arith, inner-at t, s.pre.inside, s.pre.args.count)
+    omega (arith, inner-at t, s.requires.inside, s.requires.args.count)
 
 cast-inner-state : tie.Need-overflow_cast-labels invariant-loop decreases-loop
 cast-inner-state c = omega (arith, c.shared_slice_known-in-loop-i-1.given (node c.before.before.before.before))
@@ -148,16 +148,16 @@ inner-state-requires c κs =
     let s = start a in
     let g = s.args in
     inner-args g.s g.k g.leaves.now g.inner.now g.kinds.now g.labels.now (node a) g.e
-    g.node_table.now s.pre.first a.loop-i.state_table-1
-    (before-node t s.pre.first (as-leaves a s.pre.first s.pre.done)) (state-args a) (inner-at t)
-    s.pre.inside ((listing a).list_inner-c.ensures.inner a.loop-i.i t.loop-i-test.true)
+    g.node_table.now s.requires.first a.loop-i.state_table
+    (before-node t s.requires.first (as-leaves a s.requires.first s.requires.done)) (state-args a) (inner-at t)
+    s.requires.inside ((listing a).list_inner-c.ensures.inner a.loop-i.i t.loop-i-test.true)
 
 mul-state-table : tie.Need-overflow_mul-state_table invariant-loop decreases-loop
 mul-state-table c =
     let t = c.before.before.before.before in
     let s = start t.before in
-    let h : node t.before ≤ 65535 = omega (arith, inner-at t, s.pre.inside, s.pre.args.most) in
-    omega (arith, mul-le-mul_right (s.args.s + 1) h, s.pre.args.rules.few)
+    let h : node t.before ≤ 65535 = omega (arith, inner-at t, s.requires.inside, s.requires.args.most) in
+    omega (arith, mul-le-mul_right (s.args.s + 1) h, s.requires.args.rules.few)
 
 slice-write-state-table : tie.Need-bounds-state_table-v invariant-loop decreases-loop
 slice-write-state-table c = place_in c.before.before.before.before
@@ -172,12 +172,12 @@ loop-again c =
       omega (arith, t.loop-i-test.true),
       simp length-set a.loop-i.invariant.1,
       λ first W. subst
-          (λ (x : ℕ). Reached a x first (set a.loop-i.state_table-1 (node a * (g.s + 1)) c.inner_state-x.result))
+          (λ (x : ℕ). Reached a x first (set a.loop-i.state_table (node a * (g.s + 1)) c.inner_state-x.result))
           (sym (from_next g.b l a.loop-i.i))
           (rw c.inner_state-x.ensures
           (inner-states g.s g.k g.leaves.now g.inner.now g.kinds.now g.labels.now (node a) g.e
-          g.node_table.now first a.loop-i.state_table-1 (before-node t first W) (state-args a) (inner-at t)
-          s.pre.inside ((listing a).list_inner-c.ensures.inner a.loop-i.i t.loop-i-test.true))),
+          g.node_table.now first a.loop-i.state_table (before-node t first W) (state-args a) (inner-at t)
+          s.requires.inside ((listing a).list_inner-c.ensures.inner a.loop-i.i t.loop-i-test.true))),
     )
 
 returns : tie.Need-returns invariant-loop decreases-loop
@@ -189,10 +189,10 @@ returns c first W =
     let l = li.last.1.1.1.0 in
     let z : a.loop-i.i ≡ li.result = omega (arith, a.loop-i.invariant.0, c.loop-i-test.false) in
     states-end g.s g.k g.leaves.now g.inner.now g.kinds.now g.labels.now g.e first
-    a.loop-i.state_table-1
+    a.loop-i.state_table
     (states-raise g.s g.k g.leaves.now g.inner.now g.kinds.now g.labels.now
-    (from g.b l li.result) g.e g.e first a.loop-i.state_table-1 li.ensures.rest
-    (subst (λ (x : ℕ). Reached a (from g.b l x) first a.loop-i.state_table-1) z
+    (from g.b l li.result) g.e g.e first a.loop-i.state_table li.ensures.rest
+    (subst (λ (x : ℕ). Reached a (from g.b l x) first a.loop-i.state_table) z
     (a.loop-i.invariant.2 first (as-leaves a first W))))
 
 pub run_block_spec : {M : Type 1} → statement M

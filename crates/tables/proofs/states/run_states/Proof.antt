@@ -26,7 +26,7 @@ loop-holds c =
       c.empty_list-list.ensures,
       refl,
       states-none g.s g.k g.leaves.now g.inner.now
-          g.kinds.now g.labels.now g.state_table-1.now,
+          g.kinds.now g.labels.now g.state_table.now,
     )
 
 block-end-requires : tie.Need-block_end-e-requires invariant-loop decreases-loop
@@ -44,12 +44,12 @@ run-block-requires c κs =
     let a = e.before.before in
     let s = a.before.before.before.before.before.before.before.before in
     let g = s.args in
-    let z : length g.state_table-1.now ≡ length a.loop-b.state_table-1 = omega (arith, a.loop-b.invariant.1) in
+    let z : length g.state_table.now ≡ length a.loop-b.state_table = omega (arith, a.loop-b.invariant.1) in
     record {
       args = subst (StateArgs g.kinds.now g.labels.now g.node_table.now g.leaves.now g.inner.now
           g.s g.k)
           z s.requires;
-      first = g.state_table-1.now;
+      first = g.state_table.now;
       done = a.loop-b.invariant.4;
       order = omega (arith, e.block_end-e.ensures.0);
       inside = omega (arith, e.block_end-e.ensures.1);
@@ -71,7 +71,7 @@ loop-again c =
       omega (arith, a.loop-b.invariant.1),
       omega (arith, a.loop-b.invariant.2),
       refl,
-      r.run_block.ensures g.state_table-1.now a.loop-b.invariant.4,
+      r.run_block.ensures g.state_table.now a.loop-b.invariant.4,
     )
 
 returns : tie.Need-returns invariant-loop decreases-loop
@@ -80,7 +80,7 @@ returns c =
     let g = a.before.before.before.before.before.before.before.before.args in
     let z : a.loop-b.b ≡ length g.kinds.now = omega (arith, a.loop-b.invariant.0, c.loop-b-test.false) in
     subst (λ (x : ℕ). Runs g.s g.k g.leaves.now g.inner.now g.kinds.now g.labels.now x
-    g.state_table-1.now a.loop-b.state_table-1) z a.loop-b.invariant.4
+    g.state_table.now a.loop-b.state_table) z a.loop-b.invariant.4
 
 pub run_states_spec : {M : Type 1} → statement M
 run_states_spec =

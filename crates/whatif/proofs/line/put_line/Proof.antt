@@ -30,9 +30,9 @@ returns-2 c =
     let p = c.before.before in
     let m = p.before.before.before in
     let a = m.before.before.before.args in (
-      subst (λ (t : List ℕ). Put a.out.now a.at t p.Put-refused.new.0 p.Put-refused.result)
-          (ap (λ (r : ReadAnswer). line_of (read_answer r)) (sym m.answer2.given.1)) p.Put-refused.ensures.0,
-      p.Put-refused.ensures.1,
+      subst (λ (t : List ℕ). Put a.out.now a.at t p.put_refused.new.0 p.put_refused.result)
+          (ap (λ (r : ReadAnswer). line_of (read_answer r)) (sym m.answer2.given.1)) p.put_refused.ensures.0,
+      p.put_refused.ensures.1,
     )
 
 pub put-line-spec : {M : Type 1} → statement M

@@ -33,7 +33,7 @@ slice-aggregate-part : tie.Need-slice_bounds-part-end invariant-loop decreases-l
 slice-aggregate-part c =
     let e = c.before in
     let o = e.before.loop-i in
-    sym (states_length _ _ _ _ _ _ _ _ _ _ o.states-1 o.last o.links o.passed o.i o.invariant
+    sym (states_length _ _ _ _ _ _ _ _ _ _ o.states o.last o.links o.passed o.i o.invariant
     e.loop-i-test.true)
 
 array-write-states : tie.Need-bounds-states-i invariant-loop decreases-loop
@@ -48,9 +48,9 @@ add-links c =
     let f = x.before.before in
     let e = f.before.before in
     let o = e.before.loop-i in
-    let l = next-links _ _ _ _ _ _ _ _ _ _ o.states-1 o.last o.links o.passed o.i o.invariant
+    let l = next-links _ _ _ _ _ _ _ _ _ _ o.states o.last o.links o.passed o.i o.invariant
     e.loop-i-test.true f.part.result f.part.ensures x.x-1.given.0.0 x.x-1.given.1 in
-    let d = next-passed _ _ _ _ _ _ _ _ _ _ o.states-1 o.last o.links o.passed o.i o.invariant
+    let d = next-passed _ _ _ _ _ _ _ _ _ _ o.states o.last o.links o.passed o.i o.invariant
     e.loop-i-test.true f.part.result f.part.ensures x.x-1.given.0.0 x.x-1.given.1 in
     omega (arith, l, d, o.invariant.few-links, e.loop-i-test.true, o.invariant.args.few)
 
@@ -60,7 +60,7 @@ add-passed c =
     let f = x.before.before in
     let e = f.before.before in
     let o = e.before.loop-i in
-    let l = next-passed _ _ _ _ _ _ _ _ _ _ o.states-1 o.last o.links o.passed o.i o.invariant
+    let l = next-passed _ _ _ _ _ _ _ _ _ _ o.states o.last o.links o.passed o.i o.invariant
     e.loop-i-test.true f.part.result f.part.ensures x.x-1.given.0.0 x.x-1.given.1 in
     omega (arith, l, e.loop-i-test.true, o.invariant.args.few)
 
@@ -69,7 +69,7 @@ returns c =
     let f = c.before.before in
     let e = f.before.before in
     let o = e.before.loop-i in
-    going-lost _ _ _ _ _ _ _ _ _ _ o.states-1 o.last o.links o.passed o.i o.invariant e.loop-i-test.true
+    going-lost _ _ _ _ _ _ _ _ _ _ o.states o.last o.links o.passed o.i o.invariant e.loop-i-test.true
     f.part.result f.part.ensures c.enum_told-1.given.1
 
 add-i : tie.Need-overflow_add-i invariant-loop decreases-loop
@@ -89,13 +89,13 @@ loop-again c =
     let f = x.before.before in
     let e = f.before.before in
     let o = e.before.loop-i in
-    going_next _ _ _ _ _ _ _ _ _ _ o.states-1 o.last o.links o.passed o.i o.invariant e.loop-i-test.true
+    going_next _ _ _ _ _ _ _ _ _ _ o.states o.last o.links o.passed o.i o.invariant e.loop-i-test.true
     f.part.result f.part.ensures x.x-1.given.0.0 x.x-1.given.1
 
 returns-2 : tie.Need-returns invariant-loop decreases-loop
 returns-2 c =
     let o = c.before.loop-i in
-    going_done _ _ _ _ _ _ _ _ _ _ o.states-1 o.last o.links o.passed o.i o.invariant c.loop-i-test.false
+    going_done _ _ _ _ _ _ _ _ _ _ o.states o.last o.links o.passed o.i o.invariant c.loop-i-test.false
 
 pub all_parts_spec : {M : Type 1} → statement M
 all_parts_spec =

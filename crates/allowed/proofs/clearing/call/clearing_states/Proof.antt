@@ -18,41 +18,41 @@ use Rattle.formats.proofs.bytes.read32.Reads as read32-reads
 
 -- no check failed
 passed : (c : tie.Else-refused-ne0)
-    → let g = c.before.before.before.before.before.args in first_no (node_room_checks g.plan.now g.rules.now (length g.sets-1.now)) ≡ 0
+    → let g = c.before.before.before.before.before.args in first_no (node_room_checks g.plan.now g.rules.now (length g.sets.now)) ≡ 0
 passed c = sym c.before.check_node_room-refused.ensures ∙ c.if-refused-ne0.false
 
 returns : tie.Need-returns-then-refused-ne0
 returns c =
     let g = c.before.before.before.before.before.args in
-    done_refused g.plan.now g.rules.now g.sets-1.now c.before.check_node_room-refused.result c.before.check_node_room-refused.ensures c.if-refused-ne0.true
+    done_refused g.plan.now g.rules.now g.sets.now c.before.check_node_room-refused.result c.before.check_node_room-refused.ensures c.if-refused-ne0.true
 
 read32-requires : tie.Need-read32-n-requires
 read32-requires c κs =
     let g = c.before.before.before.before.before.args in
-    omega (arith, (rule-table-passes g.plan.now g.rules.now (table-yes g.plan.now g.rules.now (length g.sets-1.now) (passed c))).0.long)
+    omega (arith, (rule-table-passes g.plan.now g.rules.now (table-yes g.plan.now g.rules.now (length g.sets.now) (passed c))).0.long)
 
 read32-requires-2 : tie.Need-read32-s-requires
 read32-requires-2 c κs =
     let g = c.before.before.before.before.before.before.args in
-    omega (arith, (rule-table-passes g.plan.now g.rules.now (table-yes g.plan.now g.rules.now (length g.sets-1.now) (passed c.before))).1.long)
+    omega (arith, (rule-table-passes g.plan.now g.rules.now (table-yes g.plan.now g.rules.now (length g.sets.now) (passed c.before))).1.long)
 
 read32-requires-3 : tie.Need-read32-k-requires
 read32-requires-3 c κs =
     let g = c.before.before.before.before.before.before.before.args in
-    omega (arith, (rule-table-passes g.plan.now g.rules.now (table-yes g.plan.now g.rules.now (length g.sets-1.now) (passed c.before.before))).1.long)
+    omega (arith, (rule-table-passes g.plan.now g.rules.now (table-yes g.plan.now g.rules.now (length g.sets.now) (passed c.before.before))).1.long)
 
 write-clearing-requires : tie.Need-write_clearing-requires
 write-clearing-requires c κs =
     let g = c.before.before.before.before.before.before.before.before.before.args in
     rw (c.before.before.before.read32-n.ensures, c.before.before.read32-s.ensures, c.before.read32-k.ensures)
     (call-args g.plan.now g.rules.now
-    (table-yes g.plan.now g.rules.now (length g.sets-1.now) (passed c.before.before.before.before))
-    (length g.sets-1.now) (room-yes g.plan.now g.rules.now (length g.sets-1.now) (passed c.before.before.before.before)))
+    (table-yes g.plan.now g.rules.now (length g.sets.now) (passed c.before.before.before.before))
+    (length g.sets.now) (room-yes g.plan.now g.rules.now (length g.sets.now) (passed c.before.before.before.before)))
 
 returns-2 : tie.Need-returns
 returns-2 c =
     let g = c.before.before.before.before.before.before.before.before.before.before.before.before.args in
-    done-written g.plan.now g.rules.now g.sets-1.now c.before.before.write_clearing.new.1.1.1.1.1.0
+    done-written g.plan.now g.rules.now g.sets.now c.before.before.write_clearing.new.1.1.1.1.1.0
     (passed c.before.before.before.before.before.before.before) c.before.before.write_clearing.ensures
 
 pub clearing_states_spec : {M : Type 1} → statement M

@@ -13,8 +13,8 @@ use Rattle.allowed.proofs.clearing.down.node_down.Lts as lts
 returns : tie.Need-returns-then-kinds-v-eq0
 returns c =
     let g = c.before.before.before.before.before.before.before.before.before.before.args in (
-      c.before.before.leaf_down.ensures.0 ∙ leaf-case g.kinds.now g.labels.now g.inner.now g.s g.k g.cells-1.now g.v g.c c.before.before.before.before.if-kinds-v-eq0.true,
-      c.before.before.leaf_down.ensures.1 ∙ leaf-set g.kinds.now g.labels.now g.inner.now g.s g.k g.cells-1.now g.v g.c c.before.before.before.before.if-kinds-v-eq0.true,
+      c.before.before.leaf_down.ensures.0 ∙ leaf-case g.kinds.now g.labels.now g.inner.now g.s g.k g.cells.now g.v g.c c.before.before.before.before.if-kinds-v-eq0.true,
+      c.before.before.leaf_down.ensures.1 ∙ leaf-set g.kinds.now g.labels.now g.inner.now g.s g.k g.cells.now g.v g.c c.before.before.before.before.if-kinds-v-eq0.true,
     )
 
 cast-inner-down : tie.Need-overflow_cast-labels
@@ -26,8 +26,8 @@ inner-down-requires c κs = c.before.before.before.before.before.before.before.b
 returns-2 : tie.Need-returns
 returns-2 c =
     let g = c.before.before.before.before.before.before.before.before.before.before.before.args in (
-      c.before.before.inner_down.ensures.0 ∙ inner-case g.kinds.now g.labels.now g.inner.now g.s g.k g.cells-1.now g.v g.c c.before.before.before.before.before.if-kinds-v-eq0.false,
-      c.before.before.inner_down.ensures.1 ∙ inner-set g.kinds.now g.labels.now g.inner.now g.s g.k g.cells-1.now g.v g.c c.before.before.before.before.before.if-kinds-v-eq0.false,
+      c.before.before.inner_down.ensures.0 ∙ inner-case g.kinds.now g.labels.now g.inner.now g.s g.k g.cells.now g.v g.c c.before.before.before.before.before.if-kinds-v-eq0.false,
+      c.before.before.inner_down.ensures.1 ∙ inner-set g.kinds.now g.labels.now g.inner.now g.s g.k g.cells.now g.v g.c c.before.before.before.before.before.if-kinds-v-eq0.false,
     )
 
 pub node_down_spec : {M : Type 1} → statement M

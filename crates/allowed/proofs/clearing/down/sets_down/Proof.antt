@@ -31,10 +31,10 @@ node-down-requires c κs =
     let g = c.before.before.before.before.before.before.before.args in
     let w = c.before.before.before.before.before.before.before.requires in
     let e : c.before.before.loop-v.v ≡ c.before.before.loop-v.v - 1 + 1 = omega (arith, c.before.loop-v-test.true) in
-    node-args g.kinds.now g.labels.now w.leaves g.inner.now g.s g.k w.runs (c.before.before.loop-v.v - 1) c.before.before.loop-v.set c.before.before.loop-v.cells-1
+    node-args g.kinds.now g.labels.now w.leaves g.inner.now g.s g.k w.runs (c.before.before.loop-v.v - 1) c.before.before.loop-v.set c.before.before.loop-v.cells
     (omega (arith, c.before.before.loop-v.invariant.0, c.before.loop-v-test.true)) (omega (arith, c.before.before.loop-v.invariant.1, w.room)) w.marks w.first
     (subst (λ (i : ℕ). DownWritten g.kinds.now g.labels.now w.leaves g.inner.now w.marks g.s g.k i c.before.before.loop-v.set
-    w.first c.before.before.loop-v.cells-1) e (c.before.before.loop-v.invariant.2 w.leaves w.marks w.first w.runs w.ready))
+    w.first c.before.before.loop-v.cells) e (c.before.before.loop-v.invariant.2 w.leaves w.marks w.first w.runs w.ready))
 
 loop-again : tie.Need-loop-v-preserved invariant-loop decreases-loop
 loop-again c =
@@ -45,21 +45,21 @@ loop-again c =
       λ leaves marks first G D. subst (λ (n : ℕ). DownWritten g.kinds.now g.labels.now leaves g.inner.now marks g.s g.k
           (c.before.before.before.before.before.loop-v.v - 1) n first c.before.before.node_down-set.new.1.1.1.1.1.0) (sym c.before.before.node_down-set.ensures.1)
           (subst (DownWritten g.kinds.now g.labels.now leaves g.inner.now marks g.s g.k (c.before.before.before.before.before.loop-v.v - 1)
-          (node_next g.kinds.now g.labels.now g.inner.now g.s g.k c.before.before.before.before.before.loop-v.cells-1 (c.before.before.before.before.before.loop-v.v - 1) c.before.before.before.before.before.loop-v.set) first)
+          (node_next g.kinds.now g.labels.now g.inner.now g.s g.k c.before.before.before.before.before.loop-v.cells (c.before.before.before.before.before.loop-v.v - 1) c.before.before.before.before.before.loop-v.set) first)
           (sym c.before.before.node_down-set.ensures.0)
-          (down-next g.kinds.now g.labels.now leaves g.inner.now g.s g.k G (c.before.before.before.before.before.loop-v.v - 1) c.before.before.before.before.before.loop-v.set c.before.before.before.before.before.loop-v.cells-1
+          (down-next g.kinds.now g.labels.now leaves g.inner.now g.s g.k G (c.before.before.before.before.before.loop-v.v - 1) c.before.before.before.before.before.loop-v.set c.before.before.before.before.before.loop-v.cells
           (omega (arith, c.before.before.before.before.before.loop-v.invariant.0, c.before.before.before.before.loop-v-test.true)) (omega (arith, c.before.before.before.before.before.loop-v.invariant.1, c.before.before.before.before.before.before.before.before.before.before.requires.room)) marks first
           (subst (λ (i : ℕ). DownWritten g.kinds.now g.labels.now leaves g.inner.now marks g.s g.k i c.before.before.before.before.before.loop-v.set
-          first c.before.before.before.before.before.loop-v.cells-1) e (c.before.before.before.before.before.loop-v.invariant.2 leaves marks first G D)))),
+          first c.before.before.before.before.before.loop-v.cells) e (c.before.before.before.before.before.loop-v.invariant.2 leaves marks first G D)))),
     )
 
 returns : tie.Need-returns invariant-loop decreases-loop
 returns c leaves marks first G D =
     let g = c.before.before.before.before.before.before.args in
     let z : c.before.loop-v.v ≡ 0 = omega (arith, c.loop-v-test.false) in
-    down-end g.kinds.now g.labels.now leaves g.inner.now marks g.s g.k c.before.loop-v.set first c.before.loop-v.cells-1
+    down-end g.kinds.now g.labels.now leaves g.inner.now marks g.s g.k c.before.loop-v.set first c.before.loop-v.cells
     (subst (λ (i : ℕ). DownWritten g.kinds.now g.labels.now leaves g.inner.now marks g.s g.k i c.before.loop-v.set first
-    c.before.loop-v.cells-1) z (c.before.loop-v.invariant.2 leaves marks first G D))
+    c.before.loop-v.cells) z (c.before.loop-v.invariant.2 leaves marks first G D))
 
 pub sets_down_spec : {M : Type 1} → statement M
 sets_down_spec =

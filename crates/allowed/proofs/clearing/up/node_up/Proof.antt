@@ -12,7 +12,7 @@ use Rattle.allowed.proofs.clearing.up.node_up.Lts as lts
 returns : tie.Need-returns-then-kinds-v-eq0
 returns c =
     let g = c.before.before.before.before.before.before.before.args in
-    leaf-case g.kinds.now g.labels.now g.leaves.now g.inner.now g.s g.k g.cells-1.now g.v c.if-kinds-v-eq0.true
+    leaf-case g.kinds.now g.labels.now g.leaves.now g.inner.now g.s g.k g.cells.now g.v c.if-kinds-v-eq0.true
 
 inner-up-requires : tie.Need-inner_up-requires
 inner-up-requires c κs = c.before.before.before.before.before.before.before.before.requires.inner c.before.if-kinds-v-eq0.false
@@ -21,7 +21,7 @@ returns-2 : tie.Need-returns
 returns-2 c =
     let g = c.before.before.before.before.before.before.before.before.before.before.before.args in
     c.before.before.Inner-up.ensures
-    ∙ inner-case g.kinds.now g.labels.now g.leaves.now g.inner.now g.s g.k g.cells-1.now g.v c.before.before.before.before.if-kinds-v-eq0.false
+    ∙ inner-case g.kinds.now g.labels.now g.leaves.now g.inner.now g.s g.k g.cells.now g.v c.before.before.before.before.if-kinds-v-eq0.false
 
 pub node_up_spec : {M : Type 1} → statement M
 node_up_spec =

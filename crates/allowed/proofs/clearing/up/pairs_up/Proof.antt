@@ -21,12 +21,12 @@ decreases-loop kinds labels leaves inner s k cells₀ n v₀ cells v = n - v
 
 loop-holds : tie.Need-loop-v-init invariant-loop decreases-loop
 loop-holds c =
-    let g = c.before.before.before.before.before.args in (omega arith, refl, up_start g.kinds.now g.labels.now g.leaves.now g.inner.now g.s g.k g.cells-1.now)
+    let g = c.before.before.before.before.before.args in (omega arith, refl, up_start g.kinds.now g.labels.now g.leaves.now g.inner.now g.s g.k g.cells.now)
 
 node-up-requires : tie.Need-node_up-requires invariant-loop decreases-loop
 node-up-requires c κs =
     let g = c.before.before.before.before.before.before.before.before.args in
-    node-args g.kinds.now g.labels.now g.leaves.now g.inner.now g.s g.k c.before.before.before.before.before.before.before.before.requires.0 c.before.before.loop-v.v g.cells-1.now c.before.before.loop-v.cells-1
+    node-args g.kinds.now g.labels.now g.leaves.now g.inner.now g.s g.k c.before.before.before.before.before.before.before.before.requires.0 c.before.before.loop-v.v g.cells.now c.before.before.loop-v.cells
     c.before.loop-v-test.true c.before.before.loop-v.invariant.2 (omega (arith, c.before.before.before.before.before.before.before.before.requires.1, c.before.before.loop-v.invariant.1))
 
 loop-again : tie.Need-loop-v-preserved invariant-loop decreases-loop
@@ -34,8 +34,8 @@ loop-again c =
     let g = c.before.before.before.before.before.before.before.before.before.before.before.args in (
       omega (arith, c.before.before.before.before.loop-v-test.true),
       omega (arith, c.before.before.before.before.before.loop-v.invariant.1),
-      subst (UpWritten g.kinds.now g.labels.now g.leaves.now g.inner.now g.s g.k (c.before.before.before.before.before.loop-v.v + 1) g.cells-1.now) (sym c.before.before.node_up.ensures)
-          (up_next g.kinds.now g.labels.now g.leaves.now g.inner.now g.s g.k c.before.before.before.before.before.before.before.before.before.before.before.requires.0 c.before.before.before.before.before.loop-v.v g.cells-1.now c.before.before.before.before.before.loop-v.cells-1 c.before.before.before.before.loop-v-test.true c.before.before.before.before.before.loop-v.invariant.2
+      subst (UpWritten g.kinds.now g.labels.now g.leaves.now g.inner.now g.s g.k (c.before.before.before.before.before.loop-v.v + 1) g.cells.now) (sym c.before.before.node_up.ensures)
+          (up_next g.kinds.now g.labels.now g.leaves.now g.inner.now g.s g.k c.before.before.before.before.before.before.before.before.before.before.before.requires.0 c.before.before.before.before.before.loop-v.v g.cells.now c.before.before.before.before.before.loop-v.cells c.before.before.before.before.loop-v-test.true c.before.before.before.before.before.loop-v.invariant.2
           (omega (arith, c.before.before.before.before.before.before.before.before.before.before.before.requires.1, c.before.before.before.before.before.loop-v.invariant.1))),
     )
 
@@ -43,7 +43,7 @@ returns : tie.Need-returns invariant-loop decreases-loop
 returns c =
     let g = c.before.before.before.before.before.before.before.args in
     let e : c.before.loop-v.v ≡ length g.kinds.now = omega (arith, c.before.loop-v.invariant.0, c.loop-v-test.false) in
-    subst (λ (i : ℕ). UpWritten g.kinds.now g.labels.now g.leaves.now g.inner.now g.s g.k i g.cells-1.now c.before.loop-v.cells-1) e c.before.loop-v.invariant.2
+    subst (λ (i : ℕ). UpWritten g.kinds.now g.labels.now g.leaves.now g.inner.now g.s g.k i g.cells.now c.before.loop-v.cells) e c.before.loop-v.invariant.2
 
 pub pairs_up_spec : {M : Type 1} → statement M
 pairs_up_spec =

@@ -24,7 +24,7 @@ set-root-requires c κs =
     let g = t.args in
     let u = c.before.before.before in
     root-args g.kinds.now g.labels.now g.leaves.now g.inner.now g.marks.now g.s g.k t.requires.0 t.requires.1
-    g.cells-1.now u.run_Up.new.1.1.1.1.1.1.0 u.run_Up.ensures (omega (arith, t.requires.2))
+    g.cells.now u.run_Up.new.1.1.1.1.1.1.0 u.run_Up.ensures (omega (arith, t.requires.2))
 
 come-down-requires : tie.Need-come_down-requires
 come-down-requires c κs =
@@ -35,9 +35,9 @@ come-down-requires c κs =
       runs = t.requires.0;
       room = omega (arith, t.requires.2);
       marks = g.marks.now;
-      first = g.cells-1.now;
+      first = g.cells.now;
       ready = ready g.kinds.now g.labels.now g.leaves.now g.inner.now g.marks.now g.s g.k t.requires.0 t.requires.1
-          g.cells-1.now u.run_Up.new.1.1.1.1.1.1.0 u.run_Up.ensures (omega (arith, t.requires.2))
+          g.cells.now u.run_Up.new.1.1.1.1.1.1.0 u.run_Up.ensures (omega (arith, t.requires.2))
           c.before.before.before.set_root.new.1.1.1.0 c.before.before.before.set_root.ensures;
     }
 
@@ -46,9 +46,9 @@ returns c =
     let t = c.before.before.before.before.before.before.before.before.before.before.before.before.before.before.before.before.before.before in
     let g = t.args in
     let u = c.before.before.before.before.before.before.before.before.before.before in
-    c.before.before.come_down.ensures g.marks.now g.cells-1.now
+    c.before.before.come_down.ensures g.marks.now g.cells.now
     (ready g.kinds.now g.labels.now g.leaves.now g.inner.now g.marks.now g.s g.k t.requires.0 t.requires.1
-    g.cells-1.now u.run_Up.new.1.1.1.1.1.1.0 u.run_Up.ensures (omega (arith, t.requires.2))
+    g.cells.now u.run_Up.new.1.1.1.1.1.1.0 u.run_Up.ensures (omega (arith, t.requires.2))
     c.before.before.before.before.before.before.set_root.new.1.1.1.0 c.before.before.before.before.before.before.set_root.ensures)
 
 pub write_parts_spec : {M : Type 1} → statement M

@@ -32,10 +32,10 @@ node-down-requires c κs =
     let l = c.before.before.loop-v in
     let h = c.before.loop-v-test.true in
     let e : l.v ≡ l.v - 1 + 1 = omega arith in
-    node-args g.kinds.now g.labels.now g.leaves.now g.inner.now g.s g.k t.requires.runs (l.v - 1) l.cells-1
+    node-args g.kinds.now g.labels.now g.leaves.now g.inner.now g.s g.k t.requires.runs (l.v - 1) l.cells
     (omega (arith, l.invariant.0, h)) (omega (arith, l.invariant.1, t.requires.room)) t.requires.marks t.requires.first
     (subst (λ (i : ℕ). DownWritten g.kinds.now g.labels.now g.leaves.now g.inner.now t.requires.marks g.s g.k i
-    t.requires.first l.cells-1) e (l.invariant.2 t.requires.marks t.requires.first t.requires.ready))
+    t.requires.first l.cells) e (l.invariant.2 t.requires.marks t.requires.first t.requires.ready))
 
 loop-again : tie.Need-loop-v-preserved invariant-loop decreases-loop
 loop-again c =
@@ -48,10 +48,10 @@ loop-again c =
       omega (arith, l.invariant.1),
       λ marks first D. subst (DownWritten g.kinds.now g.labels.now g.leaves.now g.inner.now marks g.s g.k (l.v - 1) first)
           (sym c.before.before.node_down.ensures)
-          (down-next g.kinds.now g.labels.now g.leaves.now g.inner.now g.s g.k t.requires.runs (l.v - 1) l.cells-1
+          (down-next g.kinds.now g.labels.now g.leaves.now g.inner.now g.s g.k t.requires.runs (l.v - 1) l.cells
           (omega (arith, l.invariant.0, h)) (omega (arith, l.invariant.1, t.requires.room)) marks first
           (subst (λ (i : ℕ). DownWritten g.kinds.now g.labels.now g.leaves.now g.inner.now marks g.s g.k i
-          first l.cells-1) e (l.invariant.2 marks first D))),
+          first l.cells) e (l.invariant.2 marks first D))),
     )
 
 returns : tie.Need-returns invariant-loop decreases-loop
@@ -59,7 +59,7 @@ returns c marks first D =
     let g = c.before.before.before.before.before.before.before.args in
     let l = c.before.loop-v in
     let z : l.v ≡ 0 = omega (arith, c.loop-v-test.false) in
-    subst (λ (i : ℕ). DownWritten g.kinds.now g.labels.now g.leaves.now g.inner.now marks g.s g.k i first l.cells-1) z
+    subst (λ (i : ℕ). DownWritten g.kinds.now g.labels.now g.leaves.now g.inner.now marks g.s g.k i first l.cells) z
     (l.invariant.2 marks first D)
 
 pub come_down_spec : {M : Type 1} → statement M

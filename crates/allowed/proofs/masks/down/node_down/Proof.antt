@@ -17,7 +17,7 @@ returns c =
     let t = c.before.before.before.before.before.before.before.before.before.before.before in
     let g = t.args in
     c.before.before.leaf_down.ensures
-    ∙ leaf-case g.kinds.now g.labels.now g.leaves.now g.inner.now g.s g.k g.cells-1.now g.v c.before.before.before.before.if-kinds-v-eq0.true
+    ∙ leaf-case g.kinds.now g.labels.now g.leaves.now g.inner.now g.s g.k g.cells.now g.v c.before.before.before.before.if-kinds-v-eq0.true
 
 cast-inner-down : tie.Need-overflow_cast-labels
 cast-inner-down c =
@@ -33,7 +33,7 @@ returns-2 c =
     let t = c.before.before.before.before.before.before.before.before.before.before.before.before in
     let g = t.args in
     c.before.before.inner_down.ensures
-    ∙ inner-case g.kinds.now g.labels.now g.leaves.now g.inner.now g.s g.k g.cells-1.now g.v c.before.before.before.before.before.if-kinds-v-eq0.false
+    ∙ inner-case g.kinds.now g.labels.now g.leaves.now g.inner.now g.s g.k g.cells.now g.v c.before.before.before.before.before.if-kinds-v-eq0.false
 
 pub node_down_spec : {M : Type 1} → statement M
 node_down_spec =

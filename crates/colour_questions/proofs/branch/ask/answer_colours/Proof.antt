@@ -96,7 +96,7 @@ start-place-requires c κs =
     let s = start c in
     record {
       most = (limits c).0;
-      upper = omega (arith, s.pre.upper, n_is c);
+      upper = omega (arith, s.requires.upper, n_is c);
       room = omega (arith, (lent s).node_table_room, n_is c);
     }
 
@@ -145,7 +145,7 @@ descend-to-requires c κs =
             numbers m,
           );
       within = i.if-n-z.false;
-      lower = omega (arith, s.pre.lower, n_is m);
+      lower = omega (arith, s.requires.lower, n_is m);
     }
 
 returns-3 : tie.Need-returns-in-NotReached
@@ -179,12 +179,12 @@ finish-requires c κs =
     let s = start m in
     record {
       few = (limits m).1;
-      small = omega (arith, s.pre.lower, n_is m, (limits m).0);
+      small = omega (arith, s.requires.lower, n_is m, (limits m).0);
       low = low e;
       room = omega (
         arith,
         stride m.before.read32-s.result s.args.l m.before.before.read32-n.result
-            (omega (arith, s.pre.lower, n_is m)),
+            (omega (arith, s.requires.lower, n_is m)),
         bytes m,
       );
       marks_room = rw (rest_part _ (16 + m.before.read32-s.result * m.read32-k.result))

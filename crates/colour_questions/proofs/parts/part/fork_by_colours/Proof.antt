@@ -22,7 +22,7 @@ side-by-colours-requires c κs =
     let g = s.args in
     record {
       reads = s.requires.reads;
-      at = omega (arith, s.requires.left-1, s.requires.at);
+      at = omega (arith, s.requires.left, s.requires.at);
       same = s.requires.same;
       place = omega (
         arith,
@@ -33,7 +33,7 @@ side-by-colours-requires c κs =
           omega (
             arith,
             s.requires.at,
-            s.requires.left-1,
+            s.requires.left,
             last-covers g.l (size_cell g.node_table.now g.l) g.earlier.now i (sym b.before.last_below-i.ensures ∙ z),
           );
     }
@@ -46,7 +46,7 @@ side-by-colours-requires-2 c κs =
     let g = s.args in
     record {
       reads = s.requires.reads;
-      at = omega (arith, s.requires.left-1, s.requires.at);
+      at = omega (arith, s.requires.left, s.requires.at);
       same = s.requires.same;
       place = omega (
         arith,
@@ -58,7 +58,7 @@ side-by-colours-requires-2 c κs =
           omega (
             arith,
             s.requires.at,
-            s.requires.left-1,
+            s.requires.left,
             last-covers (g.v - 1) (size_cell g.node_table.now (g.v - 1)) g.earlier.now i (sym b.last_below-j.ensures ∙ z),
           );
     }

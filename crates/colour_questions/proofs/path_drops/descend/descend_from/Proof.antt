@@ -58,7 +58,7 @@ add-drops c =
 
 add-links : tie.Need-overflow_add-links invariant-loop decreases-loop
 add-links c =
-    let x = c.before.x-1 in
+    let x = c.before.x in
     let m = c.before.before.before in
     let i = m.before in
     let a = i.before in
@@ -69,7 +69,7 @@ add-links c =
 
 loop-less : tie.Need-loop-colour-smaller invariant-loop decreases-loop
 loop-less c =
-    let x = c.before.x-1 in
+    let x = c.before.x in
     let m = c.before.before.before in
     let i = m.before in
     descends-lower _ _ _ _ _ _ _ _ _ _ i.before.loop-colour.invariant i.loop-colour-test.true _ m.drop_in.ensures
@@ -77,7 +77,7 @@ loop-less c =
 
 loop-again : tie.Need-loop-colour-preserved invariant-loop decreases-loop
 loop-again c =
-    let x = c.before.x-1 in
+    let x = c.before.x in
     let m = c.before.before.before in
     let i = m.before in
     descends-turn _ _ _ _ _ _ _ _ _ _ i.before.loop-colour.invariant i.loop-colour-test.true _ m.drop_in.ensures

@@ -187,7 +187,7 @@ few : (c : tie.In-State) → let g = (start c).args in
 few c =
     let w = c.before.t-1.given in
     let s = start c in
-    roots_few _ _ _ _ _ _ _ _ _ _ _ _ s.pre
+    roots_few _ _ _ _ _ _ _ _ _ _ _ _ s.requires
     _ c.before.before.before.all_by_colours-t.ensures w.0.0 w.0.1.0 w.0.1.1.0 w.1
 
 add-yes : tie.Need-overflow_add-yes
@@ -203,10 +203,10 @@ add-yes-2 : tie.Need-overflow_add-yes-in-State
 add-yes-2 c = omega (arith, runs (start c))
 
 cast-yes : tie.Need-overflow_cast-yes
-cast-yes c = omega (arith, (few c).state, (start c).requires.states-1)
+cast-yes c = omega (arith, (few c).state, (start c).requires.states)
 
 add-yes-3 : tie.Need-overflow_add-yes-in-State-2
-add-yes-3 c = omega (arith, (few c).state, (start c).requires.states-1, runs (start c))
+add-yes-3 c = omega (arith, (few c).state, (start c).requires.states, runs (start c))
 
 shared-slice-read-yes : tie.Need-bounds-rules-k
 shared-slice-read-yes c =
@@ -220,7 +220,7 @@ returns : tie.Need-returns-in-NoState
 returns c =
     let t = c.before.before in
     let s = t.before.before.before.before.before.before.before.before.before.before.before.before.before.before.before.before.before.before in (
-      roots-lost _ _ _ _ _ _ _ _ _ _ _ _ s.pre
+      roots-lost _ _ _ _ _ _ _ _ _ _ _ _ s.requires
           _ t.all_by_colours-t.ensures c.enum_told-1.given.1,
       tt,
     )
@@ -230,7 +230,7 @@ returns-2 c =
     let e = c.before in
     let w = e.before.t-1.given in
     let s = start e in (
-      roots-answer _ _ _ _ _ _ _ _ _ _ _ _ s.pre
+      roots-answer _ _ _ _ _ _ _ _ _ _ _ _ s.requires
           _ e.before.before.before.all_by_colours-t.ensures w.0.0 w.0.1.0 w.0.1.1.0 w.1,
       ((few e).falls, (few e).few),
     )

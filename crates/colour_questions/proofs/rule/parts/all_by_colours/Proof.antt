@@ -31,7 +31,7 @@ slice-aggregate-part-by-colours c =
     let g = e.before.before.before.before.before.before.before.before.before.before.before.before.before.args in
     sym (earlier-length g.n g.s g.k g.m g.labels.now g.kinds.now g.leaves.now g.inner.now
     g.node_table.now
-    g.state_table.now g.numbers.now g.copies.now g.nodes.now g.changes.now g.roots.now o.states-1 o.last o.drops o.links o.i o.invariant e.loop-i-test.true)
+    g.state_table.now g.numbers.now g.copies.now g.nodes.now g.changes.now g.roots.now o.states o.last o.drops o.links o.i o.invariant e.loop-i-test.true)
 
 array-share-prefix-states : tie.Need-slice_bounds-states-end invariant-loop decreases-loop
 array-share-prefix-states c =
@@ -47,7 +47,7 @@ slice-aggregate-part-by-colours-2 c =
     let o = e.before.loop-i in
     let g = e.before.before.before.before.before.before.before.before.before.before.before.before.before.args in
     sym (states_length g.n g.s g.k g.m g.labels.now g.kinds.now g.leaves.now g.inner.now g.node_table.now
-    g.state_table.now g.numbers.now g.copies.now g.nodes.now g.changes.now g.roots.now o.states-1 o.last o.drops o.links o.i o.invariant e.loop-i-test.true)
+    g.state_table.now g.numbers.now g.copies.now g.nodes.now g.changes.now g.roots.now o.states o.last o.drops o.links o.i o.invariant e.loop-i-test.true)
 
 mul-part-by-colours : tie.Need-offset_bounds-roots-i invariant-loop decreases-loop
 mul-part-by-colours c =
@@ -71,7 +71,7 @@ part-by-colours-requires c κs =
     let o = e.before.loop-i in
     let g = e.before.before.before.before.before.before.before.before.before.before.before.before.before.args in
     next-args g.n g.s g.k g.m g.labels.now g.kinds.now g.leaves.now g.inner.now g.node_table.now
-    g.state_table.now g.numbers.now g.copies.now g.nodes.now g.changes.now g.roots.now o.states-1 o.last o.drops o.links o.i o.invariant e.loop-i-test.true
+    g.state_table.now g.numbers.now g.copies.now g.nodes.now g.changes.now g.roots.now o.states o.last o.drops o.links o.i o.invariant e.loop-i-test.true
 
 returns : tie.Need-returns-in-NoState invariant-loop decreases-loop
 returns c =
@@ -81,7 +81,7 @@ returns c =
     let g = e.before.before.before.before.before.before.before.before.before.before.before.before.before.args in
     going-lost g.n g.s g.k g.m g.labels.now g.kinds.now g.leaves.now g.inner.now
     g.node_table.now g.state_table.now g.numbers.now g.copies.now g.nodes.now g.changes.now
-    g.roots.now o.states-1 o.last o.drops o.links o.i o.invariant e.loop-i-test.true
+    g.roots.now o.states o.last o.drops o.links o.i o.invariant e.loop-i-test.true
     _ r.part_by_colours-t.ensures c.enum_told-1.given.1
 
 -- where the part has a state
@@ -98,20 +98,20 @@ falls c =
     let g = e.before.before.before.before.before.before.before.before.before.before.before.before.before.args in
     next-falls g.n g.s g.k g.m g.labels.now g.kinds.now g.leaves.now g.inner.now
     g.node_table.now g.state_table.now g.numbers.now g.copies.now g.nodes.now g.changes.now
-    g.roots.now o.states-1 o.last o.drops o.links o.i o.invariant e.loop-i-test.true
+    g.roots.now o.states o.last o.drops o.links o.i o.invariant e.loop-i-test.true
     _ r.part_by_colours-t.ensures w.0.0 w.0.1.0 w.0.1.1.0 w.1
 
 array-write-states : tie.Need-bounds-states-i invariant-loop decreases-loop
 array-write-states c =
     let e = iteration c in
     let h = e.loop-i-test.taken in
-    omega (arith, h, e.before.loop-i.inv.args.few)
+    omega (arith, h, e.before.loop-i.invariant.args.few)
 
 add-drops : tie.Need-overflow_add-drops invariant-loop decreases-loop
 add-drops c =
     let e = iteration c in
     let h = e.loop-i-test.taken in
-    omega (arith, falls c, h, e.before.loop-i.inv.args.few)
+    omega (arith, falls c, h, e.before.loop-i.invariant.args.few)
 
 add-links : tie.Need-overflow_add-links invariant-loop decreases-loop
 add-links c =
@@ -123,7 +123,7 @@ add-links c =
     let h = e.loop-i-test.true in
     let f = next-few g.n g.s g.k g.m g.labels.now g.kinds.now g.leaves.now g.inner.now
     g.node_table.now g.state_table.now g.numbers.now g.copies.now g.nodes.now g.changes.now
-    g.roots.now o.states-1 o.last o.drops o.links o.i o.invariant h
+    g.roots.now o.states o.last o.drops o.links o.i o.invariant h
     _ r.part_by_colours-t.ensures w.0.0 w.0.1.0 w.0.1.1.0 w.1 in
     omega (arith, falls c, f, h, o.invariant.args.few)
 
@@ -131,7 +131,7 @@ add-i : tie.Need-overflow_add-i invariant-loop decreases-loop
 add-i c =
     let e = iteration c in
     let h = e.loop-i-test.taken in
-    omega (arith, h, e.before.loop-i.inv.args.few)
+    omega (arith, h, e.before.loop-i.invariant.args.few)
 
 loop-less : tie.Need-loop-i-smaller invariant-loop decreases-loop
 loop-less c = omega (arith, (iteration c).loop-i-test.true)
@@ -145,7 +145,7 @@ loop-again c =
     let g = e.before.before.before.before.before.before.before.before.before.before.before.before.before.args in
     going_next g.n g.s g.k g.m g.labels.now g.kinds.now g.leaves.now g.inner.now
     g.node_table.now g.state_table.now g.numbers.now g.copies.now g.nodes.now g.changes.now
-    g.roots.now o.states-1 o.last o.drops o.links o.i o.invariant e.loop-i-test.true
+    g.roots.now o.states o.last o.drops o.links o.i o.invariant e.loop-i-test.true
     _ r.part_by_colours-t.ensures w.0.0 w.0.1.0 w.0.1.1.0 w.1
 
 returns-2 : tie.Need-returns invariant-loop decreases-loop
@@ -154,7 +154,7 @@ returns-2 c =
     let g = c.before.before.before.before.before.before.before.before.before.before.before.before.before.args in
     going_done g.n g.s g.k g.m g.labels.now g.kinds.now g.leaves.now g.inner.now
     g.node_table.now g.state_table.now g.numbers.now g.copies.now g.nodes.now g.changes.now
-    g.roots.now o.states-1 o.last o.drops o.links o.i o.invariant c.loop-i-test.false
+    g.roots.now o.states o.last o.drops o.links o.i o.invariant c.loop-i-test.false
 
 pub all_by_colours_spec : {M : Type 1} → statement M
 all_by_colours_spec =

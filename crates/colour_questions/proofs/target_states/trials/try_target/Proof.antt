@@ -94,17 +94,17 @@ low c =
 mul-set : tie.Need-overflow_mul-set
 mul-set c =
     let s = start c in
-    omega (arith, product s s.args.w s.pre.all.lower)
+    omega (arith, product s s.args.w s.requires.all.lower)
 
 add-set : tie.Need-overflow_add-set
 add-set c =
     let s = start c in
-    omega (arith, product s s.args.w s.pre.all.lower, low c, s.pre.all.few)
+    omega (arith, product s s.args.w s.requires.all.lower, low c, s.requires.all.few)
 
 shared-slice-read-set : tie.Need-bounds-copies-w
 shared-slice-read-set c =
     let s = start c.before in
-    omega (arith, inside s s.args.w s.pre.all.lower, low c.before)
+    omega (arith, inside s s.args.w s.requires.all.lower, low c.before)
 
 returns-3 : tie.Need-returns-in-Reached
 returns-3 c =

@@ -18,8 +18,8 @@ write-words-requires c κs =
     let b = c.before.before.before.before in
     let s = b.before.before.before.before.before.before.before in
     let t = b.build_node_table in
-    word-args _ _ _ _ _ _ _ s.requires s.args.numbers-1.now t.new.1.0 t.ensures t.auto.1.0
-    s.args.bytes-1.now refl
+    word-args _ _ _ _ _ _ _ s.requires s.args.numbers.now t.new.1.0 t.ensures t.auto.1.0
+    s.args.bytes.now refl
 
 returns : tie.Need-returns
 returns c =
@@ -28,8 +28,8 @@ returns c =
     let s = b.before.before.before.before.before.before.before in
     let t = b.build_node_table in
     let w = a.write_words in
-    filled _ _ _ _ _ _ _ s.requires s.args.numbers-1.now t.new.1.0 t.ensures t.auto.1.0
-    s.args.bytes-1.now w.new.1.1.1.1.1.0 w.new.1.1.1.1.0 w.ensures refl
+    filled _ _ _ _ _ _ _ s.requires s.args.numbers.now t.new.1.0 t.ensures t.auto.1.0
+    s.args.bytes.now w.new.1.1.1.1.1.0 w.new.1.1.1.1.0 w.ensures refl
     (w.auto.1.1.1.1.0 ∙ t.auto.1.0) refl w.auto.1.1.1.1.1.0
 
 pub fill_colours_spec : {M : Type 1} → statement M

@@ -9,17 +9,17 @@ fill-colours-requires : tie.Need-fill_colours-requires
 fill-colours-requires c κs =
     let s = c.before.before.before.before.before.before.before.before.before in
     parts-filled s.args.plan.now s.args.branch.now s.args.n s.args.s s.args.k
-    (length s.args.numbers-1.now)
-    (length s.args.bytes-1.now) s.requires
+    (length s.args.numbers.now)
+    (length s.args.bytes.now) s.requires
 
 returns : tie.Need-returns
 returns c =
     let f = c.before.before.before.before in
     let s = f.before.before.before.before.before.before.before.before.before.before in
     parts-written s.args.plan.now s.args.branch.now s.args.n s.args.s s.args.k
-    (length s.args.numbers-1.now)
-    (length s.args.bytes-1.now) s.requires
-    s.args.numbers-1.now s.args.bytes-1.now f.fill_colours.new.1.1.1.1.1.0
+    (length s.args.numbers.now)
+    (length s.args.bytes.now) s.requires
+    s.args.numbers.now s.args.bytes.now f.fill_colours.new.1.1.1.1.1.0
     f.fill_colours.new.1.1.1.1.1.1.0
     f.fill_colours.ensures
 

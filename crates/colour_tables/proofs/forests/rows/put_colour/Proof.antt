@@ -17,12 +17,12 @@ use Rattle.colour_tables.proofs.forests.rows.put_row.Reads as put-row-reads
 
 -- the row is inside, and its place fits a word
 fits : (c : tie.After-put_row-arg-1) → let g = c.before.before.before.before.before.args in
-    (g.c * (g.n * 4) + g.n * 4 ≤ length g.nums-1.now) × (g.c * (g.n * 4) ≤ 3932100)
+    (g.c * (g.n * 4) + g.n * 4 ≤ length g.nums.now) × (g.c * (g.n * 4) ≤ 3932100)
     × (g.v * 4 + 4 ≤ g.n * 4) × (g.n ≤ 65535)
 fits c =
     let i = c.before.before.before in
     let s = i.before.before in
-    let A : NextArgs s.args.nums-1.now s.args.n s.args.c s.args.v = s.requires i.if-c-lt1.false in (
+    let A : NextArgs s.args.nums.now s.args.n s.args.c s.args.v = s.requires i.if-c-lt1.false in (
       A.room,
       omega (arith, A.most, mul-le-mul_right (s.args.n * 4) A.few),
       omega (arith, A.at),
@@ -32,7 +32,7 @@ fits c =
 returns : tie.Need-returns-then-c-lt1
 returns c =
     let g = c.before.before.args in
-    sym (colour-none g.nums-1.now g.n g.c g.v g.lands c.if-c-lt1.true)
+    sym (colour-none g.nums.now g.n g.c g.v g.lands c.if-c-lt1.true)
 
 next-row-requires : tie.Need-next_row-row-requires
 next-row-requires c κs = c.before.before.before.requires c.before.if-c-lt1.false
@@ -59,8 +59,8 @@ returns-2 c =
     let i = r.before.before in
     let g = i.before.before.args in
     m.put_row.ensures
-    ∙ ap (λ (x : Row). put_row g.nums-1.now (g.c * (g.n * 4) + g.v * 4) x g.lands) r.next_row-row.ensures
-    ∙ sym (colour-put g.nums-1.now g.n g.c g.v g.lands i.if-c-lt1.false)
+    ∙ ap (λ (x : Row). put_row g.nums.now (g.c * (g.n * 4) + g.v * 4) x g.lands) r.next_row-row.ensures
+    ∙ sym (colour-put g.nums.now g.n g.c g.v g.lands i.if-c-lt1.false)
 
 pub put_colour_spec : {M : Type 1} → statement M
 put_colour_spec =

@@ -28,7 +28,7 @@ loop-holds c =
     let s = c.before.before.before in (
       refl,
       refl,
-      take-start s.args.successors.now s.args.bytes.now s.args.numbers-1.now s.args.n s.args.at
+      take-start s.args.successors.now s.args.bytes.now s.args.numbers.now s.args.n s.args.at
           s.args.v s.requires.node _ refl,
     )
 
@@ -135,8 +135,8 @@ put-colour-requires c κs =
     let a = c.before.before.before.before.before.before in
     let o = a.loop-c in
     let s = a.before.before.before.before in
-    take-args s.args.successors.now s.args.bytes.now s.args.numbers-1.now s.args.n s.args.at
-    s.args.v s.requires.node s.requires o.bytes o.numbers-1 o.owners o.taken o.c o.invariant.2
+    take-args s.args.successors.now s.args.bytes.now s.args.numbers.now s.args.n s.args.at
+    s.args.v s.requires.node s.requires o.bytes o.numbers o.owners o.taken o.c o.invariant.2
     c.before.before.before.before.before.loop-c-test.true o.invariant.0 o.invariant.1
 
 loop-again : tie.Need-loop-c-preserved invariant-loop decreases-loop
@@ -149,8 +149,8 @@ loop-again c =
     let h = p.before.before.before.before.loop-c-test.true in (
       length-set o.bytes _ _ ∙ o.invariant.0,
       m.put_colour.auto.0 ∙ o.invariant.1,
-      take-turn s.args.successors.now s.args.bytes.now s.args.numbers-1.now s.args.n s.args.at
-          s.args.v s.requires.node s.requires o.bytes o.numbers-1 o.owners o.taken o.c o.invariant.2
+      take-turn s.args.successors.now s.args.bytes.now s.args.numbers.now s.args.n s.args.at
+          s.args.v s.requires.node s.requires o.bytes o.numbers o.owners o.taken o.c o.invariant.2
           h o.invariant.0 o.invariant.1 p.place_of_bit-x.result-1 p.before.before.if-taken-q-eq0.bit m.put_colour.new.0
           (bit_is p.before.before) (place_is p).0 m.put_colour.ensures,
     )
@@ -160,8 +160,8 @@ returns c =
     let a = c.before in
     let o = a.loop-c in
     let s = a.before.before.before.before in
-    take_done s.args.successors.now s.args.bytes.now s.args.numbers-1.now s.args.n s.args.at
-    s.args.v s.requires.node o.bytes o.numbers-1 o.owners o.taken o.c o.invariant.2
+    take_done s.args.successors.now s.args.bytes.now s.args.numbers.now s.args.n s.args.at
+    s.args.v s.requires.node o.bytes o.numbers o.owners o.taken o.c o.invariant.2
     c.loop-c-test.false
 
 pub take_in_turn_spec : {M : Type 1} → statement M

@@ -17,21 +17,21 @@ use Rattle.colour_tables.proofs.rule.fill.write_rule_colours.Reads as write-rule
 
 -- all checks pass
 passed : (c : tie.Else-no-ne0) → let g = c.before.before.before.before.before.before.args in
-    first_no (rule_colour_checks g.plan.now g.rules.now (length g.numbers-1.now) (length g.bytes-1.now)) ≡ 0
+    first_no (rule_colour_checks g.plan.now g.rules.now (length g.numbers.now) (length g.bytes.now)) ≡ 0
 passed c = sym c.before.check_rule_colours-no.ensures ∙ c.if-no-ne0.false
 
 accepts : (c : tie.Else-no-ne0) → let g = c.before.before.before.before.before.before.args in
-    Accepted g.plan.now g.rules.now (length g.numbers-1.now) (length g.bytes-1.now)
+    Accepted g.plan.now g.rules.now (length g.numbers.now) (length g.bytes.now)
 accepts c =
     let g = c.before.before.before.before.before.before.args in
-    accepted g.plan.now g.rules.now (length g.numbers-1.now) (length g.bytes-1.now) (passed c)
+    accepted g.plan.now g.rules.now (length g.numbers.now) (length g.bytes.now) (passed c)
 
 returns : tie.Need-returns-then-no-ne0
 returns c =
     let g = c.before.before.before.before.before.before.args in
     let r = c.before.check_rule_colours-no in
     build-refused (built_set_numbers g.plan.now g.rules.now) (built_set_bytes g.plan.now g.rules.now)
-    g.numbers-1.now g.bytes-1.now _ r.result r.ensures c.if-no-ne0.true
+    g.numbers.now g.bytes.now _ r.result r.ensures c.if-no-ne0.true
 
 read32-requires : tie.Need-read32-n-requires
 read32-requires c κs = omega (arith, (accepts c).0.long)
@@ -46,7 +46,7 @@ write-rule-colours-requires : tie.Need-write_rule_colours-requires
 write-rule-colours-requires c κs =
     let i = c.before.before.before.before.before in
     let g = i.before.before.before.before.before.before.args in
-    part-args g.plan.now g.rules.now (length g.numbers-1.now) (length g.bytes-1.now) (passed i) _ _ _
+    part-args g.plan.now g.rules.now (length g.numbers.now) (length g.bytes.now) (passed i) _ _ _
     c.before.before.before.before.read32-n.ensures c.before.before.before.read32-s.ensures
     c.before.before.read32-k.ensures
 
@@ -56,7 +56,7 @@ returns-2 c =
     let i = w.before.before.before.before.before.before in
     let g = i.before.before.before.before.before.before.args in
     build-done (built_set_numbers g.plan.now g.rules.now) (built_set_bytes g.plan.now g.rules.now)
-    g.numbers-1.now g.bytes-1.now _
+    g.numbers.now g.bytes.now _
     w.write_rule_colours.new.1.1.1.1.1.0 w.write_rule_colours.new.1.1.1.1.1.1.0 (passed i)
     w.write_rule_colours.ensures.numbers_are w.write_rule_colours.ensures.bytes_are
 

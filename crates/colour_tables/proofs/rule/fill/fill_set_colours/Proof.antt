@@ -14,16 +14,16 @@ write-sets-requires : tie.Need-write_sets-requires
 write-sets-requires c κs =
     let k = c.before.before in
     let s = k.before.before.before.before.before in
-    set-args s.args.labels.now s.args.inner.now s.args.s s.args.k s.args.numbers-1.now
-    s.args.bytes-1.now s.requires k.set_count-count.result _ k.set_count-count.ensures.0 refl
+    set-args s.args.labels.now s.args.inner.now s.args.s s.args.k s.args.numbers.now
+    s.args.bytes.now s.requires k.set_count-count.result _ k.set_count-count.ensures.0 refl
 
 returns : tie.Need-returns
 returns c =
     let w = c.before.before.before.before in
     let k = w.before.before.before in
     let s = k.before.before.before.before.before in
-    filled s.args.labels.now s.args.inner.now s.args.s s.args.k s.args.numbers-1.now
-    s.args.bytes-1.now s.requires k.set_count-count.result _ k.set_count-count.ensures.0 refl
+    filled s.args.labels.now s.args.inner.now s.args.s s.args.k s.args.numbers.now
+    s.args.bytes.now s.requires k.set_count-count.result _ k.set_count-count.ensures.0 refl
     w.write_sets.new.1.1.1.1.1.1.1.0 w.write_sets.new.1.1.1.1.1.1.0 w.write_sets.ensures
 
 pub fill_set_colours_spec : {M : Type 1} → statement M

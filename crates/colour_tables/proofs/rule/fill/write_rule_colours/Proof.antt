@@ -9,8 +9,8 @@ use Rattle.colour_tables.proofs.rule.fill.write_rule_colours.Tie as tie
 write-tables-requires : tie.Need-write_tables-requires
 write-tables-requires c κs =
     let s = c.before.before.before.before.before.before in
-    table-args s.args.plan.now s.args.rules.now s.args.n s.args.s s.args.k s.args.numbers-1.now
-    s.args.bytes-1.now s.requires
+    table-args s.args.plan.now s.args.rules.now s.args.n s.args.s s.args.k s.args.numbers.now
+    s.args.bytes.now s.requires
 
 fill-set-colours-requires : tie.Need-fill_set_colours-requires
 fill-set-colours-requires c κs =
@@ -18,8 +18,8 @@ fill-set-colours-requires c κs =
     let b = i.before.before.before.before.before in
     let s = b.before.before.before.before.before.before.before in
     parts-filled s.args.plan.now s.args.rules.now s.args.n s.args.s s.args.k
-    s.args.numbers-1.now
-    s.args.bytes-1.now s.requires b.write_tables.new.1.1.1.1.1.0 b.write_tables.new.1.1.1.1.1.1.0
+    s.args.numbers.now
+    s.args.bytes.now s.requires b.write_tables.new.1.1.1.1.1.0 b.write_tables.new.1.1.1.1.1.1.0
     b.write_tables.ensures i.inner_count.result i.inner_count.ensures.value
     b.write_tables.auto.1.1.1.1.1.0 b.write_tables.auto.1.1.1.1.1.1.0
 
@@ -30,8 +30,8 @@ returns c =
     let b = i.before.before.before.before.before in
     let s = b.before.before.before.before.before.before.before in
     parts-written s.args.plan.now s.args.rules.now s.args.n s.args.s s.args.k
-    s.args.numbers-1.now
-    s.args.bytes-1.now s.requires b.write_tables.new.1.1.1.1.1.0 b.write_tables.new.1.1.1.1.1.1.0
+    s.args.numbers.now
+    s.args.bytes.now s.requires b.write_tables.new.1.1.1.1.1.0 b.write_tables.new.1.1.1.1.1.1.0
     b.write_tables.ensures i.inner_count.result i.inner_count.ensures.value
     f.fill_set_colours.new.1.1.1.1.0 f.fill_set_colours.new.1.1.1.1.1.0
     (f.fill_set_colours.auto.1.1.1.1.0 ∙ b.write_tables.auto.1.1.1.1.1.0)

@@ -17,12 +17,12 @@ returns c =
     s.args.bytes.now s.args.n s.args.s s.args.k s.args.count s.args.v s.requires c.if-v-n.true
 
 states-above-requires : tie.Need-states_above-above-requires
-states-above-requires c κs = c.before.before.before.before.before.requires.above-1 c.if-v-n.false
+states-above-requires c κs = c.before.before.before.before.before.requires.above c.if-v-n.false
 
 array-share-prefix-above : tie.Need-slice_bounds-above-end
 array-share-prefix-above c =
     let s = c.before.before.before.before.before.before in
-    omega (arith, c.states_above-above.ensures.long, (s.requires.above-1 c.before.if-v-n.false).few)
+    omega (arith, c.states_above-above.ensures.long, (s.requires.above c.before.if-v-n.false).few)
 
 slice-aggregate-successors-by-set : tie.Need-slice_bounds-successors_by_set-end
 slice-aggregate-successors-by-set c =

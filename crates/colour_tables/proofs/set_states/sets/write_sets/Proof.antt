@@ -26,21 +26,21 @@ decreases-loop labels inner s k count base numbers₀ bytes₀ n v₀ numbers by
 
 -- what the functions of one node need
 above : (i : tie.In-loop-v invariant-loop decreases-loop) → let a = i.before in let s = a.before.before.before.before.before in
-    AboveArgs a.loop-v.bytes-1 a.loop-v.numbers-1 (length s.args.labels.now) s.args.base s.args.count
+    AboveArgs a.loop-v.bytes a.loop-v.numbers (length s.args.labels.now) s.args.base s.args.count
     (a.loop-v.v - 1)
 above i =
     let a = i.before in
     let s = a.before.before.before.before.before in
     let f = a.loop-v.invariant in
     sets-above s.args.labels.now s.args.inner.now s.args.s s.args.k s.args.count s.args.base
-    s.args.bytes-1.now s.args.numbers-1.now s.requires _ a.loop-v.v (a.loop-v.v - 1) a.loop-v.bytes-1
-    a.loop-v.numbers-1 f.1
+    s.args.bytes.now s.args.numbers.now s.requires _ a.loop-v.v (a.loop-v.v - 1) a.loop-v.bytes
+    a.loop-v.numbers f.1
     (omega (arith, i.loop-v-test.true)) (omega (arith, i.loop-v-test.true, f.0)) f.2 f.3 f.4
 
 down : (r : tie.After-row_above-above invariant-loop decreases-loop)
     → let a = r.before.before.before.before in
     let s = a.before.before.before.before.before in
-    DownArgs r.row_above-above.result s.args.labels.now a.loop-v.numbers-1 s.args.inner.now a.loop-v.bytes-1
+    DownArgs r.row_above-above.result s.args.labels.now a.loop-v.numbers s.args.inner.now a.loop-v.bytes
     (length s.args.labels.now) s.args.s s.args.k s.args.count (a.loop-v.v - 1)
 down r =
     let i = r.before.before.before in
@@ -48,8 +48,8 @@ down r =
     let s = a.before.before.before.before.before in
     let f = a.loop-v.invariant in
     sets_down s.args.labels.now s.args.inner.now s.args.s s.args.k s.args.count s.args.base
-    s.args.bytes-1.now s.args.numbers-1.now s.requires _ a.loop-v.v (a.loop-v.v - 1) a.loop-v.bytes-1
-    a.loop-v.numbers-1 f.1
+    s.args.bytes.now s.args.numbers.now s.requires _ a.loop-v.v (a.loop-v.v - 1) a.loop-v.bytes
+    a.loop-v.numbers f.1
     (omega (arith, i.loop-v-test.true)) (omega (arith, i.loop-v-test.true, f.0)) f.2 f.3 f.4
     r.row_above-above.result r.row_above-above.ensures
 
@@ -57,9 +57,9 @@ place : (r : tie.After-row_above-above invariant-loop decreases-loop) (successor
     → let a = r.before.before.before.before in
     let s = a.before.before.before.before.before in
     RowOf s.args.count
-    (λ c. down_set s.args.labels.now a.loop-v.numbers-1 s.args.inner.now a.loop-v.bytes-1
+    (λ c. down_set s.args.labels.now a.loop-v.numbers s.args.inner.now a.loop-v.bytes
     (length s.args.labels.now) s.args.s s.args.k (a.loop-v.v - 1) (get_or r.row_above-above.result c 0)) successors
-    → TurnArgs successors a.loop-v.bytes-1 a.loop-v.numbers-1 (length s.args.labels.now) s.args.base s.args.count
+    → TurnArgs successors a.loop-v.bytes a.loop-v.numbers (length s.args.labels.now) s.args.base s.args.count
     (a.loop-v.v - 1)
 place r =
     let i = r.before.before.before in
@@ -67,8 +67,8 @@ place r =
     let s = a.before.before.before.before.before in
     let f = a.loop-v.invariant in
     sets-place s.args.labels.now s.args.inner.now s.args.s s.args.k s.args.count s.args.base
-    s.args.bytes-1.now s.args.numbers-1.now s.requires _ a.loop-v.v (a.loop-v.v - 1) a.loop-v.bytes-1
-    a.loop-v.numbers-1 f.1
+    s.args.bytes.now s.args.numbers.now s.requires _ a.loop-v.v (a.loop-v.v - 1) a.loop-v.bytes
+    a.loop-v.numbers f.1
     (omega (arith, i.loop-v-test.true)) (omega (arith, i.loop-v-test.true, f.0)) f.2 f.3 f.4
     r.row_above-above.result r.row_above-above.ensures
 
@@ -80,7 +80,7 @@ loop-holds c =
       refl,
       refl,
       sets-start s.args.labels.now s.args.inner.now s.args.s s.args.k s.args.count s.args.base
-          s.args.bytes-1.now s.args.numbers-1.now s.requires (length s.args.labels.now) refl,
+          s.args.bytes.now s.args.numbers.now s.requires (length s.args.labels.now) refl,
     )
 
 row-above-requires : tie.Need-row_above-above-requires invariant-loop decreases-loop
@@ -108,8 +108,8 @@ loop-again c =
       omega arith,
       omega arith,
       sets-next s.args.labels.now s.args.inner.now s.args.s s.args.k s.args.count s.args.base
-          s.args.bytes-1.now s.args.numbers-1.now s.requires _ a.loop-v.v (a.loop-v.v - 1) a.loop-v.bytes-1
-          a.loop-v.numbers-1 f.1
+          s.args.bytes.now s.args.numbers.now s.requires _ a.loop-v.v (a.loop-v.v - 1) a.loop-v.bytes
+          a.loop-v.numbers f.1
           (omega (arith, i.loop-v-test.true)) (omega (arith, i.loop-v-test.true, f.0)) f.2 f.3 f.4
           r.row_above-above.result r.row_above-above.ensures d.successors_down-successors.result d.successors_down-successors.ensures _ _
           p.put_copy.ensures,
@@ -121,7 +121,7 @@ returns c =
     let s = a.before.before.before.before.before in
     let z : a.loop-v.v ≡ 0 = omega (arith, c.loop-v-test.false) in
     subst (λ (i : ℕ). Sets s.args.labels.now s.args.inner.now s.args.s s.args.k s.args.count
-    s.args.base s.args.bytes-1.now s.args.numbers-1.now i a.loop-v.bytes-1 a.loop-v.numbers-1) z
+    s.args.base s.args.bytes.now s.args.numbers.now i a.loop-v.bytes a.loop-v.numbers) z
     a.loop-v.invariant.4
 
 pub write_sets_spec : {M : Type 1} → statement M

@@ -41,7 +41,7 @@ returns c =
     let p = m.before.before.before in
     let s = p.before.before.before in
     subst (λ (j : ℕ). TakenTo (take s.args.k s.args.t1) s.args.n (s.args.base + s.args.v * s.args.k) j
-    s.args.v s.args.bytes-1.now s.args.numbers-1.now m.take_in_turn.new.1.0
+    s.args.v s.args.bytes.now s.args.numbers.now m.take_in_turn.new.1.0
     m.take_in_turn.new.1.1.0) (prefix p) m.take_in_turn.ensures
 
 pub put_copy_spec : {M : Type 1} → statement M

@@ -26,13 +26,13 @@ decreases-loop labels steps s k numbers₀ bytes₀ n v₀ numbers bytes v = v
 
 -- what the functions of one node need
 above : (i : tie.In-loop-v invariant-loop decreases-loop) → let a = i.before in let s = a.before.before.before.before.before in
-    AboveArgs a.loop-v.bytes-1 a.loop-v.numbers-1 (length s.args.labels.now) 0 s.args.s (a.loop-v.v - 1)
+    AboveArgs a.loop-v.bytes a.loop-v.numbers (length s.args.labels.now) 0 s.args.s (a.loop-v.v - 1)
 above i =
     let a = i.before in
     let s = a.before.before.before.before.before in
     let f = a.loop-v.invariant in
-    words-above s.args.labels.now s.args.steps.now s.args.s s.args.k s.args.bytes-1.now
-    s.args.numbers-1.now s.requires _ a.loop-v.v (a.loop-v.v - 1) a.loop-v.bytes-1 a.loop-v.numbers-1 f.1
+    words-above s.args.labels.now s.args.steps.now s.args.s s.args.k s.args.bytes.now
+    s.args.numbers.now s.requires _ a.loop-v.v (a.loop-v.v - 1) a.loop-v.bytes a.loop-v.numbers f.1
     (omega (arith, i.loop-v-test.true)) (omega (arith, i.loop-v-test.true, f.0)) f.2 f.3 f.4
 
 successors : (r : tie.After-row_above-above invariant-loop decreases-loop) (a : ℕ)
@@ -43,8 +43,8 @@ successors r =
     let a = i.before in
     let s = a.before.before.before.before.before in
     let f = a.loop-v.invariant in
-    words-successors s.args.labels.now s.args.steps.now s.args.s s.args.k s.args.bytes-1.now
-    s.args.numbers-1.now s.requires _ a.loop-v.v (a.loop-v.v - 1) a.loop-v.bytes-1 a.loop-v.numbers-1 f.1
+    words-successors s.args.labels.now s.args.steps.now s.args.s s.args.k s.args.bytes.now
+    s.args.numbers.now s.requires _ a.loop-v.v (a.loop-v.v - 1) a.loop-v.bytes a.loop-v.numbers f.1
     (omega (arith, i.loop-v-test.true)) (omega (arith, i.loop-v-test.true, f.0)) f.2 f.3 f.4
     r.row_above-above.result r.row_above-above.ensures
 
@@ -52,14 +52,14 @@ place : (r : tie.After-row_above-above invariant-loop decreases-loop) (successor
     → let a = r.before.before.before.before in
     let s = a.before.before.before.before.before in
     RowOf s.args.s (λ c. get_or s.args.steps.now (get_or r.row_above-above.result c 0 * s.args.k + x) 0) successors
-    → TurnArgs successors a.loop-v.bytes-1 a.loop-v.numbers-1 (length s.args.labels.now) 0 s.args.s (a.loop-v.v - 1)
+    → TurnArgs successors a.loop-v.bytes a.loop-v.numbers (length s.args.labels.now) 0 s.args.s (a.loop-v.v - 1)
 place r =
     let i = r.before.before.before in
     let a = i.before in
     let s = a.before.before.before.before.before in
     let f = a.loop-v.invariant in
-    words-place s.args.labels.now s.args.steps.now s.args.s s.args.k s.args.bytes-1.now
-    s.args.numbers-1.now s.requires _ a.loop-v.v (a.loop-v.v - 1) a.loop-v.bytes-1 a.loop-v.numbers-1 f.1
+    words-place s.args.labels.now s.args.steps.now s.args.s s.args.k s.args.bytes.now
+    s.args.numbers.now s.requires _ a.loop-v.v (a.loop-v.v - 1) a.loop-v.bytes a.loop-v.numbers f.1
     (omega (arith, i.loop-v-test.true)) (omega (arith, i.loop-v-test.true, f.0)) f.2 f.3 f.4
     r.row_above-above.result r.row_above-above.ensures
 
@@ -70,8 +70,8 @@ loop-holds c =
       refl,
       refl,
       refl,
-      words-start s.args.labels.now s.args.steps.now s.args.s s.args.k s.args.bytes-1.now
-          s.args.numbers-1.now s.requires (length s.args.labels.now) refl,
+      words-start s.args.labels.now s.args.steps.now s.args.s s.args.k s.args.bytes.now
+          s.args.numbers.now s.requires (length s.args.labels.now) refl,
     )
 
 row-above-requires : tie.Need-row_above-above-requires invariant-loop decreases-loop
@@ -111,8 +111,8 @@ loop-again c =
       refl,
       omega arith,
       omega arith,
-      words-next s.args.labels.now s.args.steps.now s.args.s s.args.k s.args.bytes-1.now
-          s.args.numbers-1.now s.requires _ a.loop-v.v (a.loop-v.v - 1) a.loop-v.bytes-1 a.loop-v.numbers-1 f.1
+      words-next s.args.labels.now s.args.steps.now s.args.s s.args.k s.args.bytes.now
+          s.args.numbers.now s.requires _ a.loop-v.v (a.loop-v.v - 1) a.loop-v.bytes a.loop-v.numbers f.1
           (omega (arith, i.loop-v-test.true)) (omega (arith, i.loop-v-test.true, f.0)) f.2 f.3 f.4
           r.row_above-above.result r.row_above-above.ensures d.successors_by_word-successors.result _ d.successors_by_word-successors.ensures _ _ refl
           p.put_copy.ensures,
@@ -123,8 +123,8 @@ returns c =
     let a = c.before in
     let s = a.before.before.before.before.before in
     let z : a.loop-v.v ≡ 0 = omega (arith, c.loop-v-test.false) in
-    subst (λ (i : ℕ). Words s.args.labels.now s.args.steps.now s.args.s s.args.k s.args.bytes-1.now
-    s.args.numbers-1.now i a.loop-v.bytes-1 a.loop-v.numbers-1) z a.loop-v.invariant.4
+    subst (λ (i : ℕ). Words s.args.labels.now s.args.steps.now s.args.s s.args.k s.args.bytes.now
+    s.args.numbers.now i a.loop-v.bytes a.loop-v.numbers) z a.loop-v.invariant.4
 
 pub write_words_spec : {M : Type 1} → statement M
 write_words_spec =

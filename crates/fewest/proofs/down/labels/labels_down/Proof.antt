@@ -35,10 +35,10 @@ node-down-requires c κs =
     let e : l.v ≡ l.v - 1 + 1 = omega arith in
     let T : (t : Tree) × (kinds_of t ≡ g.kinds.now) × (labels_of t ≡ g.labels.now) =
     postorder-tree g.kinds.now g.labels.now q.runs.count q.runs.postorder in
-    turn-args g.kinds.now g.labels.now g.leaves.now g.inner.now g.may.now g.s g.k q.runs (l.v - 1) l.work-1 (omega (arith, l.invariant.0, h)) (omega (arith, l.invariant.1, q.room)) q.stocks q.acc T.0
+    turn-args g.kinds.now g.labels.now g.leaves.now g.inner.now g.may.now g.s g.k q.runs (l.v - 1) l.work (omega (arith, l.invariant.0, h)) (omega (arith, l.invariant.1, q.room)) q.stocks q.acc T.0
     q.target q.first T.1 T.2 (q.low T.0 T.1 T.2)
     (subst (λ (i : ℕ). Told (problem_for g.s g.k g.leaves.now g.inner.now (stock_of g.may.now) q.acc) T.0 q.target g.s i
-    q.first l.work-1) e (l.invariant.2 q.acc T.0 q.target q.first T.1 T.2 (q.low T.0 T.1 T.2)
+    q.first l.work) e (l.invariant.2 q.acc T.0 q.target q.first T.1 T.2 (q.low T.0 T.1 T.2)
     (q.ready T.0 T.1 T.2)))
 
 loop-again : tie.Need-loop-v-preserved invariant-loop decreases-loop
@@ -50,9 +50,9 @@ loop-again c =
     let e : l.v ≡ l.v - 1 + 1 = omega arith in (
       omega (arith, l.invariant.0),
       omega (arith, l.invariant.1),
-      down-next g.kinds.now g.labels.now g.leaves.now g.inner.now g.may.now g.s g.k q.runs (l.v - 1) l.work-1 (omega (arith, l.invariant.0, h)) (omega (arith, l.invariant.1, q.room)) g.work-1.now
+      down-next g.kinds.now g.labels.now g.leaves.now g.inner.now g.may.now g.s g.k q.runs (l.v - 1) l.work (omega (arith, l.invariant.0, h)) (omega (arith, l.invariant.1, q.room)) g.work.now
           c.before.before.node_down.new.1.1.1.1.1.1.1.0
-          (subst (λ (i : ℕ). Down g.kinds.now g.labels.now g.leaves.now g.inner.now g.may.now g.s g.k i g.work-1.now l.work-1) e l.invariant.2) c.before.before.node_down.ensures,
+          (subst (λ (i : ℕ). Down g.kinds.now g.labels.now g.leaves.now g.inner.now g.may.now g.s g.k i g.work.now l.work) e l.invariant.2) c.before.before.node_down.ensures,
     )
 
 returns : tie.Need-returns invariant-loop decreases-loop
@@ -60,7 +60,7 @@ returns c =
     let g = c.before.before.before.before.before.before.before.before.args in
     let l = c.before.loop-v in
     let z : l.v ≡ 0 = omega (arith, c.loop-v-test.false) in
-    subst (λ (i : ℕ). Down g.kinds.now g.labels.now g.leaves.now g.inner.now g.may.now g.s g.k i g.work-1.now l.work-1) z l.invariant.2
+    subst (λ (i : ℕ). Down g.kinds.now g.labels.now g.leaves.now g.inner.now g.may.now g.s g.k i g.work.now l.work) z l.invariant.2
 
 pub labels_down_spec : {M : Type 1} → statement M
 labels_down_spec =

@@ -15,7 +15,7 @@ returns : tie.Need-returns-then-kinds-v-eq0
 returns c =
     let g = c.before.before.before.before.before.before.before.before.before.before.before.before.before.before.args in
     record {
-      leaf = λ z. subst (λ (m : ℕ). LeafDown g.work-1.now g.leaves.now g.s g.k g.v (get_or g.labels.now g.v 0) (member m)
+      leaf = λ z. subst (λ (m : ℕ). LeafDown g.work.now g.leaves.now g.s g.k g.v (get_or g.labels.now g.v 0) (member m)
           c.before.before.leaf_down.new.0) c.before.before.before.before.before.before.stock-m.ensures c.before.before.leaf_down.ensures;
       inner = λ z. absurd (z c.before.before.before.before.if-kinds-v-eq0.true);
     }
@@ -23,7 +23,7 @@ returns c =
 inner-down-requires : tie.Need-inner_down-requires
 inner-down-requires c κs =
     let g = c.before.before.before.before.before.before.before.before.before.before.before.args in
-    subst (λ (m : ℕ). InnerDownArgs g.work-1.now g.inner.now g.s g.k g.v (get_or g.labels.now g.v 0) (member m))
+    subst (λ (m : ℕ). InnerDownArgs g.work.now g.inner.now g.s g.k g.v (get_or g.labels.now g.v 0) (member m))
     (sym c.before.before.before.stock-m.ensures) (c.before.before.before.before.before.before.before.before.before.before.before.requires.inner c.before.if-kinds-v-eq0.false)
 
 returns-2 : tie.Need-returns
@@ -31,7 +31,7 @@ returns-2 c =
     let g = c.before.before.before.before.before.before.before.before.before.before.before.before.before.before.args in
     record {
       leaf = λ z. absurd (c.before.before.before.before.if-kinds-v-eq0.false z);
-      inner = λ z. subst (λ (m : ℕ). InnerDown g.work-1.now g.inner.now g.s g.k g.v (get_or g.labels.now g.v 0) (member m)
+      inner = λ z. subst (λ (m : ℕ). InnerDown g.work.now g.inner.now g.s g.k g.v (get_or g.labels.now g.v 0) (member m)
           c.before.before.inner_down.new.0) c.before.before.before.before.before.before.stock-m.ensures c.before.before.inner_down.ensures;
     }
 

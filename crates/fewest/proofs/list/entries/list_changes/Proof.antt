@@ -24,7 +24,7 @@ decreases-loop labels work s nodes₀ out₀ n c₀ v₀ nodes out c v = n - v
 loop-holds : tie.Need-loop-v-init invariant-loop decreases-loop
 loop-holds c =
     let g = c.before.before.before.before.args in
-    (omega arith, refl, refl, list-start (λ i. get_or g.labels.now i 0) (size_cell g.s g.work.now) g.nodes-1.now g.out-1.now)
+    (omega arith, refl, refl, list-start (λ i. get_or g.labels.now i 0) (size_cell g.s g.work.now) g.nodes.now g.out.now)
 
 cast-a : tie.Need-overflow_cast-a invariant-loop decreases-loop
 cast-a c =
@@ -52,13 +52,13 @@ put-change-requires c κs =
       label_low = c.before.before.before.before.before.before.before.before.before.before.requires.labels_low l.v h;
       nodes_room = λ e. omega (
         arith,
-        entry_in (λ i. get_or g.labels.now i 0) (size_cell g.s g.work.now) l.v (length g.labels.now) (length g.nodes-1.now) h c.before.before.before.before.before.before.before.before.before.before.requires.nodes_room e,
+        entry_in (λ i. get_or g.labels.now i 0) (size_cell g.s g.work.now) l.v (length g.labels.now) (length g.nodes.now) h c.before.before.before.before.before.before.before.before.before.before.requires.nodes_room e,
         l.invariant.3.count,
         l.invariant.1,
       );
       labels_room = λ e. omega (
         arith,
-        entry_in (λ i. get_or g.labels.now i 0) (size_cell g.s g.work.now) l.v (length g.labels.now) (length g.out-1.now) h c.before.before.before.before.before.before.before.before.before.before.requires.labels_room e,
+        entry_in (λ i. get_or g.labels.now i 0) (size_cell g.s g.work.now) l.v (length g.labels.now) (length g.out.now) h c.before.before.before.before.before.before.before.before.before.before.requires.labels_room e,
         l.invariant.3.count,
         l.invariant.2,
       );
@@ -72,10 +72,10 @@ loop-again c =
       omega (arith, h),
       omega (arith, l.invariant.1),
       omega (arith, l.invariant.2),
-      list-next (λ i. get_or g.labels.now i 0) (size_cell g.s g.work.now) l.v g.nodes-1.now g.out-1.now l.c l.nodes-1 l.out-1 c.before.before.before.before.put_change-c.result c.before.before.before.before.put_change-c.new.0
+      list-next (λ i. get_or g.labels.now i 0) (size_cell g.s g.work.now) l.v g.nodes.now g.out.now l.c l.nodes l.out c.before.before.before.before.put_change-c.result c.before.before.before.before.put_change-c.new.0
           c.before.before.before.before.put_change-c.new.1.0 l.invariant.3
-          (λ e. omega (arith, entry_in (λ i. get_or g.labels.now i 0) (size_cell g.s g.work.now) l.v (length g.labels.now) (length g.nodes-1.now) h c.before.before.before.before.before.before.before.before.before.before.before.before.before.before.before.requires.nodes_room e, l.invariant.3.count))
-          (λ e. omega (arith, entry_in (λ i. get_or g.labels.now i 0) (size_cell g.s g.work.now) l.v (length g.labels.now) (length g.out-1.now) h c.before.before.before.before.before.before.before.before.before.before.before.before.before.before.before.requires.labels_room e, l.invariant.3.count))
+          (λ e. omega (arith, entry_in (λ i. get_or g.labels.now i 0) (size_cell g.s g.work.now) l.v (length g.labels.now) (length g.nodes.now) h c.before.before.before.before.before.before.before.before.before.before.before.before.before.before.before.requires.nodes_room e, l.invariant.3.count))
+          (λ e. omega (arith, entry_in (λ i. get_or g.labels.now i 0) (size_cell g.s g.work.now) l.v (length g.labels.now) (length g.out.now) h c.before.before.before.before.before.before.before.before.before.before.before.before.before.before.before.requires.labels_room e, l.invariant.3.count))
           c.before.before.before.before.put_change-c.ensures,
     )
 
@@ -84,7 +84,7 @@ returns c =
     let g = c.before.before.before.before.before.before.args in
     let l = c.before.loop-v in
     let e : l.v ≡ length g.labels.now = omega (arith, l.invariant.0, c.loop-v-test.false) in
-    subst (λ (i : ℕ). Listed (λ i. get_or g.labels.now i 0) (size_cell g.s g.work.now) i g.nodes-1.now g.out-1.now l.c l.nodes-1 l.out-1) e l.invariant.3
+    subst (λ (i : ℕ). Listed (λ i. get_or g.labels.now i 0) (size_cell g.s g.work.now) i g.nodes.now g.out.now l.c l.nodes l.out) e l.invariant.3
 
 pub list_changes_spec : {M : Type 1} → statement M
 list_changes_spec =

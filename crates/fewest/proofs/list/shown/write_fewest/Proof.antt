@@ -16,8 +16,8 @@ returns : tie.Need-returns-then-m-gt-MOST_LISTED
 returns c =
     let g = c.before.before.before.before.before.before.before.before.before.before.before.before.before.before.args in
     let p = c.before.before.before.before.before.before.before.before.before.before.before.before.before.before.requires.given.up in
-    λ t x y. written-long g.kinds.now g.labels.now g.leaves.now g.inner.now g.marks.now g.may.now g.s g.k g.mark p.runs c.before.before.before.least_up-m.new.1.1.1.1.1.1.1.1.1.0 g.work-1.now (omega (arith, p.room)) c.before.before.before.least_up-m.ensures.up t x y c.before.before.before.least_up-m.result
-    c.before.before.before.least_up-m.ensures.least c.if-m-gt-MOST_LISTED.true g.nodes-1.now g.out-1.now
+    λ t x y. written-long g.kinds.now g.labels.now g.leaves.now g.inner.now g.marks.now g.may.now g.s g.k g.mark p.runs c.before.before.before.least_up-m.new.1.1.1.1.1.1.1.1.1.0 g.work.now (omega (arith, p.room)) c.before.before.before.least_up-m.ensures.up t x y c.before.before.before.least_up-m.result
+    c.before.before.before.least_up-m.ensures.least c.if-m-gt-MOST_LISTED.true g.nodes.now g.out.now
 
 show-requires : tie.Need-show-requires
 show-requires c κs =
@@ -25,7 +25,7 @@ show-requires c κs =
     let p = c.before.before.before.before.before.before.before.before.before.before.before.before.before.before.before.before.before.requires.given.up in
     record {
       given = record { up = record { runs = p.runs; stocks = p.stocks; room = omega (arith, p.room) }; marks = c.before.before.before.before.before.before.before.before.before.before.before.before.before.before.before.before.before.requires.given.marks };
-      first = g.work-1.now;
+      first = g.work.now;
       up = c.before.before.before.before.before.before.least_up-m.ensures.up;
       least = c.before.before.before.before.before.before.least_up-m.ensures.least;
       few = omega (arith, c.before.before.before.if-m-gt-MOST_LISTED.false);
@@ -37,9 +37,9 @@ returns-2 : tie.Need-returns
 returns-2 c =
     let g = c.before.before.before.before.before.before.before.before.before.before.before.before.before.before.before.before.before.before.before.before.before.before.before.before.args in
     let p = c.before.before.before.before.before.before.before.before.before.before.before.before.before.before.before.before.before.before.before.before.before.before.before.before.requires.given.up in
-    λ t x y. written-short g.kinds.now g.labels.now g.leaves.now g.inner.now g.marks.now g.may.now g.s g.k g.mark p.runs c.before.before.before.before.before.before.before.before.before.before.before.before.before.least_up-m.new.1.1.1.1.1.1.1.1.1.0 g.work-1.now (omega (arith, p.room)) c.before.before.before.before.before.before.before.before.before.before.before.before.before.least_up-m.ensures.up t x y c.before.before.before.before.before.before.before.before.before.before.before.before.before.least_up-m.result
-    c.before.before.before.before.before.before.before.before.before.before.before.before.before.least_up-m.ensures.least (omega (arith, c.before.before.before.before.before.before.before.before.before.before.if-m-gt-MOST_LISTED.false)) g.nodes-1.now g.out-1.now c.before.before.before.before.before.before.show.result c.before.before.before.before.before.before.show.new.1.1.1.1.1.1.1.1.1.1.0 c.before.before.before.before.before.before.show.new.1.1.1.1.1.1.1.1.1.1.1.0 c.before.before.before.before.before.before.show.new.1.1.1.1.1.1.1.1.1.1.1.1.0
-    (c.before.before.before.before.before.before.show.ensures g.work-1.now t x y c.before.before.before.before.before.before.before.before.before.before.before.before.before.least_up-m.ensures.up)
+    λ t x y. written-short g.kinds.now g.labels.now g.leaves.now g.inner.now g.marks.now g.may.now g.s g.k g.mark p.runs c.before.before.before.before.before.before.before.before.before.before.before.before.before.least_up-m.new.1.1.1.1.1.1.1.1.1.0 g.work.now (omega (arith, p.room)) c.before.before.before.before.before.before.before.before.before.before.before.before.before.least_up-m.ensures.up t x y c.before.before.before.before.before.before.before.before.before.before.before.before.before.least_up-m.result
+    c.before.before.before.before.before.before.before.before.before.before.before.before.before.least_up-m.ensures.least (omega (arith, c.before.before.before.before.before.before.before.before.before.before.if-m-gt-MOST_LISTED.false)) g.nodes.now g.out.now c.before.before.before.before.before.before.show.result c.before.before.before.before.before.before.show.new.1.1.1.1.1.1.1.1.1.1.0 c.before.before.before.before.before.before.show.new.1.1.1.1.1.1.1.1.1.1.1.0 c.before.before.before.before.before.before.show.new.1.1.1.1.1.1.1.1.1.1.1.1.0
+    (c.before.before.before.before.before.before.show.ensures g.work.now t x y c.before.before.before.before.before.before.before.before.before.before.before.before.before.least_up-m.ensures.up)
 
 pub write_fewest_spec : {M : Type 1} → statement M
 write_fewest_spec =

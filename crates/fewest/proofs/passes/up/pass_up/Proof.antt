@@ -22,14 +22,14 @@ decreases-loop kinds labels leaves inner may images free s k work₀ n v₀ work
 loop-holds : tie.Need-loop-v-init invariant-loop decreases-loop
 loop-holds c =
     let g = c.before.before.before.before.before.before.before.before.args in
-    (omega arith, refl, up_start g.kinds.now g.labels.now g.leaves.now g.inner.now g.may.now g.s g.k g.work-1.now)
+    (omega arith, refl, up_start g.kinds.now g.labels.now g.leaves.now g.inner.now g.may.now g.s g.k g.work.now)
 
 node-turn-requires : tie.Need-node_turn-requires invariant-loop decreases-loop
 node-turn-requires c κs =
     let g = c.before.before.before.before.before.before.before.before.before.before.before.args in
     let l = c.before.before.loop-v in (
       turn-args g.kinds.now g.labels.now g.leaves.now g.inner.now g.may.now g.s g.k c.before.before.before.before.before.before.before.before.before.before.before.requires.0.runs l.v
-          g.work-1.now l.work-1 c.before.loop-v-test.true l.invariant.2 c.before.before.before.before.before.before.before.before.before.before.before.requires.0.stocks (omega (arith, c.before.before.before.before.before.before.before.before.before.before.before.requires.0.room, l.invariant.1)),
+          g.work.now l.work c.before.loop-v-test.true l.invariant.2 c.before.before.before.before.before.before.before.before.before.before.before.requires.0.stocks (omega (arith, c.before.before.before.before.before.before.before.before.before.before.before.requires.0.room, l.invariant.1)),
       c.before.before.before.before.before.before.before.before.before.before.before.requires.1,
       c.before.before.before.before.before.before.before.before.before.before.before.requires.2,
     )
@@ -41,7 +41,7 @@ loop-again c =
       omega (arith, c.before.before.before.before.loop-v-test.true),
       c.before.before.node_turn.ensures.long ∙ l.invariant.1,
       up_next g.kinds.now g.labels.now g.leaves.now g.inner.now g.may.now g.s g.k c.before.before.before.before.before.before.before.before.before.before.before.before.before.before.requires.0.runs l.v
-          g.work-1.now l.work-1 c.before.before.before.before.loop-v-test.true l.invariant.2 c.before.before.node_turn.new.1.1.1.1.1.1.1.1.1.0 c.before.before.node_turn.ensures,
+          g.work.now l.work c.before.before.before.before.loop-v-test.true l.invariant.2 c.before.before.node_turn.new.1.1.1.1.1.1.1.1.1.0 c.before.before.node_turn.ensures,
     )
 
 returns : tie.Need-returns invariant-loop decreases-loop
@@ -49,8 +49,8 @@ returns c =
     let g = c.before.before.before.before.before.before.before.before.before.before.args in
     let l = c.before.loop-v in
     let e : l.v ≡ length g.kinds.now = omega (arith, l.invariant.0, c.loop-v-test.false) in
-    subst (λ (i : ℕ). Up g.kinds.now g.labels.now g.leaves.now g.inner.now g.may.now g.s g.k i g.work-1.now
-    l.work-1) e l.invariant.2
+    subst (λ (i : ℕ). Up g.kinds.now g.labels.now g.leaves.now g.inner.now g.may.now g.s g.k i g.work.now
+    l.work) e l.invariant.2
 
 pub pass_up_spec : {M : Type 1} → statement M
 pass_up_spec =

@@ -22,7 +22,7 @@ returns c =
     let t = c.before.before.before.before.before.before.before.before in
     let g = t.args in
     let x = c.before.before.before.put_row in
-    leaf-done g.leaves.now g.s g.k g.a g.v (member g.labels) g.row.now g.work-1.now x.new.0 t.requires.1
+    leaf-done g.leaves.now g.s g.k g.a g.v (member g.labels) g.row.now g.work.now x.new.0 t.requires.1
     (t.requires.0.leaf_below g.a) c.own_state-to.result c.own_state-to.ensures.0 t.requires.2 x.ensures t.requires.0.room
 
 pub put_leaf_spec : {M : Type 1} → statement M

@@ -14,23 +14,23 @@ use Rattle.fewest.proofs.rows.images.relax_image.Lts as lts
 rule-requires : tie.Need-rule-to-requires
 rule-requires c κs =
     let g = c.before.before.args in
-    rule-args g.inner.now g.s g.k g.p g.q g.a g.base (λ b. true) c.before.before.requires.0.row-1 g.a c.before.before.requires.0.own
+    rule-args g.inner.now g.s g.k g.p g.q g.a g.base (λ b. true) c.before.before.requires.0.row g.a c.before.before.requires.0.own
 
 cast-to : tie.Need-overflow_cast-to
 cast-to c =
     let t = c.before.before.before in
     let g = t.args in
-    omega (arith, c.rule-to.ensures, t.requires.0.row-1.few, t.requires.0.row-1.inner_below ((g.p * g.k + g.a) * g.s + g.q))
+    omega (arith, c.rule-to.ensures, t.requires.0.row.few, t.requires.0.row.inner_below ((g.p * g.k + g.a) * g.s + g.q))
 
 lower-image-requires : tie.Need-lower_image-requires
-lower-image-requires c κs = let t = c.before.before.before.before in (t.requires.0.row-1.few, t.requires.0.below, t.requires.1)
+lower-image-requires c κs = let t = c.before.before.before.before in (t.requires.0.row.few, t.requires.0.below, t.requires.1)
 
 returns : tie.Need-returns
 returns c =
     let t = c.before.before.before.before.before.before.before in
     let g = t.args in
     image-relaxed g.inner.now g.s g.k g.p g.q g.a (member g.labels) g.base g.image t.requires.0
-    c.before.before.before.before.rule-to.result c.before.before.before.before.rule-to.ensures g.row-1.now
+    c.before.before.before.before.rule-to.result c.before.before.before.before.rule-to.ensures g.row.now
     c.before.before.lower_image.new.0 c.before.before.lower_image.ensures
 
 pub relax_image_spec : {M : Type 1} → statement M

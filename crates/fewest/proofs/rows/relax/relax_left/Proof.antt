@@ -26,7 +26,7 @@ loop-holds : tie.Need-loop-p-init invariant-loop decreases-loop
 loop-holds c =
     let t = c.before.before.before.before.before in
     let g = t.args in
-    (omega arith, step_start g.s (λ p j. right_cost g.inner.now g.s g.k p g.a (member g.labels) (get_or g.left.now p 0) g.right.now j) g.row-1.now t.requires.1)
+    (omega arith, step_start g.s (λ p j. right_cost g.inner.now g.s g.k p g.a (member g.labels) (get_or g.left.now p 0) g.right.now j) g.row.now t.requires.1)
 
 shared-slice-read-relax-right : tie.Need-bounds-left-p invariant-loop decreases-loop
 shared-slice-read-relax-right c =
@@ -38,7 +38,7 @@ relax-right-requires c κs =
     let g = t.args in
     let l = c.before.before.before.loop-p in (
       right-args g.inner.now g.s g.k g.a g.left.now g.right.now t.requires.0 l.p c.before.before.loop-p-test.true,
-      row_kept g.s (λ j. least_to no_way_out l.p (λ p. right_cost g.inner.now g.s g.k p g.a (member g.labels) (get_or g.left.now p 0) g.right.now j)) g.row-1.now l.row-1 t.requires.1 l.invariant.1,
+      row_kept g.s (λ j. least_to no_way_out l.p (λ p. right_cost g.inner.now g.s g.k p g.a (member g.labels) (get_or g.left.now p 0) g.right.now j)) g.row.now l.row t.requires.1 l.invariant.1,
       t.requires.2,
     )
 
@@ -48,7 +48,7 @@ loop-again c =
     let g = t.args in
     let l = c.before.before.before.before.before.before.loop-p in (
       omega (arith, c.before.before.before.before.before.loop-p-test.true),
-      step-next g.s (λ p j. right_cost g.inner.now g.s g.k p g.a (member g.labels) (get_or g.left.now p 0) g.right.now j) l.p g.row-1.now l.row-1 c.before.before.relax_right.new.0 l.invariant.1 c.before.before.relax_right.ensures,
+      step-next g.s (λ p j. right_cost g.inner.now g.s g.k p g.a (member g.labels) (get_or g.left.now p 0) g.right.now j) l.p g.row.now l.row c.before.before.relax_right.new.0 l.invariant.1 c.before.before.relax_right.ensures,
     )
 
 same_length : tie.Need-shape_of-row invariant-loop decreases-loop
@@ -60,7 +60,7 @@ returns c =
     let g = t.args in
     let l = c.before.loop-p in
     let e : l.p ≡ g.s = omega (arith, l.invariant.0, c.loop-p-test.false) in
-    subst (λ (i : ℕ). Relaxed g.s (λ j. least_to no_way_out i (λ p. right_cost g.inner.now g.s g.k p g.a (member g.labels) (get_or g.left.now p 0) g.right.now j)) g.row-1.now l.row-1) e l.invariant.1
+    subst (λ (i : ℕ). Relaxed g.s (λ j. least_to no_way_out i (λ p. right_cost g.inner.now g.s g.k p g.a (member g.labels) (get_or g.left.now p 0) g.right.now j)) g.row.now l.row) e l.invariant.1
 
 pub relax_left_spec : {M : Type 1} → statement M
 relax_left_spec =

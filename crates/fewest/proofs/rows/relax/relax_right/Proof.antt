@@ -26,7 +26,7 @@ loop-holds : tie.Need-loop-q-init invariant-loop decreases-loop
 loop-holds c =
     let t = c.before.before.before.before in
     let g = t.args in
-    (omega arith, step_start g.s (λ q j. labels_cost g.inner.now g.s g.k g.p q g.a (member g.labels) (g.left + get_or g.right.now q 0) j) g.row-1.now t.requires.1)
+    (omega arith, step_start g.s (λ q j. labels_cost g.inner.now g.s g.k g.p q g.a (member g.labels) (g.left + get_or g.right.now q 0) j) g.row.now t.requires.1)
 
 shared-slice-read-relax-way : tie.Need-bounds-right-q invariant-loop decreases-loop
 shared-slice-read-relax-way c = omega (arith, c.before.before.loop-q-test.true, c.before.before.before.before.before.before.before.before.requires.0.right.wide)
@@ -42,7 +42,7 @@ relax-way-requires c κs =
     let g = t.args in
     let l = c.before.before.before.loop-q in (
       labels-args g.inner.now g.s g.k g.p g.a g.left g.right.now t.requires.0 l.q c.before.before.loop-q-test.true,
-      row_kept g.s (λ j. least_to no_way_out l.q (λ q. labels_cost g.inner.now g.s g.k g.p q g.a (member g.labels) (g.left + get_or g.right.now q 0) j)) g.row-1.now l.row-1 t.requires.1 l.invariant.1,
+      row_kept g.s (λ j. least_to no_way_out l.q (λ q. labels_cost g.inner.now g.s g.k g.p q g.a (member g.labels) (g.left + get_or g.right.now q 0) j)) g.row.now l.row t.requires.1 l.invariant.1,
       t.requires.2,
     )
 
@@ -52,7 +52,7 @@ loop-again c =
     let g = t.args in
     let l = c.before.before.before.before.before.before.loop-q in (
       omega (arith, c.before.before.before.before.before.loop-q-test.true),
-      step-next g.s (λ q j. labels_cost g.inner.now g.s g.k g.p q g.a (member g.labels) (g.left + get_or g.right.now q 0) j) l.q g.row-1.now l.row-1 c.before.before.relax_way.new.0 l.invariant.1 c.before.before.relax_way.ensures,
+      step-next g.s (λ q j. labels_cost g.inner.now g.s g.k g.p q g.a (member g.labels) (g.left + get_or g.right.now q 0) j) l.q g.row.now l.row c.before.before.relax_way.new.0 l.invariant.1 c.before.before.relax_way.ensures,
     )
 
 same_length : tie.Need-shape_of-row invariant-loop decreases-loop
@@ -64,7 +64,7 @@ returns c =
     let g = t.args in
     let l = c.before.loop-q in
     let e : l.q ≡ g.s = omega (arith, l.invariant.0, c.loop-q-test.false) in
-    subst (λ (i : ℕ). Relaxed g.s (λ j. least_to no_way_out i (λ q. labels_cost g.inner.now g.s g.k g.p q g.a (member g.labels) (g.left + get_or g.right.now q 0) j)) g.row-1.now l.row-1) e l.invariant.1
+    subst (λ (i : ℕ). Relaxed g.s (λ j. least_to no_way_out i (λ q. labels_cost g.inner.now g.s g.k g.p q g.a (member g.labels) (g.left + get_or g.right.now q 0) j)) g.row.now l.row) e l.invariant.1
 
 pub relax_right_spec : {M : Type 1} → statement M
 relax_right_spec =

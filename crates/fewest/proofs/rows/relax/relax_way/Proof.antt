@@ -15,7 +15,7 @@ use Rattle.fewest.proofs.rows.relax.relax_way.Lts as lts
 returns : tie.Need-returns-then-base-ge-NO_WAY
 returns c =
     let g = c.before.before.before.before.args in
-    relax-none g.inner.now g.s g.k g.p g.q g.a (member g.labels) g.base g.row-1.now c.if-base-ge-NO_WAY.true c.before.before.before.before.requires.1
+    relax-none g.inner.now g.s g.k g.p g.q g.a (member g.labels) g.base g.row.now c.if-base-ge-NO_WAY.true c.before.before.before.before.requires.1
 
 relax-labels-requires : tie.Need-relax_labels-requires
 relax-labels-requires c κs =

@@ -19,7 +19,7 @@ use Rattle.planner.proofs.home.convert.write_home.Reads as write-home-reads
 -- nothing fails
 passes : (c : tie.Else-refused-ne0)
     → first_no (home_checks c.before.before.before.before.args.plan.now
-    (length c.before.before.before.before.args.file-1.now)) ≡ 0
+    (length c.before.before.before.before.args.file.now)) ≡ 0
 passes c = sym c.before.check_home-refused.ensures ∙ omega arith
 
 returns : tie.Need-returns-then-refused-ne0

@@ -6,8 +6,8 @@ use lib.ListN.{take, drop}
 use borrow.Author.Tests.{not-true, not-false}
 use Rattle.list_laws.specs.Tests.{all_below}
 use Rattle.list_laws.proofs.SliceLaws.{run-part}
-use Rattle.planner.specs.Siblings.{emptyLabel}
-use Rattle.planner.specs.File.{fileCount, labelRun, wellFormed, outRoom}
+use Rattle.planner.specs.Siblings.{empty_label}
+use Rattle.planner.specs.File.{file_count, label_run, well_formed, out_room}
 use Rattle.planner.proofs.FileTrees.{WellFormed, well-formed}
 use Rattle.planner.proofs.CheckAnswers.{out-19, out-20, out-21, out-good}
 use native.Mathlib.Omega.{arith}
@@ -22,7 +22,7 @@ use Rattle.planner.proofs.out.check.room_fits.Reads as room-fits-reads
 use Rattle.planner.proofs.out.check.well_formed.Reads as well-formed-reads
 
 -- the file of the call, and what each test says of it
-is-formed : (c : tie.Else-not-well_formed) → wellFormed c.before.before.before.args.file.now ≡ true
+is-formed : (c : tie.Else-not-well_formed) → well_formed c.before.before.before.args.file.now ≡ true
 is-formed c = sym c.before.well-formed-2.ensures ∙ not-false _ c.if-not-well_formed.false-raw
 
 formed : (c : tie.Else-not-well_formed) → WellFormed c.before.before.before.args.file.now
@@ -30,21 +30,21 @@ formed c = well-formed _ (is-formed c)
 
 labels-answer : (c : tie.After-all_below)
     → c.all_below.result
-    ≡ all_below emptyLabel (labelRun c.before.before.before.before.before.before.args.file.now)
+    ≡ all_below empty_label (label_run c.before.before.before.before.before.before.args.file.now)
 labels-answer c =
     let b = c.before.before.before.before.before.before.args.file.now in
-    c.all_below.ensures ∙ ap (all_below emptyLabel) (run-part b 12 c.before.before.read32-n.result
+    c.all_below.ensures ∙ ap (all_below empty_label) (run-part b 12 c.before.before.read32-n.result
     ∙ ap (λ (n : ℕ). take n (drop 12 b)) c.before.before.read32-n.ensures)
 
 room-answer : (c : tie.After-room_fits)
     → c.room_fits.result
-    ≡ outRoom (fileCount c.before.before.before.before.before.before.before.before.args.file.now)
+    ≡ out_room (file_count c.before.before.before.before.before.before.before.before.args.file.now)
     c.before.before.before.before.before.before.before.before.args.plan
     c.before.before.before.before.before.before.before.before.args.places
 room-answer c =
     let a = c.before.before.before.before.before.before.before.before.args in
     c.room_fits.ensures
-    ∙ ap (λ (n : ℕ). outRoom n a.plan a.places) c.before.before.before.before.read32-n.ensures
+    ∙ ap (λ (n : ℕ). out_room n a.plan a.places) c.before.before.before.before.read32-n.ensures
 
 returns : tie.Need-returns-then-not-well_formed
 returns c = sym (out-19 _ _ _ (sym c.before.well-formed-2.ensures ∙ not-true _ c.if-not-well_formed.true-raw))

@@ -1,8 +1,8 @@
 -- `planner::out::convert::plan_of_planner` meets its contract, by the laws of OutLaws and CheckAnswers.
 use mathlib.Core.Path.{◌≡◌, refl, sym, ◌∙◌}
 use lib.ListN.{length}
-use Rattle.formats.specs.Checks.{firstNo}
-use Rattle.planner.specs.File.{outChecks}
+use Rattle.formats.specs.Checks.{first_no}
+use Rattle.planner.specs.File.{out_checks}
 use Rattle.planner.proofs.CheckAnswers.{out-passes}
 use Rattle.planner.proofs.out.OutLaws.{out-done, out-refused}
 use native.Mathlib.Omega.{arith}
@@ -17,9 +17,9 @@ use Rattle.planner.proofs.out.convert.write_out.Reads as write-out-reads
 
 -- nothing fails
 passes : (c : tie.Else-refused-ne0)
-    → firstNo (outChecks c.before.before.before.before.before.args.file.now
-    (length c.before.before.before.before.before.args.plan-1.now)
-    (length c.before.before.before.before.before.args.places-1.now)) ≡ 0
+    → first_no (out_checks c.before.before.before.before.before.args.file.now
+    (length c.before.before.before.before.before.args.plan.now)
+    (length c.before.before.before.before.before.args.places.now)) ≡ 0
 passes c = sym c.before.check_out-refused.ensures ∙ omega arith
 
 returns : tie.Need-returns-then-refused-ne0

@@ -2,7 +2,7 @@
 use Prim.Native.Nat.{◌+◌, ◌*◌, ◌≤◌}
 use mathlib.Core.Path.{◌≡◌}
 use lib.ListN.{length}
-use Rattle.planner.specs.File.{fileTree}
+use Rattle.planner.specs.File.{file_tree}
 use Rattle.planner.proofs.out.OutLaws.{out-size, counts-are, labels-are, place-args, write-args, plan-is}
 use native.Mathlib.Omega.{arith}
 use borrow.Author.Rules.{rules}
@@ -43,7 +43,7 @@ write-plan-requires : tie.Need-write_plan-requires
 write-plan-requires c κs =
     let d = c.before.before.before.before.before.before.before in
     let s = d.before.before.before.before.before.before.before in (
-      fileTree s.args.file.now,
+      file_tree s.args.file.now,
       write-args _ _ _ _ s.requires _ (counts-are _ _ _ _ s.requires) _ _
           d.place_nodes.ensures _
           (labels-are _ _ _ _ s.requires),
@@ -57,7 +57,7 @@ returns c =
     let l = labels-are _ _ _ _ s.requires in
     let N = d.place_nodes.ensures in
     plan-is _ _ _ _ s.requires _ k _ _ N _ l _
-    (c.before.before.write_plan.ensures (fileTree s.args.file.now) (write-args _ _ _ _ s.requires _ k _ _ N _ l))
+    (c.before.before.write_plan.ensures (file_tree s.args.file.now) (write-args _ _ _ _ s.requires _ k _ _ N _ l))
 
 pub write_out_spec : {M : Type 1} → statement M
 write_out_spec =

@@ -15,7 +15,7 @@ use Rattle.planner.proofs.out.lay.write_header.Reads as write-header-reads
 
 -- the lengths of labels and plan
 abbrev Room-at : tie.Start → Type 0
-Room-at s = Room s.args.labels.now s.args.plan-1.now
+Room-at s = Room s.args.labels.now s.args.plan.now
 
 room_at : (s : tie.Start) → Room-at s
 room_at s = write-room s.requires.0 _ _ _ s.requires.1
@@ -31,9 +31,9 @@ fill-requires : tie.Need-fill-requires
 fill-requires c κs =
     let h = c.before.before.before.write_header in
     let s = c.before.before.before.before.before.before.before.before in
-    let e : length h.new.0 ≡ length s.args.plan-1.now =
+    let e : length h.new.0 ≡ length s.args.plan.now =
     ap length h.ensures
-    ∙ headed-length s.args.plan-1.now (2 * length s.args.labels.now + 1) (omega (arith, (room_at s).room)) in
+    ∙ headed-length s.args.plan.now (2 * length s.args.labels.now + 1) (omega (arith, (room_at s).room)) in
     (omega arith, omega (arith, e, (room_at c.before.before.before.before.before.before.before.before).room))
 
 add-fill-2 : tie.Need-overflow_add-size-3
@@ -56,9 +56,9 @@ fill-requires-2 : tie.Need-fill-requires-2
 fill-requires-2 c κs =
     let h = c.before.before.before.before.before.before.before.write_header in
     let s = c.before.before.before.before.before.before.before.before.before.before.before.before in
-    let e : length h.new.0 ≡ length s.args.plan-1.now =
+    let e : length h.new.0 ≡ length s.args.plan.now =
     ap length h.ensures
-    ∙ headed-length s.args.plan-1.now (2 * length s.args.labels.now + 1) (omega (arith, (room_at s).room)) in (
+    ∙ headed-length s.args.plan.now (2 * length s.args.labels.now + 1) (omega (arith, (room_at s).room)) in (
       omega arith,
       omega (
         arith,

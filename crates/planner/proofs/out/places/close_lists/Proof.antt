@@ -5,7 +5,7 @@ use Rattle.planner.proofs.out.CloseLoop.{closing-fits-next}
 use mathlib.Core.Path.{◌≡◌, sym, ap, ◌∙◌}
 use mathlib.Core.Bool.{true}
 use Prim.Native.Nat.{◌+◌, ◌≤◌, ◌<◌}
-use Rattle.planner.specs.out.inner.Stack.{goesOn, afterLeaf}
+use Rattle.planner.specs.out.inner.Stack.{goes_further, after_leaf}
 use Rattle.planner.proofs.out.StackLaws.{top-some}
 use native.Mathlib.Omega.{arith}
 use borrow.Author.Rules.{rules}
@@ -28,12 +28,12 @@ decreases-loop plan places₀ depth next top₀ at₀ closing₀ places top at c
 
 -- the test says that the top is to be written
 going : (c : tie.In-loop-top invariant-loop decreases-loop)
-    → goesOn c.before.before.before.before.before.args.plan.now c.before.before.loop-top.top
+    → goes_further c.before.before.before.before.before.args.plan.now c.before.before.loop-top.top
     c.before.before.loop-top.closing ≡ true
 going c = sym c.before.goes_on.ensures ∙ c.loop-top-test.true
 
 next_fits : (c : tie.In-loop-top invariant-loop decreases-loop)
-    → afterLeaf c.before.before.loop-top.closing c.before.before.loop-top.at + 1 ≤ 65535
+    → after_leaf c.before.before.loop-top.closing c.before.before.loop-top.at + 1 ≤ 65535
 next_fits c = closing-fits-next _ _ _ _ _ _ _ _ c.before.before.loop-top.invariant
     c.before.before.before.before.before.requires (going c)
 

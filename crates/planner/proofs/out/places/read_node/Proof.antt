@@ -14,7 +14,7 @@ use Rattle.planner.proofs.out.places.to_come.Reads as to-come-reads
 returns : tie.Need-returns-then-count-ne0
 returns c =
     let a = c.before.before.before.before.before.before.before.before.before.args in
-    node-inner a.v a.w.depth a.w.next a.w.left a.w.first _ a.plan-1.now a.places-1.now _
+    node-inner a.v a.w.depth a.w.next a.w.left a.w.first _ a.plan.now a.places.now _
     c.before.before.before.before.before.less_one.ensures c.before.before.before.before.push.ensures
     a.count (λ e. omega arith)
 
@@ -27,7 +27,7 @@ close-lists-requires : tie.Need-close_lists-c-requires
 close-lists-requires c κs =
     let s = c.before.before.before.before.before.before.before.before.before.before.before.before in
     let a = s.args in
-    leaf-args a.v a.w.depth a.w.next a.w.left a.w.first _ a.plan-1.now a.places-1.now _
+    leaf-args a.v a.w.depth a.w.next a.w.left a.w.first _ a.plan.now a.places.now _
     c.before.before.before.before.before.before.before.before.less_one.ensures
     c.before.before.before.before.before.before.before.push.ensures a.count (omega arith) s.requires
 
@@ -36,7 +36,7 @@ returns-2 c =
     let b = c.before.before.before.before in
     let s = b.before.before.before.before.before.before.before.before.before.before.before.before.before in
     let a = s.args in
-    node-leaf a.v a.w.depth a.w.next a.w.left a.w.first _ a.plan-1.now a.places-1.now _
+    node-leaf a.v a.w.depth a.w.next a.w.left a.w.first _ a.plan.now a.places.now _
     b.before.before.before.before.before.before.before.before.before.less_one.ensures
     b.before.before.before.before.before.before.before.before.push.ensures
     a.count _ _ _ _ (omega arith) b.close_lists-c.ensures c.to_come.ensures

@@ -43,7 +43,7 @@ with-line-requires c κs =
     let l = a.loop-a in
     labels-loop-room g.first.now g.second.now g.s1 g.s2 g.k g.i g.j g.p g.q _ _ _ _
     g.s l.t l.a l.invariant
-    m.before.loop-a-test.true m.Pair-step.result m.Pair-step.ensures c.if-t-at-eq0.true
+    m.before.loop-a-test.true m.pair_step-c.result m.pair_step-c.ensures c.if-t-at-eq0.true
 
 loop-again : tie.Need-loop-a-preserved invariant-loop decreases-loop
 loop-again c =
@@ -55,11 +55,11 @@ loop-again c =
       | inl w ↦ rw (w.2 ∙ w.1.ensures)
           (labels-loop-new g.first.now g.second.now g.s1 g.s2 g.k g.i g.j g.p g.q _ _ _ _
           g.s l.t l.a l.invariant
-          m.before.loop-a-test.true m.Pair-step.result m.Pair-step.ensures w.0.taken)
+          m.before.loop-a-test.true m.pair_step-c.result m.pair_step-c.ensures w.0.taken)
       | inr w ↦ rw w.1
           (labels-loop-old g.first.now g.second.now g.s1 g.s2 g.k g.i g.j g.p g.q _ _ _ _
           g.s l.t l.a l.invariant
-          m.before.loop-a-test.true m.Pair-step.result m.Pair-step.ensures w.0.left)
+          m.before.loop-a-test.true m.pair_step-c.result m.pair_step-c.ensures w.0.left)
     ]
 
 returns : tie.Need-returns invariant-loop decreases-loop

@@ -42,7 +42,7 @@ module _ (a : tie.At-loop-label invariant-loop decreases-loop) where
   code : let g = a.before.before.before.args in pair_leaf g.first.now g.second.now g.s2 a.loop-label.label < 256
   code =
       let g = a.before.before.before.args in
-      let l = a.loop-label in leaves-loop-code g.first.now g.second.now g.s1 g.s2 g.k g.s l.t l.label l.inv
+      let l = a.loop-label in leaves-loop-code g.first.now g.second.now g.s1 g.s2 g.k g.s l.t l.label l.invariant
 
 shared-slice-read-x : tie.Need-bounds-first-label invariant-loop decreases-loop
 shared-slice-read-x c = omega (arith, c.before.before.loop-label.invariant.args.first_length, c.before.loop-label-test.true)

@@ -17,7 +17,7 @@ shape : (c : tie.Start) → Shaped c.args.t1
 shape c = shaped c.args.t1 c.well-formed.0
 
 abbrev lent : tie.Start → Inputs
-lent c = inputs_of c.args.plan.now c.args.rules.now c.args.node_table-1.now c.args.state_table-1.now
+lent c = inputs_of c.args.plan.now c.args.rules.now c.args.node_table.now c.args.state_table.now
 
 -- where the state was tested, and the call's beginning
 abbrev tested : tie.After-allowed → tie.After-may_load-may

@@ -25,7 +25,7 @@ returns c =
     let d = c.before.before in
     let l = d.before.before.before.before.before.before in
     let s = l.before.before.before.before in
-    passes s.args.kinds.now s.args.node_table-1.now l.write_up.new.1.0 d.write_down.new.0
+    passes s.args.kinds.now s.args.node_table.now l.write_up.new.1.0 d.write_down.new.0
     (omega (arith, l.write_up.auto.1.0, d.write_down.auto.0)) s.requires.room l.write_up.ensures
     d.write_down.ensures
 

@@ -66,9 +66,9 @@ down-matches-requires c κs =
     let a = c.before in
     let s = entry a in (
       downs-args s.args.n (a.loop-v.v - 1) s.args.node_table.now
-          (omega (arith, a.loop-v.invariant.0, c.loop-v-test.true)) s.pre.0
+          (omega (arith, a.loop-v.invariant.0, c.loop-v-test.true)) s.requires.0
           (below a c.loop-v-test.true),
-      s.pre.1,
+      s.requires.1,
     )
 
 returns-3 : tie.Need-returns-then-not-down_matches invariant-loop decreases-loop

@@ -18,21 +18,21 @@ abbrev decreases-loop : tie.decreases-loop-v
 decreases-loop nums₀ lengths n root v₀ node_table v = v
 
 pos : (s : tie.Start invariant-loop decreases-loop) → 0 < s.args.n
-pos s = down_pos s.args.n s.args.node_table-1.now s.requires.0
+pos s = down_pos s.args.n s.args.node_table.now s.requires.0
 
-kept-length : (a : tie.At-loop-v invariant-loop decreases-loop) → length a.loop-v.node_table-1 ≡ length a.before.before.args.node_table-1.now
+kept-length : (a : tie.At-loop-v invariant-loop decreases-loop) → length a.loop-v.node_table ≡ length a.before.before.args.node_table.now
 kept-length a = a.loop-v.invariant.1 ∙ simp length-set
 
-room : (a : tie.At-loop-v invariant-loop decreases-loop) → a.before.before.args.n * 4 ≤ length a.loop-v.node_table-1
+room : (a : tie.At-loop-v invariant-loop decreases-loop) → a.before.before.args.n * 4 ≤ length a.loop-v.node_table
 room a = omega (arith, kept-length a, a.before.before.requires.0.room)
 
 -- the invariant, from the function's entry
 down : (a : tie.At-loop-v invariant-loop decreases-loop)
-    → DownsWritten a.before.before.args.n a.loop-v.v a.before.before.args.node_table-1.now a.loop-v.node_table-1
+    → DownsWritten a.before.before.args.n a.loop-v.v a.before.before.args.node_table.now a.loop-v.node_table
 down a =
     let s = a.before.before in
-    a.loop-v.invariant.2 s.args.node_table-1.now
-    (root-turns s.args.n (s.args.n - 1) s.args.node_table-1.now (omega (arith, pos s)) s.requires.0.room)
+    a.loop-v.invariant.2 s.args.node_table.now
+    (root-turns s.args.n (s.args.n - 1) s.args.node_table.now (omega (arith, pos s)) s.requires.0.room)
 
 sub-root : tie.Need-overflow_sub-root invariant-loop decreases-loop
 sub-root c = pos c.before
@@ -51,8 +51,8 @@ write-node-requires c κs =
     let a = c.before.before in
     let s = a.before.before in
     let e : a.loop-v.v ≡ a.loop-v.v - 1 + 1 = omega (arith, c.before.loop-v-test.true) in (
-      node-args s.args.n (a.loop-v.v - 1) s.args.node_table-1.now a.loop-v.node_table-1
-          (subst (λ (i : ℕ). DownsWritten s.args.n i s.args.node_table-1.now a.loop-v.node_table-1) e (down a))
+      node-args s.args.n (a.loop-v.v - 1) s.args.node_table.now a.loop-v.node_table
+          (subst (λ (i : ℕ). DownsWritten s.args.n i s.args.node_table.now a.loop-v.node_table) e (down a))
           (omega (arith, a.loop-v.invariant.0, c.before.loop-v-test.true)) (room a) s.requires.0,
       s.requires.1,
     )
@@ -65,8 +65,8 @@ loop-again c =
       omega (arith, a.loop-v.invariant.0),
       rw c.before.before.write_node.ensures (simp length-set (kept-length a)),
       λ b d. rw c.before.before.write_node.ensures
-          (node-turns s.args.n (a.loop-v.v - 1) b a.loop-v.node_table-1
-          (subst (λ (i : ℕ). DownsWritten s.args.n i b a.loop-v.node_table-1) e (a.loop-v.invariant.2 b d))
+          (node-turns s.args.n (a.loop-v.v - 1) b a.loop-v.node_table
+          (subst (λ (i : ℕ). DownsWritten s.args.n i b a.loop-v.node_table) e (a.loop-v.invariant.2 b d))
           (omega (arith, a.loop-v.invariant.0, e)) (room a)),
     )
 
@@ -78,7 +78,7 @@ returns c =
     let a = c.before in
     let s = a.before.before in
     let e : a.loop-v.v ≡ 0 = omega (arith, c.loop-v-test.false) in
-    subst (λ (i : ℕ). DownsWritten s.args.n i s.args.node_table-1.now a.loop-v.node_table-1) e (down a)
+    subst (λ (i : ℕ). DownsWritten s.args.n i s.args.node_table.now a.loop-v.node_table) e (down a)
 
 pub write_down_spec : {M : Type 1} → statement M
 write_down_spec =

@@ -27,8 +27,8 @@ write-up-node-requires : tie.Need-write_up_node-requires invariant-loop decrease
 write-up-node-requires c κs =
     let a = c.before.before.before in
     let s = a.before.before.before in
-    turn-room s.args.kinds.now a.loop-v.v (length s.args.node_table-1.now) s.args.node_table-1.now
-    a.loop-v.node_table-1 s.requires a.loop-v.invariant.1 c.before.before.loop-v-test.true a.loop-v.invariant.3
+    turn-room s.args.kinds.now a.loop-v.v (length s.args.node_table.now) s.args.node_table.now
+    a.loop-v.node_table s.requires a.loop-v.invariant.1 c.before.before.loop-v-test.true a.loop-v.invariant.3
 
 loop-again : tie.Need-loop-v-preserved invariant-loop decreases-loop
 loop-again c =
@@ -36,12 +36,12 @@ loop-again c =
     let s = a.before.before.before in
     let ks = s.args.kinds.now in
     let t = c.before.before.before.before.before.loop-v-test.true in
-    let room : length ks * 4 ≤ length a.loop-v.node_table-1 = omega (arith, s.requires.room, a.loop-v.invariant.1) in (
+    let room : length ks * 4 ≤ length a.loop-v.node_table = omega (arith, s.requires.room, a.loop-v.invariant.1) in (
       omega arith,
       rw c.before.before.write_up_node.ensures (simp length-set a.loop-v.invariant.1),
       refl,
-      rw c.before.before.write_up_node.ensures (turns ks a.loop-v.v s.args.node_table-1.now
-          a.loop-v.node_table-1 a.loop-v.invariant.3 t room _ refl),
+      rw c.before.before.write_up_node.ensures (turns ks a.loop-v.v s.args.node_table.now
+          a.loop-v.node_table a.loop-v.invariant.3 t room _ refl),
     )
 
 sub-root : tie.Need-overflow_sub-root invariant-loop decreases-loop
@@ -54,7 +54,7 @@ returns : tie.Need-returns invariant-loop decreases-loop
 returns c =
     let a = c.before in
     let s = a.before.before.before in
-    all-written s.args.kinds.now a.loop-v.v s.args.node_table-1.now a.loop-v.node_table-1 a.loop-v.invariant.3
+    all-written s.args.kinds.now a.loop-v.v s.args.node_table.now a.loop-v.node_table a.loop-v.invariant.3
     c.loop-v-test.false
     a.loop-v.invariant.0 (omega (arith, s.requires.room, a.loop-v.invariant.1))
 
