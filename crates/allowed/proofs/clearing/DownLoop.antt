@@ -20,14 +20,14 @@ use Rattle.formats.specs.Rules.{tree_automaton}
 use Rattle.allowed.specs.Clearing.{clearing_set}
 use Rattle.allowed.specs.inner.Inputs.{left_child, PassArgs, MarksGiven}
 use Rattle.allowed.specs.inner.Sets.{right_set, left_set, marked_set}
-use Rattle.allowed.specs.inner.clearing.Cells.{right_first, first_cell, pair_cell, first_in}
+use Rattle.allowed.specs.inner.clearing.Cells.{right_first, first_cell, pair_cell, first_node_in}
 use Rattle.allowed.specs.inner.clearing.Up.{UpDone, UpWritten}
 use Rattle.allowed.specs.inner.clearing.Down.{leaf_down, leaf_next, pair_at, inner_down, inner_next, node_down, node_next}
 use Rattle.allowed.specs.inner.clearing.Down.{InnerDownArgs, NodeDownArgs, DownDone, DownWritten, SetsDone}
 use Rattle.allowed.specs.inner.clearing.Down.{SetsWritten}
 use Rattle.allowed.proofs.StepLaws as steps
 use Rattle.allowed.proofs.StepLaws.{run_below, set-args, marked-states}
-use Rattle.allowed.proofs.clearing.FirstLaws.{first_in, first_leaf, first-once, FirstOf, first_of}
+use Rattle.allowed.proofs.clearing.FirstLaws.{first_node_in, first_leaf, first-once, FirstOf, first_of}
 use Rattle.allowed.proofs.clearing.UpLoop.{not-kind, first-is}
 
 -- ---- an iteration, by the node's kind
@@ -50,7 +50,7 @@ module _ (ks ls inn : List ℕ) (s k : ℕ) (b : List ℕ) (v c : ℕ) where
   inner-set e = rw (ne_eqb (get_or ks v 0) 0 e)
 
 -- what the iteration of an inner node writes and returns, from the first node that was read
-module _ (ks inn : List ℕ) (s k : ℕ) (b : List ℕ) (v a c f : ℕ) (e : f ≡ first_in ks b (v - 1)) where
+module _ (ks inn : List ℕ) (s k : ℕ) (b : List ℕ) (v a c f : ℕ) (e : f ≡ first_node_in ks b (v - 1)) where
   pub inner_made : (l : ℕ) → l ≡ left_set inn s k a (get_or b f 0 / 16 % 16) c
       → set (set b f l) v c ≡ inner_down ks inn s k b v a c
   unfolding inner_down
@@ -98,7 +98,7 @@ module _ (ks ls lv inn : List ℕ) (s k : ℕ) (G : PassArgs ks ls lv inn s k) w
       waiting = λ v l g d w. get_or-set_other b i (right_first t v) c 0 (omega arith)
           ∙ D.waiting v (not-i v l (λ q. d (ap (kind_at t) q ∙ e))) g d (omega arith);
       firsts = λ u l g d. get_or-set_other b i u c 0 (omega arith) ∙ D.firsts u (omega arith) g d;
-      pairs = λ v l g d. get_or-set_other b i (right_first t v) c 0 (λ q. omega (arith, (first_in t v g d).1))
+      pairs = λ v l g d. get_or-set_other b i (right_first t v) c 0 (λ q. omega (arith, (first_node_in t v g d).1))
           ∙ D.pairs v (omega arith) g d;
       kept = λ j l. get_or-set_other b i j c 0 (omega arith) ∙ D.kept j l;
     }
@@ -110,12 +110,12 @@ module _ (ks ls lv inn : List ℕ) (s k : ℕ) (G : PassArgs ks ls lv inn s k) w
       K : Children t i
       K = children t i h e
 
-      f-is : first_in ks b (i - 1) ≡ right_first t i
+      f-is : first_node_in ks b (i - 1) ≡ right_first t i
       f-is = first-is t ks b (i - 1) x (omega (arith, K.pos)) (D.firsts (i - 1) (omega (arith, K.pos)) (omega (arith, K.pos)))
           ∙ omega (arith, K.pos)
 
       f-in : (0 < right_first t i) × (right_first t i < i)
-      f-in = first_in t i h e
+      f-in = first_node_in t i h e
 
       pair_is : pair_at ks b i ≡ pair_cell (tree_automaton s k lv inn mk) t i
       pair_is = ap (λ (j : ℕ). get_or b j 0) f-is ∙ D.pairs i (omega arith) h e
@@ -180,7 +180,7 @@ module _ (ks ls lv inn : List ℕ) (s k : ℕ) (G : PassArgs ks ls lv inn s k) w
         ];
         firsts = λ u l g d. apart u (omega arith) (λ z. d (ap (kind_at t) z ∙ first_leaf t i h e))
             ∙ D.firsts u (omega arith) g d;
-        pairs = λ v l g d. apart (right_first t v) (λ z. omega (arith, (first_in t v g d).1))
+        pairs = λ v l g d. apart (right_first t v) (λ z. omega (arith, (first_node_in t v g d).1))
             (λ z. omega (arith, first-once t v i g d h e z)) ∙ D.pairs v (omega arith) g d;
         kept = λ j l. apart j (omega arith) (λ z. omega (arith, f-in.1)) ∙ D.kept j l;
       }
@@ -191,7 +191,7 @@ module _ (ks ls lv inn : List ℕ) (s k : ℕ) (G : PassArgs ks ls lv inn s k) w
         inside = omega arith;
         low = low;
         right = record { kind_in = omega (arith, n_is); cell_in = omega arith };
-        first_in = omega (arith, f-is, f-in.1);
+        first_node_in = omega (arith, f-is, f-in.1);
         sets = set-args ks ls lv inn s k G (pair_at ks b i % 16) (get_or ls i 0) (pair_at ks b i / 16 % 16)
             (omega (arith, left-state, run_below ks ls lv inn s k G mk (sub t (left_child t i)))) (G.below i)
             (omega (arith, right-state, run_below ks ls lv inn s k G mk (sub t (i - 1))));

@@ -18,21 +18,21 @@ use Rattle.trees.proofs.PostorderLaws.{postorder-tree, size_of, kind-of}
 use Rattle.trees.proofs.RunLaws.{Children, children, size-leaf, size-inner, state-leaf, state-inner}
 use Rattle.formats.specs.Rules.{tree_automaton}
 use Rattle.allowed.specs.inner.Inputs.{left_child, PassArgs}
-use Rattle.allowed.specs.inner.clearing.Cells.{right_first, first_cell, pair_cell, first_in, state_in, FirstArgs, StateArgs}
+use Rattle.allowed.specs.inner.clearing.Cells.{right_first, first_cell, pair_cell, first_node_in, state_in, FirstArgs, StateArgs}
 use Rattle.allowed.specs.inner.clearing.Up.{pair_in, inner_up, node_up, PairArgs, InnerUpArgs, NodeUpArgs, UpDone}
 use Rattle.allowed.specs.inner.clearing.Up.{UpWritten}
 use Rattle.allowed.proofs.StepLaws.{rule-args, run_below}
-use Rattle.allowed.proofs.clearing.FirstLaws.{first_in, first_leaf, first-once}
+use Rattle.allowed.proofs.clearing.FirstLaws.{first_node_in, first_leaf, first-once}
 
 -- ---- by the node's kind
 
 module _ (ks b : List ℕ) (u : ℕ) where
-  pub first-of-leaf : get_or ks u 0 ≡ 0 → u ≡ first_in ks b u
-  unfolding first_in
+  pub first-of-leaf : get_or ks u 0 ≡ 0 → u ≡ first_node_in ks b u
+  unfolding first_node_in
   first-of-leaf e = rw (eq-eqb (get_or ks u 0) 0 e)
 
-  pub first-of-inner : (get_or ks u 0 ≡ 0 → ⊥) → get_or b u 0 ≡ first_in ks b u
-  unfolding first_in
+  pub first-of-inner : (get_or ks u 0 ≡ 0 → ⊥) → get_or b u 0 ≡ first_node_in ks b u
+  unfolding first_node_in
   first-of-inner e = rw (ne_eqb (get_or ks u 0) 0 e)
 
   module _ (ls lv : List ℕ) where
@@ -40,7 +40,7 @@ module _ (ks b : List ℕ) (u : ℕ) where
     unfolding state_in
     state-of-leaf e = rw (eq-eqb (get_or ks u 0) 0 e)
 
-    pub state-of-inner : (get_or ks u 0 ≡ 0 → ⊥) → get_or b (first_in ks b (u - 1)) 0 / 256 ≡ state_in ks ls lv b u
+    pub state-of-inner : (get_or ks u 0 ≡ 0 → ⊥) → get_or b (first_node_in ks b (u - 1)) 0 / 256 ≡ state_in ks ls lv b u
     unfolding state_in
     state-of-inner e = rw (ne_eqb (get_or ks u 0) 0 e)
 
@@ -62,13 +62,13 @@ pair_made ks ls lv inn s k b f v p q to e g h =
     ap (λ (z : ℕ). p + 16 * q + 256 * z) h
     ∙ ap₂ (λ (x y : ℕ). x + 16 * y + 256 * get_or inn ((x * k + get_or ls v 0) * s + y) 0) e g
 
-pub up-made : (ks ls lv inn : List ℕ) (s k : ℕ) (b : List ℕ) (v f x g : ℕ) → f ≡ first_in ks b (v - 1)
-    → x ≡ pair_in ks ls lv inn s k b f v → g ≡ first_in ks b (f - 1)
+pub up-made : (ks ls lv inn : List ℕ) (s k : ℕ) (b : List ℕ) (v f x g : ℕ) → f ≡ first_node_in ks b (v - 1)
+    → x ≡ pair_in ks ls lv inn s k b f v → g ≡ first_node_in ks b (f - 1)
     → set (set b f x) v g ≡ inner_up ks ls lv inn s k b v
 unfolding inner_up
 up-made ks ls lv inn s k b v f x g e h i =
     ap₂ (λ (y z : ℕ). set (set b f y) v z) h i
-    ∙ ap (λ (y : ℕ). set (set b y (pair_in ks ls lv inn s k b y v)) v (first_in ks b (y - 1))) e
+    ∙ ap (λ (y : ℕ). set (set b y (pair_in ks ls lv inn s k b y v)) v (first_node_in ks b (y - 1))) e
 
 -- ---- one node more
 
@@ -88,7 +88,7 @@ not-kind t ks u x c e = c (kind-of t ks u x ∙ e)
 
 -- what the buffer says of the first node of a subtree
 pub first-is : (t : Tree) (ks b : List ℕ) (u : ℕ) → kinds_of t ≡ ks → u < size t
-    → ((kind_at t u ≡ 0 → ⊥) → get_or b u 0 ≡ first_cell t u) → first_in ks b u ≡ first_cell t u
+    → ((kind_at t u ≡ 0 → ⊥) → get_or b u 0 ≡ first_cell t u) → first_node_in ks b u ≡ first_cell t u
 first-is t ks b u x h f = elim (ℕ_discrete (kind_at t u) 0) [
   | yes e ↦ sym (first-of-leaf ks b u (sym (kind-of t ks u x) ∙ e)) ∙ omega (arith, size-leaf t u h e)
   | no e ↦ sym (first-of-inner ks b u (not-kind t ks u x e)) ∙ f e
@@ -105,10 +105,10 @@ module _ (ks ls lv inn : List ℕ) (s k : ℕ) (G : PassArgs ks ls lv inn s k) w
       state-low : (u : ℕ) → state (tree_automaton s k lv inn mk) (sub t u) < 16
       state-low u = omega (arith, run_below ks ls lv inn s k G mk (sub t u), G.few)
 
-      first-at : (u : ℕ) → u < i → first_in ks b u ≡ first_cell t u
+      first-at : (u : ℕ) → u < i → first_node_in ks b u ≡ first_cell t u
       first-at u l = first-is t ks b u x (omega (arith, n_is)) ((all mk t x y).firsts u l (omega (arith, n_is)))
 
-      right-first : (v : ℕ) → v ≤ i → (kind_at t v ≡ 0 → ⊥) → first_in ks b (v - 1) ≡ right_first t v
+      right-first : (v : ℕ) → v ≤ i → (kind_at t v ≡ 0 → ⊥) → first_node_in ks b (v - 1) ≡ right_first t v
       right-first v l c =
           let pos : 0 < v = (children t v (omega (arith, n_is)) c).pos in
           first-at (v - 1) (omega arith) ∙ omega arith
@@ -135,7 +135,7 @@ module _ (ks ls lv inn : List ℕ) (s k : ℕ) (G : PassArgs ks ls lv inn s k) w
         inside = λ c. omega (
           arith,
           right-first u (omega arith) (kind-not t ks u x c),
-          (first_in t u (omega (arith, n_is)) (kind-not t ks u x c)).1,
+          (first_node_in t u (omega (arith, n_is)) (kind-not t ks u x c)).1,
         );
       }
 
@@ -146,16 +146,16 @@ module _ (ks ls lv inn : List ℕ) (s k : ℕ) (G : PassArgs ks ls lv inn s k) w
         K : Children t i
         K = children t i hi c
 
-        f-is : first_in ks b (i - 1) ≡ right_first t i
+        f-is : first_node_in ks b (i - 1) ≡ right_first t i
         f-is = right-first i (omega arith) c
 
         f-in : (0 < right_first t i) × (right_first t i < i)
-        f-in = first_in t i hi c
+        f-in = first_node_in t i hi c
 
         left_is : right_first t i - 1 ≡ left_child t i
         left_is = omega arith
 
-        left-state : state_in ks ls lv b (first_in ks b (i - 1) - 1) ≡ state (tree_automaton s k lv inn mk) (sub t (left_child t i))
+        left-state : state_in ks ls lv b (first_node_in ks b (i - 1) - 1) ≡ state (tree_automaton s k lv inn mk) (sub t (left_child t i))
         left-state =
             ap (λ (f : ℕ). state_in ks ls lv b (f - 1)) f-is ∙ ap (state_in ks ls lv b) left_is
             ∙ state_is (left_child t i) K.left_in
@@ -163,7 +163,7 @@ module _ (ks ls lv inn : List ℕ) (s k : ℕ) (G : PassArgs ks ls lv inn s k) w
         right-state : state_in ks ls lv b (i - 1) ≡ state (tree_automaton s k lv inn mk) (sub t (i - 1))
         right-state = state_is (i - 1) (omega (arith, K.pos))
 
-        pair_is : pair_in ks ls lv inn s k b (first_in ks b (i - 1)) i ≡ pair_cell (tree_automaton s k lv inn mk) t i
+        pair_is : pair_in ks ls lv inn s k b (first_node_in ks b (i - 1)) i ≡ pair_cell (tree_automaton s k lv inn mk) t i
         unfolding pair_in
         pair_is =
             ap₂ (λ (p q : ℕ). p + 16 * q + 256 * get_or inn ((p * k + get_or ls i 0) * s + q) 0) left-state right-state
@@ -173,9 +173,9 @@ module _ (ks ls lv inn : List ℕ) (s k : ℕ) (G : PassArgs ks ls lv inn s k) w
             + state (tree_automaton s k lv inn mk) (sub t (i - 1))) 0) (sym y)
             ∙ sym (state-inner (tree_automaton s k lv inn mk) t i hi c))
 
-        own_is : first_in ks b (first_in ks b (i - 1) - 1) ≡ first_cell t i
+        own_is : first_node_in ks b (first_node_in ks b (i - 1) - 1) ≡ first_cell t i
         own_is =
-            ap (λ (f : ℕ). first_in ks b (f - 1)) f-is ∙ ap (first_in ks b) left_is
+            ap (λ (f : ℕ). first_node_in ks b (f - 1)) f-is ∙ ap (first_node_in ks b) left_is
             ∙ first-at (left_child t i) K.left_in
             ∙ omega (arith, size-inner t i hi c, sub-size t (left_child t i) (omega (arith, hi, K.left_in)), K.right-size)
 
@@ -212,7 +212,7 @@ module _ (ks ls lv inn : List ℕ) (s k : ℕ) (G : PassArgs ks ls lv inn s k) w
           ];
           pairs = λ v l hv d. elim (ℕ_discrete v i) [
             | yes e ↦ rw e at_first
-            | no e ↦ apart (right_first t v) (λ z. omega (arith, (first_in t v hv d).1))
+            | no e ↦ apart (right_first t v) (λ z. omega (arith, (first_node_in t v hv d).1))
                 (λ z. e (first-once t v i hv d hi c z)) ∙ (all mk t x y).pairs v (omega arith) hv d
           ];
           kept = λ j l. apart j (λ z. omega (arith, hi)) (λ z. omega (arith, hi, f-in.1)) ∙ (all mk t x y).kept j l;
@@ -223,18 +223,18 @@ module _ (ks ls lv inn : List ℕ) (s k : ℕ) (G : PassArgs ks ls lv inn s k) w
           pos = K.pos;
           inside = omega arith;
           right = record { kind_in = omega arith; cell_in = omega arith };
-          first_in = omega (arith, f-is, f-in.1);
+          first_node_in = omega (arith, f-is, f-in.1);
           left = record { kind_in = omega (arith, f-is, f-in.1); cell_in = omega (arith, f-is, f-in.1) };
           left_low = omega (arith, own_is, G.most, size-pos (sub t i));
           pair = record {
             first_pos = omega (arith, f-is, f-in.0);
             pos = K.pos;
             label_in = omega (arith, G.count);
-            left = state-args (first_in ks b (i - 1) - 1) (omega (arith, f-is, f-in.1));
+            left = state-args (first_node_in ks b (i - 1) - 1) (omega (arith, f-is, f-in.1));
             right = state-args (i - 1) (omega (arith, K.pos));
             left_low = omega (arith, left-state, state-low (left_child t i));
             right_low = omega (arith, right-state, state-low (i - 1));
-            rule = rule-args ks ls lv inn s k (state_in ks ls lv b (first_in ks b (i - 1) - 1)) (get_or ls i 0)
+            rule = rule-args ks ls lv inn s k (state_in ks ls lv b (first_node_in ks b (i - 1) - 1)) (get_or ls i 0)
                 (state_in ks ls lv b (i - 1)) G
                 (omega (arith, left-state, run_below ks ls lv inn s k G mk (sub t (left_child t i)))) (G.below i)
                 (omega (arith, right-state, run_below ks ls lv inn s k G mk (sub t (i - 1))));

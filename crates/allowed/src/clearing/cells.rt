@@ -1,12 +1,12 @@
 // What the buffer holds between the passes: of an inner node the first node of its subtree, and at the first node of its
 // right child's subtree the states of both children and its own.
 ghost use Rattle.std.specs.Prelude.{◌≡◌};
-ghost use Rattle.allowed.specs.inner.clearing.Cells.{first_in, state_in, FirstArgs, StateArgs};
+ghost use Rattle.allowed.specs.inner.clearing.Cells.{first_node_in, state_in, FirstArgs, StateArgs};
 
 // The first node of node u's subtree.
 pub fn first_of(kinds: &[u8], cells: &[u16], u: usize) -> usize
     requires { FirstArgs kinds.now cells.now u }
-    ensures { result ≡ first_in kinds.now cells.now u }
+    ensures { result ≡ first_node_in kinds.now cells.now u }
 {
     if kinds[u] == 0 {
         return u;

@@ -3,7 +3,7 @@
 -- right_first t v == the first node of the right child's subtree, of inner node v; the left child is the node before it
 -- first_cell t u == the first node of node u's subtree
 -- pair_cell A t v == of inner node v: the states of its left child, of its right child, and its own
--- first_in ks b u == the first node of node u's subtree, as the buffer b has it: a leaf is its own
+-- first_node_in ks b u == the first node of node u's subtree, as the buffer b has it: a leaf is its own
 -- state_in ks ls lv b u == the state of node u in the run, as the buffer has it: a leaf's by its label
 -- FirstArgs, StateArgs == what these need
 --
@@ -24,12 +24,12 @@ first_cell t u = u + 1 - size (sub t u)
 abbrev pub pair_cell : Automaton → Tree → ℕ → ℕ
 pair_cell A t v = state A (sub t (left_child t v)) + 16 * state A (sub t (v - 1)) + 256 * state A (sub t v)
 
-unfoldable pub first_in : List ℕ → List ℕ → ℕ → ℕ
-first_in ks b u = cond (eqb (get_or ks u 0) 0) u (get_or b u 0)
+unfoldable pub first_node_in : List ℕ → List ℕ → ℕ → ℕ
+first_node_in ks b u = cond (eqb (get_or ks u 0) 0) u (get_or b u 0)
 
 unfoldable pub state_in : List ℕ → List ℕ → List ℕ → List ℕ → ℕ → ℕ
 state_in ks ls lv b u =
-    cond (eqb (get_or ks u 0) 0) (get_or lv (get_or ls u 0) 0) (get_or b (first_in ks b (u - 1)) 0 / 256)
+    cond (eqb (get_or ks u 0) 0) (get_or lv (get_or ls u 0) 0) (get_or b (first_node_in ks b (u - 1)) 0 / 256)
 
 pub record FirstArgs (ks b : List ℕ) (u : ℕ) : Type 0 where
   pub kind_in : u < length ks
@@ -41,4 +41,4 @@ pub record StateArgs (ks ls lv b : List ℕ) (u : ℕ) : Type 0 where
   pub leaf_in : get_or ls u 0 < length lv
   pub pos : (get_or ks u 0 ≡ 0 → ⊥) → 0 < u
   pub first : (get_or ks u 0 ≡ 0 → ⊥) → FirstArgs ks b (u - 1)
-  pub inside : (get_or ks u 0 ≡ 0 → ⊥) → first_in ks b (u - 1) < length b
+  pub inside : (get_or ks u 0 ≡ 0 → ⊥) → first_node_in ks b (u - 1) < length b

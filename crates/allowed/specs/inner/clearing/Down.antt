@@ -17,7 +17,7 @@ use Rattle.formats.specs.Rules.{tree_automaton}
 use Rattle.allowed.specs.Clearing.{clearing_set}
 use Rattle.allowed.specs.inner.Inputs.{left_child, PassArgs}
 use Rattle.allowed.specs.inner.Sets.{right_set, left_set, SetArgs}
-use Rattle.allowed.specs.inner.clearing.Cells.{right_first, first_cell, pair_cell, first_in, FirstArgs}
+use Rattle.allowed.specs.inner.clearing.Cells.{right_first, first_cell, pair_cell, first_node_in, FirstArgs}
 
 abbrev pub leaf_down : List ℕ → ℕ → ℕ → List ℕ
 leaf_down b v c = set b v c
@@ -26,11 +26,11 @@ abbrev pub leaf_next : List ℕ → ℕ → ℕ
 leaf_next b v = get_or b v 0
 
 abbrev pub pair_at : List ℕ → List ℕ → ℕ → ℕ
-pair_at ks b v = get_or b (first_in ks b (v - 1)) 0
+pair_at ks b v = get_or b (first_node_in ks b (v - 1)) 0
 
 unfoldable pub inner_down : List ℕ → List ℕ → ℕ → ℕ → List ℕ → ℕ → ℕ → ℕ → List ℕ
 inner_down ks inn s k b v a c =
-    set (set b (first_in ks b (v - 1)) (left_set inn s k a (pair_at ks b v / 16 % 16) c)) v c
+    set (set b (first_node_in ks b (v - 1)) (left_set inn s k a (pair_at ks b v / 16 % 16) c)) v c
 
 unfoldable pub inner_next : List ℕ → List ℕ → ℕ → ℕ → List ℕ → ℕ → ℕ → ℕ → ℕ
 inner_next ks inn s k b v a c = right_set inn s k (pair_at ks b v % 16) a c
@@ -46,7 +46,7 @@ pub record InnerDownArgs (ks inn : List ℕ) (s k : ℕ) (b : List ℕ) (v a c :
   pub inside : v < length b
   pub low : c < 65536
   pub right : FirstArgs ks b (v - 1)
-  pub first_in : first_in ks b (v - 1) < length b
+  pub first_in : first_node_in ks b (v - 1) < length b
   pub sets : SetArgs inn s k (pair_at ks b v % 16) a (pair_at ks b v / 16 % 16)
 
 pub record NodeDownArgs (ks ls inn : List ℕ) (s k : ℕ) (b : List ℕ) (v c : ℕ) : Type 0 where

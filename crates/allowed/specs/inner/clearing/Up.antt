@@ -11,7 +11,7 @@ use Rattle.trees.specs.Tree.{Tree, kinds_of, labels_of, size, kind_at}
 use Rattle.trees.specs.Automaton.{Automaton}
 use Rattle.formats.specs.Rules.{tree_automaton}
 use Rattle.formats.specs.inner.InnerChecks.{RuleArgs}
-use Rattle.allowed.specs.inner.clearing.Cells.{right_first, first_cell, pair_cell, first_in, state_in, FirstArgs, StateArgs}
+use Rattle.allowed.specs.inner.clearing.Cells.{right_first, first_cell, pair_cell, first_node_in, state_in, FirstArgs, StateArgs}
 
 unfoldable pub pair_in : List ℕ → List ℕ → List ℕ → List ℕ → ℕ → ℕ → List ℕ → ℕ → ℕ → ℕ
 pair_in ks ls lv inn s k b f v =
@@ -20,8 +20,8 @@ pair_in ks ls lv inn s k b f v =
 
 unfoldable pub inner_up : List ℕ → List ℕ → List ℕ → List ℕ → ℕ → ℕ → List ℕ → ℕ → List ℕ
 inner_up ks ls lv inn s k b v =
-    set (set b (first_in ks b (v - 1)) (pair_in ks ls lv inn s k b (first_in ks b (v - 1)) v)) v
-    (first_in ks b (first_in ks b (v - 1) - 1))
+    set (set b (first_node_in ks b (v - 1)) (pair_in ks ls lv inn s k b (first_node_in ks b (v - 1)) v)) v
+    (first_node_in ks b (first_node_in ks b (v - 1) - 1))
 
 unfoldable pub node_up : List ℕ → List ℕ → List ℕ → List ℕ → ℕ → ℕ → List ℕ → ℕ → List ℕ
 node_up ks ls lv inn s k b v = cond (eqb (get_or ks v 0) 0) b (inner_up ks ls lv inn s k b v)
@@ -41,10 +41,10 @@ pub record InnerUpArgs (ks ls lv inn : List ℕ) (s k : ℕ) (b : List ℕ) (v :
   pub pos : 0 < v
   pub inside : v < length b
   pub right : FirstArgs ks b (v - 1)
-  pub first_in : first_in ks b (v - 1) < length b
-  pub left : FirstArgs ks b (first_in ks b (v - 1) - 1)
-  pub left_low : first_in ks b (first_in ks b (v - 1) - 1) < 65536
-  pub pair : PairArgs ks ls lv inn s k b (first_in ks b (v - 1)) v
+  pub first_in : first_node_in ks b (v - 1) < length b
+  pub left : FirstArgs ks b (first_node_in ks b (v - 1) - 1)
+  pub left_low : first_node_in ks b (first_node_in ks b (v - 1) - 1) < 65536
+  pub pair : PairArgs ks ls lv inn s k b (first_node_in ks b (v - 1)) v
 
 pub record NodeUpArgs (ks ls lv inn : List ℕ) (s k : ℕ) (b : List ℕ) (v : ℕ) : Type 0 where
   pub kind_in : v < length ks

@@ -42,7 +42,7 @@ returns-2 c =
     let i = w.before.before.before.before.before.before in
     let g = i.before.before.before.before.before.before.args in
     build-done (built_node_table g.plan.now) (built_branch_table g.plan.now g.branch.now) g.node_table.now g.state_table.now _
-    w.write_branch.new.1.1.1.1.1.0 w.write_branch.new.1.1.1.1.1.1.0 (passed i)
+    w.write_branch.new.node_table w.write_branch.new.state_table (passed i)
     w.write_branch.ensures.links w.write_branch.ensures.states
 
 pub build_branch_tables_spec : {M : Type 1} → statement M

@@ -19,8 +19,8 @@ returns c =
     parts-written s.args.plan.now s.args.branch.now s.args.n s.args.s s.args.k
     (length s.args.node_table.now)
     (length s.args.state_table.now) s.requires
-    s.args.node_table.now s.args.state_table.now f.fill_branch.new.1.1.1.1.1.0
-    f.fill_branch.new.1.1.1.1.1.1.0
+    s.args.node_table.now s.args.state_table.now f.fill_branch.new.node_table
+    f.fill_branch.new.state_table
     f.fill_branch.ensures
 
 pub write_branch_spec : {M : Type 1} → statement M

@@ -31,7 +31,7 @@ pos s = args-pos _ _ _ _ _ _ _ (entered s)
 -- the buffer at the function's entry and after the root's map
 kept-length : (a : tie.At-loop-v invariant-loop decreases-loop) → length a.loop-v.state_table ≡ length
     a.before.before.before.before.before.before.before.before.before.args.state_table.now
-kept-length a = a.loop-v.invariant.1 ∙ a.before.before.before.same_row.auto.0
+kept-length a = a.loop-v.invariant.1 ∙ a.before.before.before.same_row.auto.state_table
 
 -- the maps from v on, since the function's entry
 mapped : (a : tie.At-loop-v invariant-loop decreases-loop)
@@ -77,9 +77,9 @@ loop-again c =
     let s = a.before.before.before.before.before.before.before.before.before in
     let e : a.loop-v.v - 1 + 1 ≡ a.loop-v.v = omega (arith, i.loop-v-test.true) in (
       omega (arith, a.loop-v.invariant.0),
-      n.node_map.auto.1.1.1.1.1.1.0 ∙ a.loop-v.invariant.1,
+      n.node_map.auto.state_table ∙ a.loop-v.invariant.1,
       λ b d. map-iteration _ _ _ _ _ _ _ (entered s) (a.loop-v.v - 1) b a.loop-v.state_table
-          n.node_map.new.1.1.1.1.1.1.0
+          n.node_map.new.state_table
           (rw e (a.loop-v.invariant.2 b d)) (omega (arith, a.loop-v.invariant.0, i.loop-v-test.true)) n.node_map.ensures,
     )
 

@@ -26,7 +26,7 @@ returns c =
     row-ext g.s (λ q. get_or g.steps.now (get_or g.labels.now g.v 0 + q * g.k) 0)
     (node_map g.labels.now g.node_table.now g.steps.now g.s g.k g.state_table.now g.v) g.v g.s
     g.state_table.now
-    n.near_row.new.0 n.near_row.ensures
+    n.near_row.new.state_table n.near_row.ensures
     (λ q l. sym (node_map-near g.labels.now g.node_table.now g.steps.now g.s g.k g.state_table.now g.v q
     i.if-j-p.true))
 
@@ -41,7 +41,7 @@ returns-2 c =
     (get_or g.labels.now g.v 0))
     (node_map g.labels.now g.node_table.now g.steps.now g.s g.k g.state_table.now g.v) g.v g.s
     g.state_table.now
-    n.step_row.new.0 n.step_row.ensures
+    n.step_row.new.state_table n.step_row.ensures
     (λ q l. sym (node_map-far g.labels.now g.node_table.now g.steps.now g.s g.k g.state_table.now g.v q
     i.if-j-p.false))
 

@@ -28,7 +28,7 @@ returns c =
     let t = f.before.before in
     let g = t.before.before.before.before.before.args in
     by_count (sym t.if-s-eq2.true) g.labels.now g.node_table.now g.steps.now g.k g.v
-    g.state_table.now f.label_map.new.1.1.1.1.1.1.0 f.label_map.ensures
+    g.state_table.now f.label_map.new.state_table f.label_map.ensures
 
 label-map-requires-2 : tie.Need-label_map-requires-then-s-eq4
 label-map-requires-2 c κs =
@@ -43,7 +43,7 @@ returns-2 c =
     let t = f.before.before in
     let g = t.before.before.before.before.before.before.args in
     by_count (sym t.if-s-eq4.true) g.labels.now g.node_table.now g.steps.now g.k g.v
-    g.state_table.now f.label_map-then-s-eq4.new.1.1.1.1.1.1.0 f.label_map-then-s-eq4.ensures
+    g.state_table.now f.label_map-then-s-eq4.new.state_table f.label_map-then-s-eq4.ensures
 
 label-map-requires-3 : tie.Need-label_map-requires-then-s-eq16
 label-map-requires-3 c κs =
@@ -58,7 +58,7 @@ returns-3 c =
     let t = f.before.before in
     let g = t.before.before.before.before.before.before.before.args in
     by_count (sym t.if-s-eq16.true) g.labels.now g.node_table.now g.steps.now g.k g.v
-    g.state_table.now f.label_map-then-s-eq16.new.1.1.1.1.1.1.0 f.label_map-then-s-eq16.ensures
+    g.state_table.now f.label_map-then-s-eq16.new.state_table f.label_map-then-s-eq16.ensures
 
 pub node_map_spec : {M : Type 1} → statement M
 node_map_spec =

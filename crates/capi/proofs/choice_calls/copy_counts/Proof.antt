@@ -15,13 +15,13 @@ abbrev decreases-loop : tie.decreases-loop-i
 decreases-loop n out₀ a i₀ out i = n - i
 
 loop-holds : tie.Need-loop-i-init invariant-loop decreases-loop
-loop-holds c = copy_start 16 c.args.t1 c.args.n c.args.out.now c.requires
+loop-holds c = copy_start 16 c.args.a c.args.n c.args.out.now c.requires
 
 loop-again : tie.Need-loop-i-preserved invariant-loop decreases-loop
 loop-again c =
     let g = c.before.before.args in
     let l = c.before.loop-i in
-    copy-next 16 g.t1 g.n g.out.now l.out l.i l.invariant c.loop-i-test.true
+    copy-next 16 g.a g.n g.out.now l.out l.i l.invariant c.loop-i-test.true
 
 same_length : tie.Need-shape_of-out invariant-loop decreases-loop
 same_length c = c.before.loop-i.invariant.long
@@ -30,7 +30,7 @@ returns : tie.Need-returns invariant-loop decreases-loop
 returns c =
     let g = c.before.before.args in
     let l = c.before.loop-i in
-    copy_done 16 g.t1 g.n g.out.now l.out l.i l.invariant c.loop-i-test.false
+    copy_done 16 g.a g.n g.out.now l.out l.i l.invariant c.loop-i-test.false
 
 pub copy_counts_spec : {M : Type 1} → statement M
 copy_counts_spec =

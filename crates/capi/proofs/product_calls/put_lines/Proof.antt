@@ -19,7 +19,7 @@ loop-holds : tie.Need-loop-i-init invariant-loop decreases-loop
 loop-holds c =
     let s = c.before in
     let g = s.args in
-    lines_start g.t1 g.t2 g.t3 g.t4 g.n g.lines.now s.requires
+    lines_start g.kinds g.labels g.lefts g.rights g.n g.lines.now s.requires
 
 mul-put-line : tie.Need-overflow_mul-i invariant-loop decreases-loop
 mul-put-line c = omega (arith, c.before.before.loop-i.invariant.args.few, c.before.loop-i-test.true)
@@ -44,7 +44,7 @@ put-line-requires : tie.Need-put_line-requires invariant-loop decreases-loop
 put-line-requires c κs =
     let g = c.before.before.before.before.args in
     let l = c.before.before.loop-i in
-    lines-call g.t1 g.t2 g.t3 g.t4 g.n g.lines.now l.lines l.i l.invariant
+    lines-call g.kinds g.labels g.lefts g.rights g.n g.lines.now l.lines l.i l.invariant
     c.before.loop-i-test.true
 
 add-i : tie.Need-overflow_add-i invariant-loop decreases-loop
@@ -58,7 +58,7 @@ loop-again : tie.Need-loop-i-preserved invariant-loop decreases-loop
 loop-again c =
     let g = c.before.before.before.before.before.before.before.args in
     let l = c.before.before.before.before.before.loop-i in
-    lines_next g.t1 g.t2 g.t3 g.t4 g.n g.lines.now l.lines l.i l.invariant
+    lines_next g.kinds g.labels g.lefts g.rights g.n g.lines.now l.lines l.i l.invariant
     c.before.before.before.before.loop-i-test.true _ c.before.before.put_line.ensures
 
 same_length : tie.Need-shape_of-lines invariant-loop decreases-loop
@@ -68,7 +68,7 @@ returns : tie.Need-returns invariant-loop decreases-loop
 returns c =
     let g = c.before.before.before.args in
     let l = c.before.loop-i in
-    lines-done g.t1 g.t2 g.t3 g.t4 g.n g.lines.now l.lines l.i l.invariant c.loop-i-test.false
+    lines-done g.kinds g.labels g.lefts g.rights g.n g.lines.now l.lines l.i l.invariant c.loop-i-test.false
 
 pub put_lines_spec : {M : Type 1} → statement M
 put_lines_spec =

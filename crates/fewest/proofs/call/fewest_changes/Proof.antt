@@ -44,7 +44,7 @@ plan-mark-requires c κs =
 returns-2 : tie.Need-returns-then-plan_mark-mark
 returns-2 c =
     let g = c.before.before.before.before.before.before.before.before.before.before.before.before.before.before.before.before.before.args in
-    told-early g.plan.now g.rules.now g.may.now g.want g.work.now g.nodes.now g.labels.now g.least.now g.count.now (sym c.before.before.before.before.before.before.before.before.before.before.check_fewest-refused.ensures ∙ c.before.before.before.before.before.before.before.before.before.if-refused-ne0.false) c.before.before.before.before.before.wanted_mark-mark.result c.before.before.before.plan_mark.result c.before.before.before.before.before.wanted_mark-mark.ensures c.before.before.before.plan_mark.new.1.1.1.1.1.0 c.before.before.before.plan_mark.ensures c.if-plan_mark-mark.true
+    told-early g.plan.now g.rules.now g.may.now g.want g.work.now g.nodes.now g.labels.now g.least.now g.count.now (sym c.before.before.before.before.before.before.before.before.before.before.check_fewest-refused.ensures ∙ c.before.before.before.before.before.before.before.before.before.if-refused-ne0.false) c.before.before.before.before.before.wanted_mark-mark.result c.before.before.before.plan_mark.result c.before.before.before.before.before.wanted_mark-mark.ensures c.before.before.before.plan_mark.new.work c.before.before.before.plan_mark.ensures c.if-plan_mark-mark.true
 
 write-plan-requires : tie.Need-write_plan-c-requires
 write-plan-requires c κs =
@@ -56,8 +56,8 @@ write-plan-requires c κs =
 returns-3 : tie.Need-returns
 returns-3 c =
     let g = c.before.before.before.before.before.before.before.before.before.before.before.before.before.before.before.before.before.before.before.before.before.before.before.before.before.before.before.before.args in
-    told-late g.plan.now g.rules.now g.may.now g.want g.work.now g.nodes.now g.labels.now g.least.now g.count.now (sym c.before.before.before.before.before.before.before.before.before.before.before.before.before.before.before.before.before.before.before.before.before.check_fewest-refused.ensures ∙ c.before.before.before.before.before.before.before.before.before.before.before.before.before.before.before.before.before.before.before.before.if-refused-ne0.false) c.before.before.before.before.before.before.before.before.before.before.before.before.before.before.before.before.wanted_mark-mark.result c.before.before.before.before.before.before.before.before.before.before.before.before.before.before.plan_mark.result c.before.before.before.before.before.before.before.before.before.before.before.before.before.before.before.before.wanted_mark-mark.ensures c.before.before.before.before.before.before.before.before.before.before.before.before.before.before.plan_mark.new.1.1.1.1.1.0 c.before.before.before.before.before.before.before.before.before.before.before.before.before.before.plan_mark.ensures
-    c.before.before.before.before.before.before.write_plan-c.result c.before.before.before.before.before.before.write_plan-c.new.1.1.1.1.1.1.1.0 c.before.before.before.before.before.before.write_plan-c.new.1.1.1.1.1.1.1.1.0 c.before.before.before.before.before.before.write_plan-c.new.1.1.1.1.1.1.1.1.1.0 c.before.before.before.before.before.before.write_plan-c.new.1.1.1.1.1.1.1.1.1.1.0 c.before.before.before.before.before.before.write_plan-c.ensures
+    told-late g.plan.now g.rules.now g.may.now g.want g.work.now g.nodes.now g.labels.now g.least.now g.count.now (sym c.before.before.before.before.before.before.before.before.before.before.before.before.before.before.before.before.before.before.before.before.before.check_fewest-refused.ensures ∙ c.before.before.before.before.before.before.before.before.before.before.before.before.before.before.before.before.before.before.before.before.if-refused-ne0.false) c.before.before.before.before.before.before.before.before.before.before.before.before.before.before.before.before.wanted_mark-mark.result c.before.before.before.before.before.before.before.before.before.before.before.before.before.before.plan_mark.result c.before.before.before.before.before.before.before.before.before.before.before.before.before.before.before.before.wanted_mark-mark.ensures c.before.before.before.before.before.before.before.before.before.before.before.before.before.before.plan_mark.new.work c.before.before.before.before.before.before.before.before.before.before.before.before.before.before.plan_mark.ensures
+    c.before.before.before.before.before.before.write_plan-c.result c.before.before.before.before.before.before.write_plan-c.new.work c.before.before.before.before.before.before.write_plan-c.new.nodes c.before.before.before.before.before.before.write_plan-c.new.labels c.before.before.before.before.before.before.write_plan-c.new.least c.before.before.before.before.before.before.write_plan-c.ensures
 
 pub fewest_changes_spec : {M : Type 1} → statement M
 fewest_changes_spec =

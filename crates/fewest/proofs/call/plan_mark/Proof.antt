@@ -13,7 +13,7 @@ root-mark-requires c κs = run-given c.before.before.before.before.before.before
 returns : tie.Need-returns
 returns c =
     plan-marked c.before.before.before.before.before.before.before.before.before.before.before.before.before.requires c.before.before.before.before.before.before.before.before.before.inner_count.result c.before.before.before.before.before.before.before.before.before.inner_count.ensures.value c.before.before.before.before.before.before.before.before.before.before.before.before.before.args.work.now c.before.before.root_mark.result
-    c.before.before.root_mark.new.1.1.1.1.1.1.1.0 c.before.before.root_mark.ensures
+    c.before.before.root_mark.new.work c.before.before.root_mark.ensures
 
 pub plan_mark_spec : {M : Type 1} → statement M
 plan_mark_spec =

@@ -16,7 +16,7 @@ returns : tie.Need-returns
 returns c =
     let g = c.before.before.before.before.before.before.before.before.before.before.before.before.before.before.before.before.before.before.before.before.before.before.before.args in
     parts-written c.before.before.before.before.before.before.before.before.before.before.before.before.before.before.before.before.before.before.before.before.before.before.before.requires c.before.before.before.before.before.before.before.before.before.before.before.before.before.before.before.before.inner_count.result c.before.before.before.before.before.before.before.before.before.before.before.before.before.before.before.before.inner_count.ensures.value g.mark g.work.now g.nodes.now g.labels.now
-    c.before.before.before.before.before.before.write_fewest.result c.before.before.before.before.before.before.write_fewest.new.1.1.1.1.1.1.1.1.1.0 c.before.before.before.before.before.before.write_fewest.new.1.1.1.1.1.1.1.1.1.1.0 c.before.before.before.before.before.before.write_fewest.new.1.1.1.1.1.1.1.1.1.1.1.0 c.before.before.before.before.before.before.write_fewest.new.1.1.1.1.1.1.1.1.1.1.1.1.0 c.before.before.before.before.before.before.write_fewest.ensures
+    c.before.before.before.before.before.before.write_fewest.result c.before.before.before.before.before.before.write_fewest.new.work c.before.before.before.before.before.before.write_fewest.new.nodes c.before.before.before.before.before.before.write_fewest.new.out c.before.before.before.before.before.before.write_fewest.new.least c.before.before.before.before.before.before.write_fewest.ensures
 
 pub write_plan_spec : {M : Type 1} → statement M
 write_plan_spec =

@@ -15,7 +15,7 @@ abbrev decreases-loop : tie.decreases-loop-i
 decreases-loop n a r₀ i₀ r i = n - i
 
 loop-holds : tie.Need-loop-i-init invariant-loop decreases-loop
-loop-holds c = front-start c.args.t1 c.args.n c.requires
+loop-holds c = front-start c.args.a c.args.n c.requires
 
 array-read-r : tie.Need-bounds-a-i invariant-loop decreases-loop
 array-read-r c = omega (arith, c.before.loop-i.invariant.args.long, c.before.loop-i.invariant.args.few, c.loop-i-test.true)
@@ -26,12 +26,12 @@ array-write-r c = omega (arith, c.before.loop-i.invariant.front.long, c.before.l
 loop-again : tie.Need-loop-i-preserved invariant-loop decreases-loop
 loop-again c =
     let l = c.before.loop-i in
-    front-next c.before.before.args.t1 c.before.before.args.n l.r l.i l.invariant c.loop-i-test.true
+    front-next c.before.before.args.a c.before.before.args.n l.r l.i l.invariant c.loop-i-test.true
 
 returns : tie.Need-returns invariant-loop decreases-loop
 returns c =
     let l = c.before.loop-i in
-    front-done c.before.before.args.t1 c.before.before.args.n l.r l.i l.invariant c.loop-i-test.false
+    front-done c.before.before.args.a c.before.before.args.n l.r l.i l.invariant c.loop-i-test.false
 
 pub front_spec : {M : Type 1} → statement M
 front_spec =

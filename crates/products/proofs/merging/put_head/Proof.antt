@@ -21,9 +21,9 @@ returns c =
     let s = x22 in
     let g = s.args in
     head-written g.s g.k
-    x20.inner_count.result g.out.now x18.put32.new.0 x14.put32-2.new.0
-    x10.put32-3.new.0
-    x6.put32-4.new.0 x2.put32-5.new.0 s.requires
+    x20.inner_count.result g.out.now x18.put32.new.out x14.put32-2.new.out
+    x10.put32-3.new.out
+    x6.put32-4.new.out x2.put32-5.new.out s.requires
     x20.inner_count.ensures.value
     x18.put32.ensures x14.put32-2.ensures x10.put32-3.ensures x6.put32-4.ensures x2.put32-5.ensures
 

@@ -10,7 +10,7 @@ use Rattle.records.proofs.bytes.encode.Statement.{statement}
 use Rattle.records.proofs.bytes.encode.Tie as tie
 
 returns : tie.Need-returns-then-out-ne-RECORD_BYTES
-returns c = encode-other c.before.before.args.out.now c.before.before.args.t1 c.if-out-ne-RECORD_BYTES.true
+returns c = encode-other c.before.before.args.out.now c.before.before.args.rec c.if-out-ne-RECORD_BYTES.true
 
 slice-aggregate-put-head : tie.Need-slice_bounds-put_head-end-2
 slice-aggregate-put-head c = sym (length-take-le 13 c.before.before.before.before.args.out.now (omega arith))
@@ -28,8 +28,8 @@ returns-2 c =
     let p₁ = p₂.before.before.before.before.before.before.before in
     let e = p₁.before.before.before in
     let a = e.before.before in
-    encode-done a.args.out.now a.args.t1 _ (omega arith)
-    (record-written a.args.out.now a.args.t1 _ _ _ _ _ _ (omega arith) (in-types a.args.t1 a.well-formed.0)
+    encode-done a.args.out.now a.args.rec _ (omega arith)
+    (record-written a.args.out.now a.args.rec _ _ _ _ _ _ (omega arith) (in-types a.args.rec a.well-formed.0)
     p₁.put_head.ensures p₂.put_numbers.ensures p₃.copy_bytes.ensures p₄.put_numbers-2.ensures
     p₅.copy_bytes-2.ensures p₆.put_last.ensures)
 

@@ -73,7 +73,7 @@ returns-2 c =
     s.args.node_table.now s.args.state_table.now
     (first_no (build_checks s.args.plan.now s.args.rules.now (length s.args.node_table.now)
     (length s.args.state_table.now)))
-    w.write_tables.new.1.1.1.1.1.0 w.write_tables.new.1.1.1.1.1.1.0 (passed e)
+    w.write_tables.new.node_table w.write_tables.new.state_table (passed e)
     w.write_tables.ensures.links w.write_tables.ensures.states
 
 pub build_tables_spec : {M : Type 1} → statement M

@@ -15,10 +15,10 @@ write-states-requires : tie.Need-write_states-requires
 write-states-requires c κs =
     let l = c.before.before.before.before.before.before.before.before in
     let i = l.before.before.before in
-    let s = i.before.before.before.before.before in
+    let s = i.before.before.before.before in
     table-args-of s.args.plan.now s.args.rules.now s.args.node_table.now s.args.state_table.now s.args.n
     s.args.s s.args.k s.requires
-    l.build_node_table.new.1.0 (omega arith) l.build_node_table.ensures i.inner_count.result
+    l.build_node_table.new.node_table (omega arith) l.build_node_table.ensures i.inner_count.result
     i.inner_count.ensures.value
 
 returns : tie.Need-returns
@@ -26,12 +26,12 @@ returns c =
     let w = c.before.before in
     let l = w.before.before.before.before.before.before.before.before.before in
     let i = l.before.before.before in
-    let s = i.before.before.before.before.before in
+    let s = i.before.before.before.before in
     both-written-of s.args.plan.now s.args.rules.now s.args.node_table.now s.args.state_table.now s.args.n
     s.args.s s.args.k s.requires
-    l.build_node_table.new.1.0 (omega arith) l.build_node_table.ensures i.inner_count.result
+    l.build_node_table.new.node_table (omega arith) l.build_node_table.ensures i.inner_count.result
     i.inner_count.ensures.value
-    w.write_states.new.1.1.1.1.1.1.1.0 w.write_states.ensures
+    w.write_states.new.state_table w.write_states.ensures
 
 pub write_tables_spec : {M : Type 1} → statement M
 write_tables_spec =

@@ -25,22 +25,22 @@ map_at s =
     s.requires.path.state_table_room
 
 mul-t16 : tie.Need-overflow_mul-result
-mul-t16 c = omega (arith, map_at c.before.before.before.before.before.before.before.before)
+mul-t16 c = omega (arith, map_at c.before.before.before.before.before.before.before)
 
 add-t18 : tie.Need-overflow_add-result-in-Jump-2
-add-t18 c = omega (arith, map_at c.before.before.before.before.before.before.before.before)
+add-t18 c = omega (arith, map_at c.before.before.before.before.before.before.before)
 
 shared-slice-read-t20 : tie.Need-bounds-state_table-v
-shared-slice-read-t20 c = map_at c.before.before.before.before.before.before.before.before.before
+shared-slice-read-t20 c = map_at c.before.before.before.before.before.before.before.before
 
 cast-t21 : tie.Need-overflow_cast-result
 cast-t21 c =
-    let g = c.before.before.before.before.before.before.before.before.before.args in
+    let g = c.before.before.before.before.before.before.before.before.args in
     omega (arith, c.shared_slice_known-in-Jump-1.given (g.v * (g.s + 1) + (1 + g.q)))
 
 parent-on-requires : tie.Need-parent_on-requires
 parent-on-requires c κs =
-    let s = c.before.before.before.before.before.before.before.before in
+    let s = c.before.before.before.before.before.before.before in
     let g = s.args in
     record {
       path = s.requires.path;
@@ -53,7 +53,7 @@ parent-on-requires c κs =
 returns : tie.Need-returns-in-Jump
 returns c =
     let j = c.before.before in
-    let s = j.before.before.before.before.before.before.before in
+    let s = j.before.before.before.before.before.before in
     let g = s.args in
     step-jump (view s) g.v g.to g.q j.j-1.given.0.0 _
     (sym j.j-1.given.1 ∙ j.before.before.next_move.ensures) refl
@@ -61,14 +61,14 @@ returns c =
 returns-2 : tie.Need-returns-in-Parent
 returns-2 c =
     let p = c.before.before in
-    let s = p.before.before.before.before.before.before.before in
+    let s = p.before.before.before.before.before.before in
     let g = s.args in
     step-parent (view s) g.v g.to g.q p.p-1.given.0.0 c.parent_on.result
     (sym p.p-1.given.1 ∙ p.before.before.next_move.ensures) c.parent_on.ensures
 
 returns-3 : tie.Need-returns-in-Stuck
 returns-3 c =
-    let s = c.before.before.before.before.before.before.before in
+    let s = c.before.before.before.before.before.before in
     let g = s.args in
     step-stuck (view s) g.v g.to g.q (sym c.enum_told-1.given.1 ∙ c.before.before.next_move.ensures)
 

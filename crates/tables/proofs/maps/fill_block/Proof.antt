@@ -43,7 +43,7 @@ loop-holds c =
       refl,
       λ first W. pairs-down g.kinds.now g.labels.now g.node_table.now g.inner.now g.s g.k first
           g.state_table.now
-          (from g.b li.list_inner-i.new.1.1.1.0 li.list_inner-i.result) g.e L.rest W,
+          (from g.b li.list_inner-i.new.list li.list_inner-i.result) g.e L.rest W,
     )
 
 slice-read-fill-children : tie.Need-bounds-list-i invariant-loop decreases-loop
@@ -63,7 +63,7 @@ fill-children-requires c κs =
     let s = li.before.before.before.before.before.before.before.before in
     let g = s.args in
     let L = li.list_inner-i.ensures in
-    let l = li.list_inner-i.new.1.1.1.0 in
+    let l = li.list_inner-i.new.list in
     let i : ℕ = a.loop-i.i in
     let h : i - 1 < li.list_inner-i.result = omega (arith, a.loop-i.invariant.0, c.before.before.loop-i-test.true) in
     pair-args g.kinds.now g.labels.now g.node_table.now g.inner.now g.s g.k s.requires.first
@@ -82,10 +82,10 @@ loop-again c =
     let s = li.before.before.before.before.before.before.before.before in
     let g = s.args in
     let L = li.list_inner-i.ensures in
-    let l = li.list_inner-i.new.1.1.1.0 in
+    let l = li.list_inner-i.new.list in
     let i : ℕ = a.loop-i.i in
     let h : i - 1 < li.list_inner-i.result = omega (arith, a.loop-i.invariant.0, t.loop-i-test.true) in
-    let after = f.fill_children.new.1.1.1.1.1.1.0 in (
+    let after = f.fill_children.new.state_table in (
       omega (arith, a.loop-i.invariant.0),
       omega arith,
       λ first W. pairs-down g.kinds.now g.labels.now g.node_table.now g.inner.now g.s
@@ -104,7 +104,7 @@ returns c first W =
     let li = a.before.before.before in
     let s = li.before.before.before.before.before.before.before.before in
     let g = s.args in
-    let l = li.list_inner-i.new.1.1.1.0 in
+    let l = li.list_inner-i.new.list in
     let z : a.loop-i.i ≡ 0 = omega (arith, c.loop-i-test.false) in
     subst (λ (x : ℕ). Pairs g.kinds.now g.labels.now g.node_table.now g.inner.now g.s g.k x first
     a.loop-i.state_table) (ap (from g.b l) z ∙ from_zero g.b l)

@@ -30,7 +30,7 @@ returns c =
     let t = f.before.before in
     let g = t.before.before.before.before.before.args in
     by_count (sym t.if-s-eq2.true) g.labels.now g.node_table.now g.inner.now g.k g.v
-    g.state_table.now f.fill_pair.new.1.1.1.1.1.1.0 f.fill_pair.ensures
+    g.state_table.now f.fill_pair.new.state_table f.fill_pair.ensures
 
 fill-pair-requires-2 : tie.Need-fill_pair-requires-then-s-eq4
 fill-pair-requires-2 c κs =
@@ -45,7 +45,7 @@ returns-2 c =
     let t = f.before.before in
     let g = t.before.before.before.before.before.before.args in
     by_count (sym t.if-s-eq4.true) g.labels.now g.node_table.now g.inner.now g.k g.v
-    g.state_table.now f.fill_pair-then-s-eq4.new.1.1.1.1.1.1.0 f.fill_pair-then-s-eq4.ensures
+    g.state_table.now f.fill_pair-then-s-eq4.new.state_table f.fill_pair-then-s-eq4.ensures
 
 fill-pair-requires-3 : tie.Need-fill_pair-requires-then-s-eq8
 fill-pair-requires-3 c κs =
@@ -60,7 +60,7 @@ returns-3 c =
     let t = f.before.before in
     let g = t.before.before.before.before.before.before.before.args in
     by_count (sym t.if-s-eq8.true) g.labels.now g.node_table.now g.inner.now g.k g.v
-    g.state_table.now f.fill_pair-then-s-eq8.new.1.1.1.1.1.1.0 f.fill_pair-then-s-eq8.ensures
+    g.state_table.now f.fill_pair-then-s-eq8.new.state_table f.fill_pair-then-s-eq8.ensures
 
 pub fill_children_spec : {M : Type 1} → statement M
 fill_children_spec =

@@ -46,7 +46,7 @@ done a =
     a.loop-e.invariant.4 g.state_table.now
     (f.fill_block.ensures g.state_table.now
     (top g.kinds.now g.labels.now g.node_table.now g.inner.now g.s g.k g.state_table.now
-    r.same_row.new.0 s.requires r.same_row.ensures))
+    r.same_row.new.state_table s.requires r.same_row.ensures))
 
 sub-same-row : tie.Need-overflow_sub-n invariant-loop decreases-loop
 sub-same-row c =
@@ -75,7 +75,7 @@ fill-block-requires c κs =
       first = g.state_table.now;
       args = s.requires;
       done = top g.kinds.now g.labels.now g.node_table.now g.inner.now g.s g.k
-          g.state_table.now r.same_row.new.0 s.requires r.same_row.ensures;
+          g.state_table.now r.same_row.new.state_table s.requires r.same_row.ensures;
       same = omega arith;
       order = omega arith;
       inside = omega arith;

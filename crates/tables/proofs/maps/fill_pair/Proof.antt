@@ -156,7 +156,7 @@ returns c =
     let s = i.before.before.before.before.before.before.before.before.before.before.before in
     let g = s.args in
     near-values g.labels.now g.node_table.now g.inner.now g.s g.k g.state_table.now g.v
-    n.near_pair.new.0 i.if-node_table-right.true n.near_pair.ensures
+    n.near_pair.new.state_table i.if-node_table-right.true n.near_pair.ensures
 
 returns-2 : tie.Need-returns-else-node_table-right
 returns-2 c =
@@ -165,7 +165,7 @@ returns-2 c =
     let s = i.before.before.before.before.before.before.before.before.before.before.before in
     let g = s.args in
     far-values g.labels.now g.node_table.now g.inner.now g.s g.k g.state_table.now g.v
-    n.far_pair.new.0 i.if-node_table-right.false n.far_pair.ensures
+    n.far_pair.new.state_table i.if-node_table-right.false n.far_pair.ensures
 
 pub fill_pair_spec : {M : Type 1} → statement M
 fill_pair_spec =

@@ -22,7 +22,7 @@ returns c =
     let g = t.before.before.before.args in
     subst (λ (y : ℕ). PairRowed y (λ q. get_or g.table.now (g.row + q * 1) 0)
     (λ q. get_or g.table.now (g.col + q * g.step) 0) g.right g.left g.state_table.now
-    f.near_rows16.new.0) (sym t.if-s-eq16.true) f.near_rows16.ensures
+    f.near_rows16.new.state_table) (sym t.if-s-eq16.true) f.near_rows16.ensures
 
 pub near_pair_spec : {M : Type 1} → statement M
 near_pair_spec =

@@ -15,7 +15,7 @@ returns c =
     let g = s.args in
     pair-rowed g.s (λ q. get_or g.table.now (g.row + q * 1) 0)
     (λ q. get_or g.table.now (g.col + q * g.step) 0)
-    g.right g.left g.state_table.now r.near_row.new.0 l.near_row-2.new.0 s.requires.apart
+    g.right g.left g.state_table.now r.near_row.new.state_table l.near_row-2.new.state_table s.requires.apart
     r.near_row.ensures l.near_row-2.ensures
 
 pub near_rows_spec : {M : Type 1} → statement M

@@ -21,11 +21,11 @@ returns c =
     let g = s.args in
     pair-ext 16 (λ q. get_or x.sixteen-line.result (0 + q * 1) 0) (λ q. get_or g.table.now (g.row + q * 1) 0)
     (λ q. get_or g.table.now (g.col + q * g.step) 0) (λ q. get_or g.table.now (g.col + q * g.step) 0)
-    g.right g.left g.state_table.now l.near_row-2.new.0
+    g.right g.left g.state_table.now l.near_row-2.new.state_table
     (λ q h. line-entry x.sixteen-line.result g.table.now g.row q (x.sixteen-line.ensures.1 q h)) (λ q h. refl)
     (pair-rowed 16 (λ q. get_or x.sixteen-line.result (0 + q * 1) 0)
     (λ q. get_or g.table.now (g.col + q * g.step) 0) g.right g.left g.state_table.now
-    r.near_row.new.0 l.near_row-2.new.0 s.requires.apart r.near_row.ensures l.near_row-2.ensures)
+    r.near_row.new.state_table l.near_row-2.new.state_table s.requires.apart r.near_row.ensures l.near_row-2.ensures)
 
 pub near_rows16_spec : {M : Type 1} → statement M
 near_rows16_spec =

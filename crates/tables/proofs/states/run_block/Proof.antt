@@ -49,7 +49,7 @@ loop-holds c =
       refl,
       λ first W. subst (λ (x : ℕ). RunsTo g.s g.k g.leaves.now g.inner.now g.kinds.now
           g.labels.now x g.e first
-          lf.leaf_states.new.1.1.1.1.1.0) (sym (from_zero g.b li.list_inner-c.new.1.1.1.0)) W,
+          lf.leaf_states.new.state_table) (sym (from_zero g.b li.list_inner-c.new.list)) W,
     )
 
 -- where the facts of an iteration are: the function's start, the list, the states as leaves
@@ -64,7 +64,7 @@ leafing a = a.before.before.before.before.before.before.before
 
 -- the listed node of an iteration
 abbrev node : tie.At-loop-i invariant-loop decreases-loop → ℕ
-node a = get_or (listing a).list_inner-c.new.1.1.1.0 a.loop-i.i 0
+node a = get_or (listing a).list_inner-c.new.list a.loop-i.i 0
 
 -- what holds of the table st where the inner nodes below v have their states
 abbrev Reached : tie.At-loop-i invariant-loop decreases-loop → ℕ → List ℕ → List ℕ → Type 0
@@ -108,7 +108,7 @@ before-node : (t : tie.In-loop-i invariant-loop decreases-loop) (first : List �
 before-node t first W =
     let a = t.before in
     let g = (start a).args in
-    let l = (listing a).list_inner-c.new.1.1.1.0 in
+    let l = (listing a).list_inner-c.new.list in
     states-raise g.s g.k g.leaves.now g.inner.now g.kinds.now g.labels.now
     (from g.b l a.loop-i.i) (node a) g.e first a.loop-i.state_table
     (λ p. (listing a).list_inner-c.ensures.gaps a.loop-i.i p t.loop-i-test.true) (a.loop-i.invariant.2 first W)
@@ -117,11 +117,11 @@ before-node t first W =
 as-leaves : (a : tie.At-loop-i invariant-loop decreases-loop) (first : List ℕ)
     → Runs (start a).args.s (start a).args.k (start a).args.leaves.now (start a).args.inner.now
     (start a).args.kinds.now (start a).args.labels.now (start a).args.b first (start a).args.state_table.now
-    → Reached a (start a).args.b first (leafing a).leaf_states.new.1.1.1.1.1.0
+    → Reached a (start a).args.b first (leafing a).leaf_states.new.state_table
 as-leaves a first W =
     let g = (start a).args in
     leaf-states g.s g.k g.leaves.now g.inner.now g.kinds.now g.labels.now g.b g.e first
-    g.state_table.now (leafing a).leaf_states.new.1.1.1.1.1.0 (start a).requires.inside W
+    g.state_table.now (leafing a).leaf_states.new.state_table (start a).requires.inside W
     (leafing a).leaf_states.ensures
 
 slice-read-v : tie.Need-bounds-list-i invariant-loop decreases-loop
@@ -168,7 +168,7 @@ loop-again c =
     let a = t.before in
     let s = start a in
     let g = s.args in
-    let l = (listing a).list_inner-c.new.1.1.1.0 in (
+    let l = (listing a).list_inner-c.new.list in (
       omega (arith, t.loop-i-test.true),
       simp length-set a.loop-i.invariant.1,
       λ first W. subst

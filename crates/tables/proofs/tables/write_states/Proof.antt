@@ -11,7 +11,7 @@ fill-maps-requires c κs =
     let s = r.before.before.before.before.before.before.before.before in
     map-args s.args.kinds.now s.args.labels.now s.args.node_table.now s.args.leaves.now
     s.args.inner.now s.args.s s.args.k
-    s.args.state_table.now r.run_states.new.1.1.1.1.1.1.1.0 s.requires r.run_states.ensures (omega arith)
+    s.args.state_table.now r.run_states.new.state_table s.requires r.run_states.ensures (omega arith)
 
 returns : tie.Need-returns
 returns c =
@@ -20,8 +20,8 @@ returns c =
     let s = r.before.before.before.before.before.before.before.before in
     states-over s.args.kinds.now s.args.labels.now s.args.node_table.now s.args.leaves.now
     s.args.inner.now s.args.s s.args.k
-    s.args.state_table.now r.run_states.new.1.1.1.1.1.1.1.0 s.requires r.run_states.ensures
-    f.fill_maps.new.1.1.1.1.1.1.0 (omega arith) f.fill_maps.ensures
+    s.args.state_table.now r.run_states.new.state_table s.requires r.run_states.ensures
+    f.fill_maps.new.state_table (omega arith) f.fill_maps.ensures
 
 pub write_states_spec : {M : Type 1} → statement M
 write_states_spec = tie.close (tie.spec (λ c κs. search rules) fill-maps-requires (λ c. search rules) returns)

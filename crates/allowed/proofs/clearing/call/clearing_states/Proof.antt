@@ -52,7 +52,7 @@ write-clearing-requires c κs =
 returns-2 : tie.Need-returns
 returns-2 c =
     let g = c.before.before.before.before.before.before.before.before.before.before.before.before.args in
-    done-written g.plan.now g.rules.now g.sets.now c.before.before.write_clearing.new.1.1.1.1.1.0
+    done-written g.plan.now g.rules.now g.sets.now c.before.before.write_clearing.new.sets
     (passed c.before.before.before.before.before.before.before) c.before.before.write_clearing.ensures
 
 pub clearing_states_spec : {M : Type 1} → statement M

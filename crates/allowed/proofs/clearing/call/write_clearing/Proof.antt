@@ -21,7 +21,7 @@ returns c =
     let t = c.before.before.before.before.before.before.before.before.before.before.before.before.before in
     let i = c.before.before.before.before.before.before.before.before.before in
     parts-list t.requires i.inner_count.result i.inner_count.ensures.value t.args.sets.now
-    c.before.before.write_sets.new.1.1.1.1.1.1.1.0 refl (omega arith) c.before.before.write_sets.ensures
+    c.before.before.write_sets.new.cells refl (omega arith) c.before.before.write_sets.ensures
 
 pub write_clearing_spec : {M : Type 1} → statement M
 write_clearing_spec =

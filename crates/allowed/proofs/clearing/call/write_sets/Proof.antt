@@ -29,8 +29,8 @@ sets-down-requires c κs =
       runs = c.before.before.before.before.before.before.before.before.before.before.before.before.requires.0;
       room = omega (arith, c.before.before.before.before.before.before.before.before.before.before.before.before.requires.2);
       ready = subst (λ (x : ℕ). DownWritten g.kinds.now g.labels.now g.leaves.now g.inner.now g.marks.now g.s g.k (length g.kinds.now) x g.cells.now
-          c.before.before.before.before.pairs_up.new.1.1.1.1.1.1.0) (sym c.before.marked_set-c.ensures.0)
-          (down-start g.kinds.now g.labels.now g.leaves.now g.inner.now g.s g.k c.before.before.before.before.before.before.before.before.before.before.before.before.requires.0 g.marks.now g.cells.now c.before.before.before.before.pairs_up.new.1.1.1.1.1.1.0 c.before.before.before.before.pairs_up.ensures);
+          c.before.before.before.before.pairs_up.new.cells) (sym c.before.marked_set-c.ensures.0)
+          (down-start g.kinds.now g.labels.now g.leaves.now g.inner.now g.s g.k c.before.before.before.before.before.before.before.before.before.before.before.before.requires.0 g.marks.now g.cells.now c.before.before.before.before.pairs_up.new.cells c.before.before.before.before.pairs_up.ensures);
     }
 
 returns : tie.Need-returns
@@ -38,8 +38,8 @@ returns c =
     let g = c.before.before.before.before.before.before.before.before.before.before.before.before.before.before.before.args in
     c.before.before.sets_down.ensures g.leaves.now g.marks.now g.cells.now c.before.before.before.before.before.before.before.before.before.before.before.before.before.before.before.requires.0
     (subst (λ (x : ℕ). DownWritten g.kinds.now g.labels.now g.leaves.now g.inner.now g.marks.now g.s g.k (length g.kinds.now) x g.cells.now
-    c.before.before.before.before.before.before.before.pairs_up.new.1.1.1.1.1.1.0) (sym c.before.before.before.before.marked_set-c.ensures.0)
-    (down-start g.kinds.now g.labels.now g.leaves.now g.inner.now g.s g.k c.before.before.before.before.before.before.before.before.before.before.before.before.before.before.before.requires.0 g.marks.now g.cells.now c.before.before.before.before.before.before.before.pairs_up.new.1.1.1.1.1.1.0 c.before.before.before.before.before.before.before.pairs_up.ensures))
+    c.before.before.before.before.before.before.before.pairs_up.new.cells) (sym c.before.before.before.before.marked_set-c.ensures.0)
+    (down-start g.kinds.now g.labels.now g.leaves.now g.inner.now g.s g.k c.before.before.before.before.before.before.before.before.before.before.before.before.before.before.before.requires.0 g.marks.now g.cells.now c.before.before.before.before.before.before.before.pairs_up.new.cells c.before.before.before.before.before.before.before.pairs_up.ensures))
 
 pub write_sets_spec : {M : Type 1} → statement M
 write_sets_spec =

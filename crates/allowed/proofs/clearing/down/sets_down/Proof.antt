@@ -43,7 +43,7 @@ loop-again c =
       omega (arith, c.before.before.before.before.before.loop-v.invariant.0),
       omega (arith, c.before.before.before.before.before.loop-v.invariant.1),
       λ leaves marks first G D. subst (λ (n : ℕ). DownWritten g.kinds.now g.labels.now leaves g.inner.now marks g.s g.k
-          (c.before.before.before.before.before.loop-v.v - 1) n first c.before.before.node_down-set.new.1.1.1.1.1.0) (sym c.before.before.node_down-set.ensures.1)
+          (c.before.before.before.before.before.loop-v.v - 1) n first c.before.before.node_down-set.new.cells) (sym c.before.before.node_down-set.ensures.1)
           (subst (DownWritten g.kinds.now g.labels.now leaves g.inner.now marks g.s g.k (c.before.before.before.before.before.loop-v.v - 1)
           (node_next g.kinds.now g.labels.now g.inner.now g.s g.k c.before.before.before.before.before.loop-v.cells (c.before.before.before.before.before.loop-v.v - 1) c.before.before.before.before.before.loop-v.set) first)
           (sym c.before.before.node_down-set.ensures.0)

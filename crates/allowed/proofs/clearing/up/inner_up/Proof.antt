@@ -1,7 +1,7 @@
 -- `inner_up` meets its contract.
 use Prim.Native.Nat.{ℕ, ◌-◌}
 use mathlib.Core.Path.{◌≡◌, sym, ap, ◌∙◌, subst}
-use Rattle.allowed.specs.inner.clearing.Cells.{first_in}
+use Rattle.allowed.specs.inner.clearing.Cells.{first_node_in}
 use Rattle.allowed.specs.inner.clearing.Up.{PairArgs}
 use Rattle.allowed.proofs.clearing.UpLoop.{up-made}
 use Rattle.allowed.proofs.clearing.cells.first_of.Reads as first-of-reads
@@ -22,7 +22,7 @@ pair-cell-requires c κs =
 cast-cells : tie.Need-overflow_cast-cells
 cast-cells c =
     let g = c.before.before.before.before.before.before.before.before.before.before.before.args in
-    let e = ap (λ (f : ℕ). first_in g.kinds.now g.cells.now (f - 1)) c.before.before.before.before.first_of-f.ensures in
+    let e = ap (λ (f : ℕ). first_node_in g.kinds.now g.cells.now (f - 1)) c.before.before.before.before.first_of-f.ensures in
     omega (arith, c.first_of-g.ensures, e, c.before.before.before.before.before.before.before.before.before.before.before.requires.left_low)
 
 returns : tie.Need-returns

@@ -52,7 +52,7 @@ write-allowed-requires c κs =
 returns-2 : tie.Need-returns
 returns-2 c =
     let g = c.before.before.before.before.before.before.before.before.before.before.before.before.args in
-    done-written g.plan.now g.rules.now g.masks.now c.before.before.write_allowed.new.1.1.1.1.1.0
+    done-written g.plan.now g.rules.now g.masks.now c.before.before.write_allowed.new.masks
     (passed c.before.before.before.before.before.before.before) c.before.before.write_allowed.ensures
 
 pub allowed_labels_spec : {M : Type 1} → statement M

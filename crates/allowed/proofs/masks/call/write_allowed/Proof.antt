@@ -21,7 +21,7 @@ returns c =
     let t = c.before.before.before.before.before.before.before.before.before.before.before.before.before in
     let i = c.before.before.before.before.before.before.before.before.before in
     parts-list t.requires i.inner_count.result i.inner_count.ensures.value t.args.masks.now
-    c.before.before.write_parts.new.1.1.1.1.1.1.1.0 refl (omega arith) c.before.before.write_parts.ensures
+    c.before.before.write_parts.new.cells refl (omega arith) c.before.before.write_parts.ensures
 
 pub write_allowed_spec : {M : Type 1} → statement M
 write_allowed_spec =

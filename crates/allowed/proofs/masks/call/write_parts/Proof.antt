@@ -24,7 +24,7 @@ set-root-requires c κs =
     let g = t.args in
     let u = c.before.before.before in
     root-args g.kinds.now g.labels.now g.leaves.now g.inner.now g.marks.now g.s g.k t.requires.0 t.requires.1
-    g.cells.now u.run_Up.new.1.1.1.1.1.1.0 u.run_Up.ensures (omega (arith, t.requires.2))
+    g.cells.now u.run_up.new.1.1.1.1.1.1.0 u.run_Up.ensures (omega (arith, t.requires.2))
 
 come-down-requires : tie.Need-come_down-requires
 come-down-requires c κs =
@@ -37,8 +37,8 @@ come-down-requires c κs =
       marks = g.marks.now;
       first = g.cells.now;
       ready = ready g.kinds.now g.labels.now g.leaves.now g.inner.now g.marks.now g.s g.k t.requires.0 t.requires.1
-          g.cells.now u.run_Up.new.1.1.1.1.1.1.0 u.run_Up.ensures (omega (arith, t.requires.2))
-          c.before.before.before.set_root.new.1.1.1.0 c.before.before.before.set_root.ensures;
+          g.cells.now u.run_up.new.1.1.1.1.1.1.0 u.run_Up.ensures (omega (arith, t.requires.2))
+          c.before.before.before.set_root.new.cells c.before.before.before.set_root.ensures;
     }
 
 returns : tie.Need-returns
@@ -48,8 +48,8 @@ returns c =
     let u = c.before.before.before.before.before.before.before.before.before.before in
     c.before.before.come_down.ensures g.marks.now g.cells.now
     (ready g.kinds.now g.labels.now g.leaves.now g.inner.now g.marks.now g.s g.k t.requires.0 t.requires.1
-    g.cells.now u.run_Up.new.1.1.1.1.1.1.0 u.run_Up.ensures (omega (arith, t.requires.2))
-    c.before.before.before.before.before.before.set_root.new.1.1.1.0 c.before.before.before.before.before.before.set_root.ensures)
+    g.cells.now u.run_up.new.1.1.1.1.1.1.0 u.run_Up.ensures (omega (arith, t.requires.2))
+    c.before.before.before.before.before.before.set_root.new.cells c.before.before.before.before.before.before.set_root.ensures)
 
 pub write_parts_spec : {M : Type 1} → statement M
 write_parts_spec =

@@ -25,7 +25,7 @@ loop-holds c =
 
 node-cell-requires : tie.Need-node_cell-x-requires invariant-loop decreases-loop
 node-cell-requires c κs =
-    let t = c.before.before.before.before.before.before.before.before in
+    let t = c.before.before.before.before.before.before.before in
     let g = t.args in
     let l = c.before.before.loop-v in
     node-args g.kinds.now g.labels.now g.leaves.now g.inner.now g.s g.k t.requires.0 l.v g.cells.now
@@ -33,7 +33,7 @@ node-cell-requires c κs =
 
 loop-again : tie.Need-loop-v-preserved invariant-loop decreases-loop
 loop-again c =
-    let t = c.before.before.before.before.before.before.before.before.before in
+    let t = c.before.before.before.before.before.before.before.before in
     let g = t.args in
     let l = c.before.before.before.loop-v in
     let h = c.before.before.loop-v-test.true in (

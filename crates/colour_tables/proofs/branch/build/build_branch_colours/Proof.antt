@@ -44,7 +44,7 @@ returns-2 c =
     let g = i.before.before.before.before.before.before.args in
     build-done (built_colour_numbers g.plan.now g.branch.now) (built_copies g.plan.now g.branch.now)
     g.numbers.now g.bytes.now _
-    w.write_branch_colours.new.1.1.1.1.1.0 w.write_branch_colours.new.1.1.1.1.1.1.0 (passed i)
+    w.write_branch_colours.new.numbers w.write_branch_colours.new.bytes (passed i)
     w.write_branch_colours.ensures.numbers_are w.write_branch_colours.ensures.bytes_are
 
 pub build_branch_colours_spec : {M : Type 1} → statement M

@@ -19,8 +19,8 @@ returns c =
     parts-written s.args.plan.now s.args.branch.now s.args.n s.args.s s.args.k
     (length s.args.numbers.now)
     (length s.args.bytes.now) s.requires
-    s.args.numbers.now s.args.bytes.now f.fill_colours.new.1.1.1.1.1.0
-    f.fill_colours.new.1.1.1.1.1.1.0
+    s.args.numbers.now s.args.bytes.now f.fill_colours.new.numbers
+    f.fill_colours.new.bytes
     f.fill_colours.ensures
 
 pub write_branch_colours_spec : {M : Type 1} → statement M

@@ -148,10 +148,10 @@ loop-again c =
     let s = a.before.before.before.before in
     let h = p.before.before.before.before.loop-c-test.true in (
       length-set o.bytes _ _ ∙ o.invariant.0,
-      m.put_colour.auto.0 ∙ o.invariant.1,
+      m.put_colour.auto.nums ∙ o.invariant.1,
       take-turn s.args.successors.now s.args.bytes.now s.args.numbers.now s.args.n s.args.at
           s.args.v s.requires.node s.requires o.bytes o.numbers o.owners o.taken o.c o.invariant.2
-          h o.invariant.0 o.invariant.1 p.place_of_bit-x.result-1 p.before.before.if-taken-q-eq0.bit m.put_colour.new.0
+          h o.invariant.0 o.invariant.1 p.place_of_bit-x.result-1 p.before.before.if-taken-q-eq0.bit m.put_colour.new.nums
           (bit_is p.before.before) (place_is p).0 m.put_colour.ensures,
     )
 

@@ -57,7 +57,7 @@ returns-2 c =
     let g = i.before.before.before.before.before.before.args in
     build-done (built_set_numbers g.plan.now g.rules.now) (built_set_bytes g.plan.now g.rules.now)
     g.numbers.now g.bytes.now _
-    w.write_rule_colours.new.1.1.1.1.1.0 w.write_rule_colours.new.1.1.1.1.1.1.0 (passed i)
+    w.write_rule_colours.new.numbers w.write_rule_colours.new.bytes (passed i)
     w.write_rule_colours.ensures.numbers_are w.write_rule_colours.ensures.bytes_are
 
 pub build_rule_colours_spec : {M : Type 1} → statement M

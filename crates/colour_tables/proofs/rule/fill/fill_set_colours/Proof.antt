@@ -24,7 +24,7 @@ returns c =
     let s = k.before.before.before.before.before in
     filled s.args.labels.now s.args.inner.now s.args.s s.args.k s.args.numbers.now
     s.args.bytes.now s.requires k.set_count-count.result _ k.set_count-count.ensures.0 refl
-    w.write_sets.new.1.1.1.1.1.1.1.0 w.write_sets.new.1.1.1.1.1.1.0 w.write_sets.ensures
+    w.write_sets.new.bytes w.write_sets.new.numbers w.write_sets.ensures
 
 pub fill_set_colours_spec : {M : Type 1} → statement M
 fill_set_colours_spec =

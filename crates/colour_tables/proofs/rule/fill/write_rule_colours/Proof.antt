@@ -19,9 +19,9 @@ fill-set-colours-requires c κs =
     let s = b.before.before.before.before.before.before.before in
     parts-filled s.args.plan.now s.args.rules.now s.args.n s.args.s s.args.k
     s.args.numbers.now
-    s.args.bytes.now s.requires b.write_tables.new.1.1.1.1.1.0 b.write_tables.new.1.1.1.1.1.1.0
+    s.args.bytes.now s.requires b.write_tables.new.node_table b.write_tables.new.state_table
     b.write_tables.ensures i.inner_count.result i.inner_count.ensures.value
-    b.write_tables.auto.1.1.1.1.1.0 b.write_tables.auto.1.1.1.1.1.1.0
+    b.write_tables.auto.node_table b.write_tables.auto.state_table
 
 returns : tie.Need-returns
 returns c =
@@ -31,11 +31,11 @@ returns c =
     let s = b.before.before.before.before.before.before.before in
     parts-written s.args.plan.now s.args.rules.now s.args.n s.args.s s.args.k
     s.args.numbers.now
-    s.args.bytes.now s.requires b.write_tables.new.1.1.1.1.1.0 b.write_tables.new.1.1.1.1.1.1.0
+    s.args.bytes.now s.requires b.write_tables.new.node_table b.write_tables.new.state_table
     b.write_tables.ensures i.inner_count.result i.inner_count.ensures.value
-    f.fill_set_colours.new.1.1.1.1.0 f.fill_set_colours.new.1.1.1.1.1.0
-    (f.fill_set_colours.auto.1.1.1.1.0 ∙ b.write_tables.auto.1.1.1.1.1.0)
-    (f.fill_set_colours.auto.1.1.1.1.1.0 ∙ b.write_tables.auto.1.1.1.1.1.1.0) f.fill_set_colours.ensures
+    f.fill_set_colours.new.numbers f.fill_set_colours.new.bytes
+    (f.fill_set_colours.auto.numbers ∙ b.write_tables.auto.node_table)
+    (f.fill_set_colours.auto.bytes ∙ b.write_tables.auto.state_table) f.fill_set_colours.ensures
 
 pub write_rule_colours_spec : {M : Type 1} → statement M
 write_rule_colours_spec =

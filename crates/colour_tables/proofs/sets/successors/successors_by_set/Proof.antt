@@ -18,7 +18,7 @@ abbrev decreases-loop : tie.decreases-loop-c
 decreases-loop above k row led₀ c₀ successors c = k - c
 
 loop-holds : tie.Need-loop-c-init invariant-loop decreases-loop
-loop-holds c = (omega arith, successors-start c.before.args.above.now c.before.args.t1 _ refl)
+loop-holds c = (omega arith, successors-start c.before.args.above.now c.before.args.row _ refl)
 
 loop-again : tie.Need-loop-c-preserved invariant-loop decreases-loop
 loop-again c =
@@ -26,7 +26,7 @@ loop-again c =
     let s = a.before.before in
     let l = c.before.loop-c-test.true in (
       omega arith,
-      successors_next s.args.above.now s.args.t1 a.loop-c.c c.preimage.result a.loop-c.successors a.loop-c.invariant.1
+      successors_next s.args.above.now s.args.row a.loop-c.c c.preimage.result a.loop-c.successors a.loop-c.invariant.1
           (omega (arith, s.requires.1)) c.preimage.ensures,
     )
 
@@ -34,7 +34,7 @@ returns : tie.Need-returns invariant-loop decreases-loop
 returns c =
     let a = c.before in
     let s = a.before.before in
-    successors-all s.args.above.now s.args.t1 a.loop-c.c s.args.k a.loop-c.successors a.loop-c.invariant.1
+    successors-all s.args.above.now s.args.row a.loop-c.c s.args.k a.loop-c.successors a.loop-c.invariant.1
     (omega (arith, c.loop-c-test.false))
 
 pub successors_by_set_spec : {M : Type 1} → statement M

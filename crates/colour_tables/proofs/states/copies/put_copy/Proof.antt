@@ -12,10 +12,10 @@ use Rattle.colour_tables.proofs.states.copies.put_copy.Reads as reads
 use Rattle.colour_tables.proofs.states.copies.put_copy.Lts as lts
 use Rattle.colour_tables.proofs.rows.turns.take_in_turn.Reads as take-in-turn-reads
 
-prefix : (c : tie.After-successors-1) → let g = c.before.before.before.args in length (take g.k g.t1) ≡ g.k
+prefix : (c : tie.After-successors-1) → let g = c.before.before.before.args in length (take g.k g.successors) ≡ g.k
 prefix c =
     let s = c.before.before.before in
-    length-take-le s.args.k s.args.t1 (omega (arith, s.requires.long, s.requires.few))
+    length-take-le s.args.k s.args.successors (omega (arith, s.requires.long, s.requires.few))
 
 slice-aggregate-take-in-turn : tie.Need-slice_bounds-take_in_turn-end
 slice-aggregate-take-in-turn c = sym (prefix c)
@@ -28,7 +28,7 @@ take-in-turn-requires c κs =
       turns = record {
         few = omega (arith, prefix p, s.requires.few);
         small = λ j h. (let l : j < s.args.k = omega (arith, prefix p) in
-            rw (get_or-take s.args.k s.args.t1 j 0 l) (s.requires.small j l));
+            rw (get_or-take s.args.k s.args.successors j 0 l) (s.requires.small j l));
       };
       node = s.requires.at;
       room = omega (arith, prefix p, s.requires.row_room);
@@ -40,9 +40,9 @@ returns c =
     let m = c.before.before.before.before in
     let p = m.before.before.before in
     let s = p.before.before.before in
-    subst (λ (j : ℕ). TakenTo (take s.args.k s.args.t1) s.args.n (s.args.base + s.args.v * s.args.k) j
-    s.args.v s.args.bytes.now s.args.numbers.now m.take_in_turn.new.1.0
-    m.take_in_turn.new.1.1.0) (prefix p) m.take_in_turn.ensures
+    subst (λ (j : ℕ). TakenTo (take s.args.k s.args.successors) s.args.n (s.args.base + s.args.v * s.args.k) j
+    s.args.v s.args.bytes.now s.args.numbers.now m.take_in_turn.new.bytes
+    m.take_in_turn.new.numbers) (prefix p) m.take_in_turn.ensures
 
 pub put_copy_spec : {M : Type 1} → statement M
 put_copy_spec =

@@ -51,7 +51,7 @@ loop-again c =
       omega (arith, l.invariant.0),
       omega (arith, l.invariant.1),
       down-next g.kinds.now g.labels.now g.leaves.now g.inner.now g.may.now g.s g.k q.runs (l.v - 1) l.work (omega (arith, l.invariant.0, h)) (omega (arith, l.invariant.1, q.room)) g.work.now
-          c.before.before.node_down.new.1.1.1.1.1.1.1.0
+          c.before.before.node_down.new.work
           (subst (λ (i : ℕ). Down g.kinds.now g.labels.now g.leaves.now g.inner.now g.may.now g.s g.k i g.work.now l.work) e l.invariant.2) c.before.before.node_down.ensures,
     )
 

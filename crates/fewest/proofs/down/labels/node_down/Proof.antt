@@ -16,7 +16,7 @@ returns c =
     let g = c.before.before.before.before.before.before.before.before.before.before.before.before.before.before.args in
     record {
       leaf = λ z. subst (λ (m : ℕ). LeafDown g.work.now g.leaves.now g.s g.k g.v (get_or g.labels.now g.v 0) (member m)
-          c.before.before.leaf_down.new.0) c.before.before.before.before.before.before.stock-m.ensures c.before.before.leaf_down.ensures;
+          c.before.before.leaf_down.new.work) c.before.before.before.before.before.before.stock-m.ensures c.before.before.leaf_down.ensures;
       inner = λ z. absurd (z c.before.before.before.before.if-kinds-v-eq0.true);
     }
 
@@ -32,7 +32,7 @@ returns-2 c =
     record {
       leaf = λ z. absurd (c.before.before.before.before.if-kinds-v-eq0.false z);
       inner = λ z. subst (λ (m : ℕ). InnerDown g.work.now g.inner.now g.s g.k g.v (get_or g.labels.now g.v 0) (member m)
-          c.before.before.inner_down.new.0) c.before.before.before.before.before.before.stock-m.ensures c.before.before.inner_down.ensures;
+          c.before.before.inner_down.new.work) c.before.before.before.before.before.before.stock-m.ensures c.before.before.inner_down.ensures;
     }
 
 pub node_down_spec : {M : Type 1} → statement M

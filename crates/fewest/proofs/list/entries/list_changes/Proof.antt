@@ -72,8 +72,8 @@ loop-again c =
       omega (arith, h),
       omega (arith, l.invariant.1),
       omega (arith, l.invariant.2),
-      list-next (λ i. get_or g.labels.now i 0) (size_cell g.s g.work.now) l.v g.nodes.now g.out.now l.c l.nodes l.out c.before.before.before.before.put_change-c.result c.before.before.before.before.put_change-c.new.0
-          c.before.before.before.before.put_change-c.new.1.0 l.invariant.3
+      list-next (λ i. get_or g.labels.now i 0) (size_cell g.s g.work.now) l.v g.nodes.now g.out.now l.c l.nodes l.out c.before.before.before.before.put_change-c.result c.before.before.before.before.put_change-c.new.nodes
+          c.before.before.before.before.put_change-c.new.out l.invariant.3
           (λ e. omega (arith, entry_in (λ i. get_or g.labels.now i 0) (size_cell g.s g.work.now) l.v (length g.labels.now) (length g.nodes.now) h c.before.before.before.before.before.before.before.before.before.before.before.before.before.before.before.requires.nodes_room e, l.invariant.3.count))
           (λ e. omega (arith, entry_in (λ i. get_or g.labels.now i 0) (size_cell g.s g.work.now) l.v (length g.labels.now) (length g.out.now) h c.before.before.before.before.before.before.before.before.before.before.before.before.before.before.before.requires.labels_room e, l.invariant.3.count))
           c.before.before.before.before.put_change-c.ensures,

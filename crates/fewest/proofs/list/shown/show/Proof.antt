@@ -28,24 +28,24 @@ tell-root-requires c κs =
 labels-down-requires : tie.Need-labels_down-requires
 labels-down-requires c κs =
     let g = c.before.before.before.before.before.before.before.before.before.before.before.before.before.before.args in
-    down-given g.kinds.now g.labels.now g.leaves.now g.inner.now g.marks.now g.may.now g.s g.k g.mark g.m g.work.now (length g.nodes.now) (length g.out.now) c.before.before.before.before.before.before.before.before.before.before.before.before.before.before.requires c.before.before.before.tell_root.new.0 c.before.before.before.tell_root.ensures (omega arith)
+    down-given g.kinds.now g.labels.now g.leaves.now g.inner.now g.marks.now g.may.now g.s g.k g.mark g.m g.work.now (length g.nodes.now) (length g.out.now) c.before.before.before.before.before.before.before.before.before.before.before.before.before.before.requires c.before.before.before.tell_root.new.work c.before.before.before.tell_root.ensures (omega arith)
 
 list-changes-requires : tie.Need-list_changes-requires
 list-changes-requires c κs =
     let g = c.before.before.before.before.before.before.before.before.before.before.before.before.before.before.before.before.before.before.before.before.args in
-    show-list-args g.kinds.now g.labels.now g.leaves.now g.inner.now g.marks.now g.may.now g.s g.k g.mark g.m g.work.now (length g.nodes.now) (length g.out.now) c.before.before.before.before.before.before.before.before.before.before.before.before.before.before.before.before.before.before.before.before.requires c.before.before.before.before.before.before.before.before.before.tell_root.new.0 c.before.before.before.before.before.before.before.before.before.tell_root.ensures (omega arith) c.before.before.before.before.before.labels_down.new.1.1.1.1.1.1.1.0 c.before.before.before.before.before.labels_down.ensures (omega arith)
+    show-list-args g.kinds.now g.labels.now g.leaves.now g.inner.now g.marks.now g.may.now g.s g.k g.mark g.m g.work.now (length g.nodes.now) (length g.out.now) c.before.before.before.before.before.before.before.before.before.before.before.before.before.before.before.before.before.before.before.before.requires c.before.before.before.before.before.before.before.before.before.tell_root.new.work c.before.before.before.before.before.before.before.before.before.tell_root.ensures (omega arith) c.before.before.before.before.before.labels_down.new.work c.before.before.before.before.before.labels_down.ensures (omega arith)
 
 cast-result : tie.Need-overflow_cast-result
 cast-result c =
     let g = c.before.before.before.before.before.before.before.before.before.before.before.before.before.before.before.before.before.before.before.before.before.before.before.before.before.args in
-    let L = show-few g.kinds.now g.labels.now g.leaves.now g.inner.now g.marks.now g.may.now g.s g.k g.mark g.m g.work.now (length g.nodes.now) (length g.out.now) c.before.before.before.before.before.before.before.before.before.before.before.before.before.before.before.before.before.before.before.before.before.before.before.before.before.requires c.before.before.before.before.before.before.before.before.before.before.before.before.before.before.tell_root.new.0 c.before.before.before.before.before.before.before.before.before.before.before.before.before.before.tell_root.ensures (omega arith) c.before.before.before.before.before.before.before.before.before.before.labels_down.new.1.1.1.1.1.1.1.0 c.before.before.before.before.before.before.before.before.before.before.labels_down.ensures (omega arith) in
+    let L = show-few g.kinds.now g.labels.now g.leaves.now g.inner.now g.marks.now g.may.now g.s g.k g.mark g.m g.work.now (length g.nodes.now) (length g.out.now) c.before.before.before.before.before.before.before.before.before.before.before.before.before.before.before.before.before.before.before.before.before.before.before.before.before.requires c.before.before.before.before.before.before.before.before.before.before.before.before.before.before.tell_root.new.work c.before.before.before.before.before.before.before.before.before.before.before.before.before.before.tell_root.ensures (omega arith) c.before.before.before.before.before.before.before.before.before.before.labels_down.new.work c.before.before.before.before.before.before.before.before.before.before.labels_down.ensures (omega arith) in
     omega (arith, c.before.before.before.before.list_changes.ensures.count, L)
 
 returns : tie.Need-returns
 returns c =
     let g = c.before.before.before.before.before.before.before.before.before.before.before.before.before.before.before.before.before.before.before.before.before.before.before.before.before.args in
-    show-done g.kinds.now g.labels.now g.leaves.now g.inner.now g.marks.now g.may.now g.s g.k g.mark g.m g.work.now (length g.nodes.now) (length g.out.now) c.before.before.before.before.before.before.before.before.before.before.before.before.before.before.before.before.before.before.before.before.before.before.before.before.before.requires c.before.before.before.before.before.before.before.before.before.before.before.before.before.before.tell_root.new.0 c.before.before.before.before.before.before.before.before.before.before.before.before.before.before.tell_root.ensures (omega arith) c.before.before.before.before.before.before.before.before.before.before.labels_down.new.1.1.1.1.1.1.1.0 c.before.before.before.before.before.before.before.before.before.before.labels_down.ensures (omega arith) g.nodes.now g.out.now c.before.before.before.before.list_changes.result
-    c.before.before.before.before.list_changes.new.1.1.1.0 c.before.before.before.before.list_changes.new.1.1.1.1.0 c.before.before.before.before.list_changes.ensures
+    show-done g.kinds.now g.labels.now g.leaves.now g.inner.now g.marks.now g.may.now g.s g.k g.mark g.m g.work.now (length g.nodes.now) (length g.out.now) c.before.before.before.before.before.before.before.before.before.before.before.before.before.before.before.before.before.before.before.before.before.before.before.before.before.requires c.before.before.before.before.before.before.before.before.before.before.before.before.before.before.tell_root.new.work c.before.before.before.before.before.before.before.before.before.before.before.before.before.before.tell_root.ensures (omega arith) c.before.before.before.before.before.before.before.before.before.before.labels_down.new.work c.before.before.before.before.before.before.before.before.before.before.labels_down.ensures (omega arith) g.nodes.now g.out.now c.before.before.before.before.list_changes.result
+    c.before.before.before.before.list_changes.new.nodes c.before.before.before.before.list_changes.new.out c.before.before.before.before.list_changes.ensures
 
 pub show_spec : {M : Type 1} → statement M
 show_spec =

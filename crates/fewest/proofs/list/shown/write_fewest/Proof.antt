@@ -16,7 +16,7 @@ returns : tie.Need-returns-then-m-gt-MOST_LISTED
 returns c =
     let g = c.before.before.before.before.before.before.before.before.before.before.before.before.before.before.args in
     let p = c.before.before.before.before.before.before.before.before.before.before.before.before.before.before.requires.given.up in
-    λ t x y. written-long g.kinds.now g.labels.now g.leaves.now g.inner.now g.marks.now g.may.now g.s g.k g.mark p.runs c.before.before.before.least_up-m.new.1.1.1.1.1.1.1.1.1.0 g.work.now (omega (arith, p.room)) c.before.before.before.least_up-m.ensures.up t x y c.before.before.before.least_up-m.result
+    λ t x y. written-long g.kinds.now g.labels.now g.leaves.now g.inner.now g.marks.now g.may.now g.s g.k g.mark p.runs c.before.before.before.least_up-m.new.work g.work.now (omega (arith, p.room)) c.before.before.before.least_up-m.ensures.up t x y c.before.before.before.least_up-m.result
     c.before.before.before.least_up-m.ensures.least c.if-m-gt-MOST_LISTED.true g.nodes.now g.out.now
 
 show-requires : tie.Need-show-requires
@@ -37,8 +37,8 @@ returns-2 : tie.Need-returns
 returns-2 c =
     let g = c.before.before.before.before.before.before.before.before.before.before.before.before.before.before.before.before.before.before.before.before.before.before.before.before.args in
     let p = c.before.before.before.before.before.before.before.before.before.before.before.before.before.before.before.before.before.before.before.before.before.before.before.before.requires.given.up in
-    λ t x y. written-short g.kinds.now g.labels.now g.leaves.now g.inner.now g.marks.now g.may.now g.s g.k g.mark p.runs c.before.before.before.before.before.before.before.before.before.before.before.before.before.least_up-m.new.1.1.1.1.1.1.1.1.1.0 g.work.now (omega (arith, p.room)) c.before.before.before.before.before.before.before.before.before.before.before.before.before.least_up-m.ensures.up t x y c.before.before.before.before.before.before.before.before.before.before.before.before.before.least_up-m.result
-    c.before.before.before.before.before.before.before.before.before.before.before.before.before.least_up-m.ensures.least (omega (arith, c.before.before.before.before.before.before.before.before.before.before.if-m-gt-MOST_LISTED.false)) g.nodes.now g.out.now c.before.before.before.before.before.before.show.result c.before.before.before.before.before.before.show.new.1.1.1.1.1.1.1.1.1.1.0 c.before.before.before.before.before.before.show.new.1.1.1.1.1.1.1.1.1.1.1.0 c.before.before.before.before.before.before.show.new.1.1.1.1.1.1.1.1.1.1.1.1.0
+    λ t x y. written-short g.kinds.now g.labels.now g.leaves.now g.inner.now g.marks.now g.may.now g.s g.k g.mark p.runs c.before.before.before.before.before.before.before.before.before.before.before.before.before.least_up-m.new.work g.work.now (omega (arith, p.room)) c.before.before.before.before.before.before.before.before.before.before.before.before.before.least_up-m.ensures.up t x y c.before.before.before.before.before.before.before.before.before.before.before.before.before.least_up-m.result
+    c.before.before.before.before.before.before.before.before.before.before.before.before.before.least_up-m.ensures.least (omega (arith, c.before.before.before.before.before.before.before.before.before.before.if-m-gt-MOST_LISTED.false)) g.nodes.now g.out.now c.before.before.before.before.before.before.show.result c.before.before.before.before.before.before.show.new.work c.before.before.before.before.before.before.show.new.nodes c.before.before.before.before.before.before.show.new.out
     (c.before.before.before.before.before.before.show.ensures g.work.now t x y c.before.before.before.before.before.before.before.before.before.before.before.before.before.least_up-m.ensures.up)
 
 pub write_fewest_spec : {M : Type 1} → statement M

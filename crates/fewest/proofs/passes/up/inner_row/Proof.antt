@@ -37,7 +37,7 @@ returns c =
     let y = (g.v - 1) * (g.s + 1) + 1 in
     relaxed-as g.s (left_cost g.inner.now g.s g.k g.a (member g.labels) (part g.s b x) (part g.s b y))
     (inner_costs g.inner.now g.s g.k g.a (member g.labels) (cost_cell g.s b (left_within g.s b g.v))
-    (cost_cell g.s b (g.v - 1))) g.row.now c.before.before.relax_left.new.0
+    (cost_cell g.s b (g.v - 1))) g.row.now c.before.before.relax_left.new.row
     (parts-costs g.inner.now g.s g.k g.a (member g.labels) b x y) c.before.before.relax_left.ensures
 
 pub inner_row_spec : {M : Type 1} → statement M

@@ -26,9 +26,9 @@ returns c =
     let g = c.before.before.before.before.before.before.before.before.before.before.before.before.before.before.args in
     let b = g.work.now in
     subst (λ (z : ℕ). RowDone g.s g.v z (inner_costs g.inner.now g.s g.k g.a (member g.labels)
-    (cost_cell g.s b (left_within g.s b g.v)) (cost_cell g.s b (g.v - 1))) b c.before.before.put_row.new.0) c.before.before.before.before.before.inner_size-z.ensures
+    (cost_cell g.s b (left_within g.s b g.v)) (cost_cell g.s b (g.v - 1))) b c.before.before.put_row.new.work) c.before.before.before.before.before.inner_size-z.ensures
     (row-filled g.s g.v c.before.before.before.before.before.inner_size-z.result (inner_costs g.inner.now g.s g.k g.a (member g.labels)
-    (cost_cell g.s b (left_within g.s b g.v)) (cost_cell g.s b (g.v - 1))) c.before.before.before.before.before.before.before.before.inner_row.new.0 b c.before.before.put_row.new.0 c.before.before.before.before.before.before.before.before.before.before.before.before.before.before.requires.0.few
+    (cost_cell g.s b (left_within g.s b g.v)) (cost_cell g.s b (g.v - 1))) c.before.before.before.before.before.before.before.before.inner_row.new.row b c.before.before.put_row.new.work c.before.before.before.before.before.before.before.before.before.before.before.before.before.before.requires.0.few
     (costs-low g.inner.now g.s g.k g.a (member g.labels) (cost_cell g.s b (left_within g.s b g.v)) (cost_cell g.s b (g.v - 1)))
     c.before.before.before.before.before.before.before.before.inner_row.ensures c.before.before.put_row.ensures)
 

@@ -15,7 +15,7 @@ returns : tie.Need-returns-then-kinds-v-eq0
 returns c =
     let g = c.before.before.before.before.before.before.before.before.before.before.before.before.before.before.before.before.args in
     leaf-turned g.kinds.now g.labels.now g.leaves.now g.inner.now g.may.now g.s g.k g.work.now
-    c.before.before.any_leaf_turn.new.0 g.v c.before.before.before.before.if-kinds-v-eq0.true c.before.before.before.before.before.before.stock-m.result c.before.before.before.before.before.before.stock-m.ensures c.before.before.any_leaf_turn.ensures
+    c.before.before.any_leaf_turn.new.work g.v c.before.before.before.before.if-kinds-v-eq0.true c.before.before.before.before.before.before.stock-m.result c.before.before.before.before.before.before.stock-m.ensures c.before.before.any_leaf_turn.ensures
 
 any-leaf-turn-requires : tie.Need-any_leaf_turn-requires
 any-leaf-turn-requires c κs =
@@ -35,7 +35,7 @@ returns-2 : tie.Need-returns
 returns-2 c =
     let g = c.before.before.before.before.before.before.before.before.before.before.before.before.before.before.before.before.args in
     inner-turned g.kinds.now g.labels.now g.leaves.now g.inner.now g.may.now g.s g.k g.work.now
-    c.before.before.inner_turn.new.0 g.v c.before.before.before.before.if-kinds-v-eq0.false c.before.before.before.before.before.before.stock-m.result c.before.before.before.before.before.before.stock-m.ensures c.before.before.inner_turn.ensures
+    c.before.before.inner_turn.new.work g.v c.before.before.before.before.if-kinds-v-eq0.false c.before.before.before.before.before.before.stock-m.result c.before.before.before.before.before.before.stock-m.ensures c.before.before.inner_turn.ensures
 
 pub node_turn_spec : {M : Type 1} → statement M
 node_turn_spec =

@@ -41,7 +41,7 @@ loop-again c =
       omega (arith, c.before.before.before.before.loop-v-test.true),
       c.before.before.node_turn.ensures.long ∙ l.invariant.1,
       up_next g.kinds.now g.labels.now g.leaves.now g.inner.now g.may.now g.s g.k c.before.before.before.before.before.before.before.before.before.before.before.before.before.before.requires.0.runs l.v
-          g.work.now l.work c.before.before.before.before.loop-v-test.true l.invariant.2 c.before.before.node_turn.new.1.1.1.1.1.1.1.1.1.0 c.before.before.node_turn.ensures,
+          g.work.now l.work c.before.before.before.before.loop-v-test.true l.invariant.2 c.before.before.node_turn.new.work c.before.before.node_turn.ensures,
     )
 
 returns : tie.Need-returns invariant-loop decreases-loop

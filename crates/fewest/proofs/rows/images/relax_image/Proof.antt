@@ -31,7 +31,7 @@ returns c =
     let g = t.args in
     image-relaxed g.inner.now g.s g.k g.p g.q g.a (member g.labels) g.base g.image t.requires.0
     c.before.before.before.before.rule-to.result c.before.before.before.before.rule-to.ensures g.row.now
-    c.before.before.lower_image.new.0 c.before.before.lower_image.ensures
+    c.before.before.lower_image.new.row c.before.before.lower_image.ensures
 
 pub relax_image_spec : {M : Type 1} → statement M
 relax_image_spec =

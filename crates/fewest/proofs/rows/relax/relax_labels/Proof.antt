@@ -40,7 +40,7 @@ lower-own-requires c κs =
       t.requires.0,
       t.requires.2,
       row_kept g.s (others_cost (λ b. get_or g.inner.now ((g.p * g.k + b) * g.s + g.q) 0) g.k (member g.labels) (g.base + 1))
-          g.row.now c.before.before.before.relax_others.new.0 t.requires.3 c.before.before.before.relax_others.ensures,
+          g.row.now c.before.before.before.relax_others.new.row t.requires.3 c.before.before.before.relax_others.ensures,
     )
 
 returns : tie.Need-returns
@@ -49,7 +49,7 @@ returns c =
     let g = t.args in
     let x = c.before.before.before.before.before.before.relax_others in
     labels-relaxed g.inner.now g.s g.k g.p g.q g.a (member g.labels) g.base t.requires.2 t.requires.1
-    g.row.now x.new.0 c.before.before.lower_own.new.0 x.ensures c.before.before.lower_own.ensures
+    g.row.now x.new.0 c.before.before.lower_own.new.row x.ensures c.before.before.lower_own.ensures
 
 pub relax_labels_spec : {M : Type 1} → statement M
 relax_labels_spec =

@@ -48,7 +48,7 @@ loop-again c =
     let g = t.args in
     let l = c.before.before.before.before.before.before.loop-p in (
       omega (arith, c.before.before.before.before.before.loop-p-test.true),
-      step-next g.s (λ p j. right_cost g.inner.now g.s g.k p g.a (member g.labels) (get_or g.left.now p 0) g.right.now j) l.p g.row.now l.row c.before.before.relax_right.new.0 l.invariant.1 c.before.before.relax_right.ensures,
+      step-next g.s (λ p j. right_cost g.inner.now g.s g.k p g.a (member g.labels) (get_or g.left.now p 0) g.right.now j) l.p g.row.now l.row c.before.before.relax_right.new.row l.invariant.1 c.before.before.relax_right.ensures,
     )
 
 same_length : tie.Need-shape_of-row invariant-loop decreases-loop

@@ -52,7 +52,7 @@ loop-again c =
     let g = t.args in
     let l = c.before.before.before.before.before.before.loop-q in (
       omega (arith, c.before.before.before.before.before.loop-q-test.true),
-      step-next g.s (λ q j. labels_cost g.inner.now g.s g.k g.p q g.a (member g.labels) (g.left + get_or g.right.now q 0) j) l.q g.row.now l.row c.before.before.relax_way.new.0 l.invariant.1 c.before.before.relax_way.ensures,
+      step-next g.s (λ q j. labels_cost g.inner.now g.s g.k g.p q g.a (member g.labels) (g.left + get_or g.right.now q 0) j) l.q g.row.now l.row c.before.before.relax_way.new.row l.invariant.1 c.before.before.relax_way.ensures,
     )
 
 same_length : tie.Need-shape_of-row invariant-loop decreases-loop

@@ -23,7 +23,7 @@ use Rattle.planner.proofs.out.check.well_formed.Reads as well-formed-reads
 
 -- the file of the call, and what each test says of it
 is-formed : (c : tie.Else-not-well_formed) → well_formed c.before.before.before.args.file.now ≡ true
-is-formed c = sym c.before.well-formed-2.ensures ∙ not-false _ c.if-not-well_formed.false-raw
+is-formed c = sym c.before.well_formed-2.ensures ∙ not-false _ c.if-not-well_formed.false-raw
 
 formed : (c : tie.Else-not-well_formed) → WellFormed c.before.before.before.args.file.now
 formed c = well-formed _ (is-formed c)
@@ -47,7 +47,7 @@ room-answer c =
     ∙ ap (λ (n : ℕ). out_room n a.plan a.places) c.before.before.before.before.read32-n.ensures
 
 returns : tie.Need-returns-then-not-well_formed
-returns c = sym (out-19 _ _ _ (sym c.before.well-formed-2.ensures ∙ not-true _ c.if-not-well_formed.true-raw))
+returns c = sym (out-19 _ _ _ (sym c.before.well_formed-2.ensures ∙ not-true _ c.if-not-well_formed.true-raw))
 
 read32-requires : tie.Need-read32-n-requires
 read32-requires c κs = omega (arith, (formed c).long)

@@ -42,7 +42,7 @@ part-write-plan-end c = let z =
 write-plan-requires : tie.Need-write_plan-requires
 write-plan-requires c κs =
     let d = c.before.before.before.before.before.before.before in
-    let s = d.before.before.before.before.before.before.before in (
+    let s = d.before.before.before.before.before.before in (
       file_tree s.args.file.now,
       write-args _ _ _ _ s.requires _ (counts-are _ _ _ _ s.requires) _ _
           d.place_nodes.ensures _
@@ -52,7 +52,7 @@ write-plan-requires c κs =
 returns : tie.Need-returns
 returns c =
     let d = c.before.before.before.before.before.before.before.before.before.before in
-    let s = d.before.before.before.before.before.before.before in
+    let s = d.before.before.before.before.before.before in
     let k = counts-are _ _ _ _ s.requires in
     let l = labels-are _ _ _ _ s.requires in
     let N = d.place_nodes.ensures in

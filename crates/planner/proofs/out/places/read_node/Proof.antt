@@ -20,12 +20,12 @@ returns c =
 
 add-close-lists-2 : tie.Need-overflow_add-w-2
 add-close-lists-2 c =
-    let s = c.before.before.before.before.before.before.before.before.before.before.before.before in
+    let s = c.before.before.before.before.before.before.before.before.before.before.before in
     omega (arith, next_fits _ _ _ _ _ _ _ _ s.requires)
 
 close-lists-requires : tie.Need-close_lists-c-requires
 close-lists-requires c κs =
-    let s = c.before.before.before.before.before.before.before.before.before.before.before.before in
+    let s = c.before.before.before.before.before.before.before.before.before.before.before in
     let a = s.args in
     leaf-args a.v a.w.depth a.w.next a.w.left a.w.first _ a.plan.now a.places.now _
     c.before.before.before.before.before.before.before.before.less_one.ensures
@@ -34,7 +34,7 @@ close-lists-requires c κs =
 returns-2 : tie.Need-returns
 returns-2 c =
     let b = c.before.before.before.before in
-    let s = b.before.before.before.before.before.before.before.before.before.before.before.before.before in
+    let s = b.before.before.before.before.before.before.before.before.before.before.before.before in
     let a = s.args in
     node-leaf a.v a.w.depth a.w.next a.w.left a.w.first _ a.plan.now a.places.now _
     b.before.before.before.before.before.before.before.before.before.less_one.ensures

@@ -24,8 +24,8 @@ abbrev decreases-loop : tie.decreases-loop-left
 decreases-loop all left₀ left = left
 
 -- the array's length
-eight : (b : tie.Start invariant-loop decreases-loop) → length b.args.t1 ≡ 8
-eight b = good_length (e_struct T.the_type T'.the_laws T'.the_copy) 8 b.args.t1 _ b.well-formed.0
+eight : (b : tie.Start invariant-loop decreases-loop) → length b.args.all ≡ 8
+eight b = good_length (e_struct T.the_type T'.the_laws T'.the_copy) 8 b.args.all _ b.well-formed.0
 
 loop-holds : tie.Need-loop-left-init invariant-loop decreases-loop
 loop-holds c = (omega arith, refl)
@@ -35,7 +35,7 @@ returns c =
     let b = c.before.before.before.before.before in
     let l = c.before.before.before.before.loop-left in
     any_here _ l.left (omega arith)
-    (busy-at b.args.t1 (l.left - 1) _ (eight b) (omega arith) ∙ sym c.before.is_busy.ensures ∙ c.if-is_busy.true)
+    (busy-at b.args.all (l.left - 1) _ (eight b) (omega arith) ∙ sym c.before.is_busy.ensures ∙ c.if-is_busy.true)
     l.invariant.1
 
 loop-again : tie.Need-loop-left-preserved invariant-loop decreases-loop
@@ -44,7 +44,7 @@ loop-again c =
     let l = c.before.before.before.before.loop-left in (
       omega arith,
       any-on _ l.left (omega arith)
-          (busy-at b.args.t1 (l.left - 1) _ (eight b) (omega arith) ∙ sym c.before.is_busy.ensures
+          (busy-at b.args.all (l.left - 1) _ (eight b) (omega arith) ∙ sym c.before.is_busy.ensures
           ∙ c.if-is_busy.false)
           l.invariant.1,
     )

@@ -15,8 +15,8 @@ use Rattle.screens.proofs.in_place.load.any_busy.Reads as any-busy-reads
 use Rattle.session.proofs.state.Session.load.Reads as load-reads
 
 -- the array's length
-eight : (b : tie.Start) → length b.args.t1 ≡ 8
-eight b = good_length (e_struct T.the_type T'.the_laws T'.the_copy) 8 b.args.t1 _ b.well-formed.0
+eight : (b : tie.Start) → length b.args.all ≡ 8
+eight b = good_length (e_struct T.the_type T'.the_laws T'.the_copy) 8 b.args.all _ b.well-formed.0
 
 returns : tie.Need-returns-then-any_busy
 returns c =

@@ -11,8 +11,8 @@ use borrow.Author.Rules.{rules}
 use Rattle.session.proofs.state.Session.cancel.Statement.{statement}
 use Rattle.session.proofs.state.Session.cancel.Tie as tie
 
-shape : (c : tie.Start) → Shaped c.args.t1
-shape c = shaped c.args.t1 c.well-formed.0
+shape : (c : tie.Start) → Shaped c.args.s
+shape c = shaped c.args.s c.well-formed.0
 
 -- where the state was tested, and the call's beginning
 abbrev tested : tie.After-allowed → tie.After-may_advance-may
@@ -22,19 +22,19 @@ abbrev of : tie.After-allowed → tie.Start
 of m = (tested m).before.before
 
 may : (m : tie.After-allowed) → m.allowed.result
-    ≡ (valid (of m).args.t1 && is_running (phase_of (of m).args.t1.head.phase))
-may m = allowed-by is_running (of m).args.t1 _ _ (tested m).may_advance-may.ensures m.allowed.ensures
+    ≡ (valid (of m).args.s && is_running (phase_of (of m).args.s.head.phase))
+may m = allowed-by is_running (of m).args.s _ _ (tested m).may_advance-may.ensures m.allowed.ensures
 
 returns : tie.Need-returns-then-not-allowed
 returns c =
     let m = c.before in
-    cancel-no (of m).args.t1 (shape (of m)) _ (may m) c.if-not-allowed.true-raw
+    cancel-no (of m).args.s (shape (of m)) _ (may m) c.if-not-allowed.true-raw
 
 returns-2 : tie.Need-returns
 returns-2 c =
     let e = c.before in
     let m = e.before in
-    cancel-yes (of m).args.t1 (shape (of m)) _ (may m) e.if-not-allowed.false-raw _ c.loaded-session.ensures
+    cancel-yes (of m).args.s (shape (of m)) _ (may m) e.if-not-allowed.false-raw _ c.loaded-session.ensures
 
 pub cancel_spec : {M : Type 1} → statement M
 cancel_spec = tie.close (tie.spec (λ c κs. search rules) (λ c κs. search rules) returns (λ c κs. search rules)

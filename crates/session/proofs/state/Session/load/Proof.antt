@@ -13,8 +13,8 @@ use borrow.Author.Rules.{rules}
 use Rattle.session.proofs.state.Session.load.Statement.{statement}
 use Rattle.session.proofs.state.Session.load.Tie as tie
 
-shape : (c : tie.Start) → Shaped c.args.t1
-shape c = shaped c.args.t1 c.well-formed.0
+shape : (c : tie.Start) → Shaped c.args.s
+shape c = shaped c.args.s c.well-formed.0
 
 abbrev lent : tie.Start → Inputs
 lent c = inputs_of c.args.plan.now c.args.rules.now c.args.node_table.now c.args.state_table.now
@@ -27,20 +27,20 @@ abbrev of : tie.After-allowed → tie.Start
 of m = (tested m).before.before.before.before.before.before
 
 may : (m : tie.After-allowed) → m.allowed.result
-    ≡ (valid (of m).args.t1 && may_load (phase_of (of m).args.t1.head.phase))
-may m = allowed-by may_load (of m).args.t1 _ _ (tested m).may_load-may.ensures m.allowed.ensures
+    ≡ (valid (of m).args.s && may_load (phase_of (of m).args.s.head.phase))
+may m = allowed-by may_load (of m).args.s _ _ (tested m).may_load-may.ensures m.allowed.ensures
 
 returns : tie.Need-returns-then-not-allowed
 returns c =
     let m = c.before in
-    load-1 (of m).args.t1 (shape (of m)) (lent (of m)) _ (may m) c.if-not-allowed.true-raw
+    load-1 (of m).args.s (shape (of m)) (lent (of m)) _ (may m) c.if-not-allowed.true-raw
 
 loaded-from-requires : tie.Need-loaded_from-session-requires
 loaded-from-requires c κs =
     let b = c.before.before.before.before.before.before in
     let e = b.before.before.before in
     let m = e.before in
-    load-headers (of m).args.t1 (shape (of m)) (lent (of m)) _ (may m) e.if-not-allowed.false-raw _ _ _
+    load-headers (of m).args.s (shape (of m)) (lent (of m)) _ (may m) e.if-not-allowed.false-raw _ _ _
     b.build_tables.ensures c.enum_told-1.given.1
 
 returns-2 : tie.Need-returns-in-Built
@@ -49,7 +49,7 @@ returns-2 c =
     let b = d.before.before.before.before.before.before in
     let e = b.before.before.before in
     let m = e.before in
-    load-built (of m).args.t1 (shape (of m)) (lent (of m)) _ (may m) e.if-not-allowed.false-raw _ _ _
+    load-built (of m).args.s (shape (of m)) (lent (of m)) _ (may m) e.if-not-allowed.false-raw _ _ _
     b.build_tables.ensures d.enum_told-1.given.1 _ c.loaded_from-session.ensures
 
 returns-3 : tie.Need-returns-in-Refused
@@ -58,7 +58,7 @@ returns-3 c =
     let b = d.before.before.before.before.before.before in
     let e = b.before.before.before in
     let m = e.before in
-    load-refused (of m).args.t1 (shape (of m)) (lent (of m)) _ (may m) e.if-not-allowed.false-raw _ _ _
+    load-refused (of m).args.s (shape (of m)) (lent (of m)) _ (may m) e.if-not-allowed.false-raw _ _ _
     b.build_tables.ensures _ d.n-1.given.1
 
 pub load_spec : {M : Type 1} → statement M

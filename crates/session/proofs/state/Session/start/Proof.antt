@@ -15,8 +15,8 @@ use borrow.Author.Rules.{rules}
 use Rattle.session.proofs.state.Session.start.Statement.{statement}
 use Rattle.session.proofs.state.Session.start.Tie as tie
 
-shape : (c : tie.Start) → Shaped c.args.t1
-shape c = shaped c.args.t1 c.well-formed.0
+shape : (c : tie.Start) → Shaped c.args.s
+shape c = shaped c.args.s c.well-formed.0
 
 abbrev lent : tie.Start → Inputs
 lent c = inputs_of c.args.plan.now c.args.rules.now c.args.node_table.now c.args.state_table.now
@@ -29,22 +29,22 @@ abbrev of : tie.After-allowed → tie.Start
 of m = (tested m).before.before.before.before.before.before.before.before
 
 may : (m : tie.After-allowed) → m.allowed.result
-    ≡ (valid (of m).args.t1 && may_start (phase_of (of m).args.t1.head.phase))
-may m = allowed-by may_start (of m).args.t1 _ _ (tested m).may_start-may.ensures m.allowed.ensures
+    ≡ (valid (of m).args.s && may_start (phase_of (of m).args.s.head.phase))
+may m = allowed-by may_start (of m).args.s _ _ (tested m).may_start-may.ensures m.allowed.ensures
 
 returns : tie.Need-returns-then-not-allowed
 returns c =
     let i = c.before in
     let m = i.before in
     rw c.refused.ensures
-    (start-1 (of m).args.t1 (shape (of m)) (lent (of m)) (of m).args.nodes.now (of m).args.labels.now _
+    (start-1 (of m).args.s (shape (of m)) (lent (of m)) (of m).args.nodes.now (of m).args.labels.now _
     (may m) i.if-not-allowed.true-raw)
 
 rule-buffers-fit-requires : tie.Need-rule_buffers_fit-requires
 rule-buffers-fit-requires c κs =
     let e = c.before.before.before in
     let m = e.before in
-    start-limits (of m).args.t1 (shape (of m)) (lent (of m)) (of m).args.nodes.now (of m).args.labels.now _
+    start-limits (of m).args.s (shape (of m)) (lent (of m)) (of m).args.nodes.now (of m).args.labels.now _
     (may m) e.if-not-allowed.false-raw
 
 returns-2 : tie.Need-returns-then-not-rule_buffers_fit
@@ -54,7 +54,7 @@ returns-2 c =
     let e = k.before.before.before.before in
     let m = e.before in
     rw c.refused-then-not-rule_buffers_fit.ensures
-    (start-17 (of m).args.t1 (shape (of m)) (lent (of m)) (of m).args.nodes.now (of m).args.labels.now _
+    (start-17 (of m).args.s (shape (of m)) (lent (of m)) (of m).args.nodes.now (of m).args.labels.now _
     (may m) e.if-not-allowed.false-raw _ k.rule_buffers_fit.ensures i.if-not-rule_buffers_fit.true-raw)
 
 returns-3 : tie.Need-returns-then-no-ne0
@@ -66,7 +66,7 @@ returns-3 c =
     let e = k.before.before.before.before in
     let m = e.before in
     rw c.refused-then-no-ne0.ensures
-    (start-list (of m).args.t1 (shape (of m)) (lent (of m)) (of m).args.nodes.now (of m).args.labels.now _
+    (start-list (of m).args.s (shape (of m)) (lent (of m)) (of m).args.nodes.now (of m).args.labels.now _
     (may m) e.if-not-allowed.false-raw _ k.rule_buffers_fit.ensures t.if-not-rule_buffers_fit.false-raw _ l.check_list-no.ensures i.if-no-ne0.true)
 
 tables-sound-requires : tie.Need-tables_sound-requires
@@ -75,7 +75,7 @@ tables-sound-requires c κs =
     let k = t.before in
     let e = k.before.before.before.before in
     let m = e.before in
-    start-headers (of m).args.t1 (shape (of m)) (lent (of m)) (of m).args.nodes.now (of m).args.labels.now _
+    start-headers (of m).args.s (shape (of m)) (lent (of m)) (of m).args.nodes.now (of m).args.labels.now _
     (may m) e.if-not-allowed.false-raw _ k.rule_buffers_fit.ensures t.if-not-rule_buffers_fit.false-raw
 
 returns-4 : tie.Need-returns-then-not-tables_sound
@@ -89,7 +89,7 @@ returns-4 c =
     let e = k.before.before.before.before in
     let m = e.before in
     rw c.refused-then-not-tables_sound.ensures
-    (start-18 (of m).args.t1 (shape (of m)) (lent (of m)) (of m).args.nodes.now (of m).args.labels.now _
+    (start-18 (of m).args.s (shape (of m)) (lent (of m)) (of m).args.nodes.now (of m).args.labels.now _
     (may m) e.if-not-allowed.false-raw _ k.rule_buffers_fit.ensures t.if-not-rule_buffers_fit.false-raw _ l.check_list-no.ensures u.if-no-ne0.false _
     w.tables_sound.ensures i.if-not-tables_sound.true-raw)
 
@@ -99,7 +99,7 @@ roots-left-requires c κs =
     let k = t.before in
     let e = k.before.before.before.before in
     let m = e.before in
-    start-room (of m).args.t1 (shape (of m)) (lent (of m)) (of m).args.nodes.now (of m).args.labels.now _
+    start-room (of m).args.s (shape (of m)) (lent (of m)) (of m).args.nodes.now (of m).args.labels.now _
     (may m) e.if-not-allowed.false-raw _ k.rule_buffers_fit.ensures t.if-not-rule_buffers_fit.false-raw
 
 cast-parts : tie.Need-overflow_cast-parts
@@ -115,7 +115,7 @@ cast-parts c =
     let m = e.before in
     omega (
       arith,
-      start-count (of m).args.t1 (shape (of m)) (lent (of m)) (of m).args.nodes.now (of m).args.labels.now _
+      start-count (of m).args.s (shape (of m)) (lent (of m)) (of m).args.nodes.now (of m).args.labels.now _
           (may m)
           e.if-not-allowed.false-raw _ k.rule_buffers_fit.ensures t.if-not-rule_buffers_fit.false-raw _ l.check_list-no.ensures u.if-no-ne0.false _
           w.tables_sound.ensures o.if-not-tables_sound.false-raw _ r.roots_left-found.ensures,
@@ -132,7 +132,7 @@ started-requires c κs =
     let k = t.before in
     let e = k.before.before.before.before in
     let m = e.before in
-    start-listed (of m).args.t1 (shape (of m)) (lent (of m)) (of m).args.nodes.now (of m).args.labels.now _
+    start-listed (of m).args.s (shape (of m)) (lent (of m)) (of m).args.nodes.now (of m).args.labels.now _
     (may m)
     e.if-not-allowed.false-raw _ k.rule_buffers_fit.ensures t.if-not-rule_buffers_fit.false-raw _ l.check_list-no.ensures u.if-no-ne0.false
 
@@ -147,7 +147,7 @@ returns-5 c =
     let k = t.before in
     let e = k.before.before.before.before in
     let m = e.before in
-    start-yes (of m).args.t1 (shape (of m)) (lent (of m)) (of m).args.nodes.now (of m).args.labels.now _
+    start-yes (of m).args.s (shape (of m)) (lent (of m)) (of m).args.nodes.now (of m).args.labels.now _
     (may m)
     e.if-not-allowed.false-raw _ k.rule_buffers_fit.ensures t.if-not-rule_buffers_fit.false-raw _ l.check_list-no.ensures u.if-no-ne0.false _ w.tables_sound.ensures
     o.if-not-tables_sound.false-raw _ r.roots_left-found.ensures _ c.started-session.ensures

@@ -11,12 +11,12 @@ write-down-requires : tie.Need-write_down-requires
 write-down-requires c κs =
     let l = c.before.before.before.before.before in
     let s = l.before.before.before.before in
-    let args : NodeTableArgs s.args.kinds.now (length l.write_up.new.1.0) = record {
+    let args : NodeTableArgs s.args.kinds.now (length l.write_up.new.node_table) = record {
       postorder = s.requires.postorder;
       most = s.requires.most;
-      room = omega (arith, l.write_up.auto.1.0, s.requires.room);
+      room = omega (arith, l.write_up.auto.node_table, s.requires.room);
     } in (
-      down-args s.args.kinds.now l.write_up.new.1.0 args (λ t e. (l.write_up.ensures t e).cells),
+      down-args s.args.kinds.now l.write_up.new.node_table args (λ t e. (l.write_up.ensures t e).cells),
       c.before.before.jump_lengths-lengths.ensures,
     )
 
@@ -25,8 +25,8 @@ returns c =
     let d = c.before.before in
     let l = d.before.before.before.before.before.before in
     let s = l.before.before.before.before in
-    passes s.args.kinds.now s.args.node_table.now l.write_up.new.1.0 d.write_down.new.0
-    (omega (arith, l.write_up.auto.1.0, d.write_down.auto.0)) s.requires.room l.write_up.ensures
+    passes s.args.kinds.now s.args.node_table.now l.write_up.new.node_table d.write_down.new.node_table
+    (omega (arith, l.write_up.auto.node_table, d.write_down.auto.node_table)) s.requires.room l.write_up.ensures
     d.write_down.ensures
 
 pub build_node_table_spec : {M : Type 1} → statement M
