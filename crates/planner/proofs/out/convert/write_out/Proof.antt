@@ -41,23 +41,20 @@ part-write-plan-end c = let z =
 
 write-plan-requires : tie.Need-write_plan-requires
 write-plan-requires c κs =
-    let d = c.before.before.before.before.before.before.before in
-    let s = d.before.before.before.before.before.before in (
-      file_tree s.args.file.now,
-      write-args _ _ _ _ s.requires _ (counts-are _ _ _ _ s.requires) _ _
-          d.place_nodes.ensures _
-          (labels-are _ _ _ _ s.requires),
+    (
+      file_tree c.args.file.now,
+      write-args _ _ _ _ c.requires _ (counts-are _ _ _ _ c.requires) _ _
+          c.place_nodes.ensures _
+          (labels-are _ _ _ _ c.requires),
     )
 
 returns : tie.Need-returns
 returns c =
-    let d = c.before.before.before.before.before.before.before.before.before.before in
-    let s = d.before.before.before.before.before.before in
-    let k = counts-are _ _ _ _ s.requires in
-    let l = labels-are _ _ _ _ s.requires in
-    let N = d.place_nodes.ensures in
-    plan-is _ _ _ _ s.requires _ k _ _ N _ l _
-    (c.before.before.write_plan.ensures (file_tree s.args.file.now) (write-args _ _ _ _ s.requires _ k _ _ N _ l))
+    let k = counts-are _ _ _ _ c.requires in
+    let l = labels-are _ _ _ _ c.requires in
+    let N = c.place_nodes.ensures in
+    plan-is _ _ _ _ c.requires _ k _ _ N _ l _
+    (c.write_plan.ensures (file_tree c.args.file.now) (write-args _ _ _ _ c.requires _ k _ _ N _ l))
 
 pub write_out_spec : {M : Type 1} → statement M
 write_out_spec =

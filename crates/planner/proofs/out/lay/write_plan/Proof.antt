@@ -29,9 +29,9 @@ add-fill c = omega (arith, (room_at c.before.before.before.before.before.before.
 
 fill-requires : tie.Need-fill-requires
 fill-requires c κs =
-    let h = c.before.before.before.write_header in
+    let h = c.write_header in
     let s = c.before.before.before.before.before.before.before.before in
-    let e : length h.new.0 ≡ length s.args.plan.now =
+    let e : length h.new.plan ≡ length s.args.plan.now =
     ap length h.ensures
     ∙ headed-length s.args.plan.now (2 * length s.args.labels.now + 1) (omega (arith, (room_at s).room)) in
     (omega arith, omega (arith, e, (room_at c.before.before.before.before.before.before.before.before).room))
@@ -54,16 +54,16 @@ add-fill-3 c =
 
 fill-requires-2 : tie.Need-fill-requires-2
 fill-requires-2 c κs =
-    let h = c.before.before.before.before.before.before.before.write_header in
+    let h = c.write_header in
     let s = c.before.before.before.before.before.before.before.before.before.before.before.before in
-    let e : length h.new.0 ≡ length s.args.plan.now =
+    let e : length h.new.plan ≡ length s.args.plan.now =
     ap length h.ensures
     ∙ headed-length s.args.plan.now (2 * length s.args.labels.now + 1) (omega (arith, (room_at s).room)) in (
       omega arith,
       omega (
         arith,
         e,
-        c.before.before.before.fill.ensures.same,
+        c.fill.ensures.same,
         (room_at s).room,
       ),
     )
@@ -74,8 +74,8 @@ lay-nodes-requires c κs =
     let s = d.before.before.before.before.before.before.before.before.before in (
       s.requires.0,
       lay-args s.requires.0 _ _ _ s.requires.1 (2 * length s.args.labels.now + 1) refl _ _ _
-          d.before.before.before.before.write_header.ensures d.fill.ensures
-          c.before.before.before.fill-2.ensures,
+          d.write_header.ensures d.fill.ensures
+          c.fill-2.ensures,
     )
 
 returns : tie.Need-returns
@@ -83,11 +83,11 @@ returns c = λ f A. (
     let d = c.before.before.before.before.before.before.before.before.before.before in
     let s = d.before.before.before.before.before.before.before.before.before in
     let n = 2 * length s.args.labels.now + 1 in
-    let h = d.before.before.before.before.write_header.ensures in
+    let h = d.write_header.ensures in
     let g = d.fill.ensures in
-    let k = c.before.before.before.before.before.before.fill-2.ensures in
+    let k = c.fill-2.ensures in
     plan-written f _ _ _ A n refl _ _ _ h g k _
-    (c.before.before.lay_nodes.ensures f (lay-args f _ _ _ A n refl _ _ _ h g k)))
+    (c.lay_nodes.ensures f (lay-args f _ _ _ A n refl _ _ _ h g k)))
 
 pub write_plan_spec : {M : Type 1} → statement M
 write_plan_spec =

@@ -13,9 +13,9 @@ use Rattle.planner.proofs.out.places.to_come.Reads as to-come-reads
 
 returns : tie.Need-returns-then-count-ne0
 returns c =
-    let a = c.before.before.before.before.before.before.before.before.before.args in
+    let a = c.args in
     node-inner a.v a.w.depth a.w.next a.w.left a.w.first _ a.plan.now a.places.now _
-    c.before.before.before.before.before.less_one.ensures c.before.before.before.before.push.ensures
+    c.less_one.ensures c.push.ensures
     a.count (λ e. omega arith)
 
 add-close-lists-2 : tie.Need-overflow_add-w-2
@@ -25,21 +25,18 @@ add-close-lists-2 c =
 
 close-lists-requires : tie.Need-close_lists-c-requires
 close-lists-requires c κs =
-    let s = c.before.before.before.before.before.before.before.before.before.before.before in
-    let a = s.args in
+    let a = c.args in
     leaf-args a.v a.w.depth a.w.next a.w.left a.w.first _ a.plan.now a.places.now _
-    c.before.before.before.before.before.before.before.before.less_one.ensures
-    c.before.before.before.before.before.before.before.push.ensures a.count (omega arith) s.requires
+    c.less_one.ensures
+    c.push.ensures a.count (omega arith) c.requires
 
 returns-2 : tie.Need-returns
 returns-2 c =
-    let b = c.before.before.before.before in
-    let s = b.before.before.before.before.before.before.before.before.before.before.before.before in
-    let a = s.args in
+    let a = c.args in
     node-leaf a.v a.w.depth a.w.next a.w.left a.w.first _ a.plan.now a.places.now _
-    b.before.before.before.before.before.before.before.before.before.less_one.ensures
-    b.before.before.before.before.before.before.before.before.push.ensures
-    a.count _ _ _ _ (omega arith) b.close_lists-c.ensures c.to_come.ensures
+    c.less_one.ensures
+    c.push.ensures
+    a.count _ _ _ _ (omega arith) c.close_lists-c.ensures c.to_come.ensures
 
 pub read_node_spec : {M : Type 1} → statement M
 read_node_spec =

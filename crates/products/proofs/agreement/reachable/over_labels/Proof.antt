@@ -52,14 +52,14 @@ loop-again c =
     let g = a.before.before.before.args in
     let l = a.loop-a in
     elim c.if-t-at-eq0.branch [
-      | inl w ↦ rw (w.2 ∙ w.1.ensures)
+      | lts.then-t-at-eq0 w ↦ rw (w.t-is ∙ w.with_line-t.ensures)
           (labels-loop-new g.first.now g.second.now g.s1 g.s2 g.k g.i g.j g.p g.q _ _ _ _
           g.s l.t l.a l.invariant
-          m.before.loop-a-test.true m.pair_step-c.result m.pair_step-c.ensures w.0.taken)
-      | inr w ↦ rw w.1
+          m.before.loop-a-test.true m.pair_step-c.result m.pair_step-c.ensures w.if-t-at-eq0.true)
+      | lts.else-t-at-eq0 w ↦ rw w.t-is
           (labels-loop-old g.first.now g.second.now g.s1 g.s2 g.k g.i g.j g.p g.q _ _ _ _
           g.s l.t l.a l.invariant
-          m.before.loop-a-test.true m.pair_step-c.result m.pair_step-c.ensures w.0.left)
+          m.before.loop-a-test.true m.pair_step-c.result m.pair_step-c.ensures w.if-t-at-eq0.false)
     ]
 
 returns : tie.Need-returns invariant-loop decreases-loop

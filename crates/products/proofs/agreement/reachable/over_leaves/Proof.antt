@@ -85,10 +85,10 @@ loop-again c =
     let g = a.before.before.before.args in
     let l = a.loop-label in
     elim c.if-t-c-eq0.branch [
-      | inl w ↦ rw (w.2 ∙ w.1.ensures) (leaves-loop-new g.first.now g.second.now g.s1 g.s2 g.k
-          g.s l.t l.label l.invariant c.before.before.before.before.loop-label-test.true w.0.taken)
-      | inr w ↦ rw w.1 (leaves-loop-old g.first.now g.second.now g.s1 g.s2 g.k g.s l.t
-          l.label l.invariant c.before.before.before.before.loop-label-test.true w.0.left)
+      | lts.then-t-c-eq0 w ↦ rw (w.t-is ∙ w.with_line-t.ensures) (leaves-loop-new g.first.now g.second.now g.s1 g.s2 g.k
+          g.s l.t l.label l.invariant c.before.before.before.before.loop-label-test.true w.if-t-c-eq0.true)
+      | lts.else-t-c-eq0 w ↦ rw w.t-is (leaves-loop-old g.first.now g.second.now g.s1 g.s2 g.k g.s l.t
+          l.label l.invariant c.before.before.before.before.loop-label-test.true w.if-t-c-eq0.false)
     ]
 
 returns : tie.Need-returns invariant-loop decreases-loop
