@@ -4,6 +4,8 @@
 //     sets    the states that lead into a set
 //     masks   the labels that each node may take
 //     clearing   the states with which the plan is cleared
+#![tactic(auto)]
+
 mod check;
 pub mod clearing;
 pub mod masks;

@@ -1,4 +1,6 @@
 // Branch tables: their build, their full check, and the branch question.
+#![tactic(auto)]
+
 pub mod answers;
 pub mod ask;
 pub mod build;

@@ -10,6 +10,8 @@
 //     choice_calls   how many choices end in each state
 //     allowed_calls  the labels that each node may take, and the states that clear
 //     version        the library's version
+#![tactic(auto)]
+
 pub mod allowed_calls;
 pub mod branch_calls;
 pub mod choice_calls;

@@ -1,6 +1,8 @@
 // The whole question as C and Rust call it, outside the session: one call on tables that the caller has. It has an object
 // of its own, so that the compiler inlines the roots of its parts: in capi's object the count would share one copy.
 //     whatif_ask   state, yes or no, parts, links and nodes passed over of a list of changes
+#![tactic(auto)]
+
 ghost use Rattle.capi_ask.specs.WholeExported.{WholeNumber, WholeExported};
 
 use capi::numbers::bit;

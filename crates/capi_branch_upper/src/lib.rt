@@ -2,6 +2,8 @@
 // capi exports (branch_calls). It has an object of its own, so that the compiler inlines each reading's question: in one
 // object both would call one copy of it, with all arguments and results passed through memory.
 //     whatif_branch_with_upper   the word from the upper node down to the lower, both included
+#![tactic(auto)]
+
 ghost use Rattle.branches.specs.declared.answers.Reading.TheVariants.{WithUpper};
 ghost use Rattle.capi.specs.branch_calls.BranchExported.{AskExported};
 

@@ -3,5 +3,7 @@
 //     branch_calls  branch questions by colours: whatif_colour_branch_build, whatif_colour_branch,
 //                   whatif_colour_branch_with_upper
 //     rule_calls    rule questions by colours: whatif_colour_build, whatif_colour_ask
+#![tactic(auto)]
+
 pub mod branch_calls;
 pub mod rule_calls;

@@ -1,6 +1,8 @@
 // The fewest changes as C and Rust call them, thin over a call of the layers below: the result is the answer's number,
 // 0 where it is accepted. The buffers are written only on success.
 //     whatif_fewest   the least number of nodes to relabel so that the plan is cleared, or no longer is
+#![tactic(auto)]
+
 ghost use Rattle.fewest.specs.Answers.{FewestTold};
 
 use fewest::call::fewest_changes;

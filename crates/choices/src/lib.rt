@@ -3,6 +3,8 @@
 //     node_counts      the counts of a node from those of its children
 //     part_steps       the steps of one part: its root, climbs and forks
 //     question_counts  the counts of all parts, as definitions, and what they are on tables as built
+#![tactic(auto)]
+
 mod checks;
 pub mod count;
 pub mod node_counts;

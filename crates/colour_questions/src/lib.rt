@@ -4,6 +4,8 @@
 //     parts          one part of a rule question
 //     branch         the branch question by colours
 //     rule           the rule question by colours
+#![tactic(auto)]
+
 pub mod branch;
 pub mod parts;
 pub mod path_drops;

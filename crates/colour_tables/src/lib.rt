@@ -6,6 +6,8 @@
 //     set_states  the sets of the colours at each node
 //     branch      the build for a branch table
 //     rule        the build for a rule table
+#![tactic(auto)]
+
 pub mod branch;
 pub mod forests;
 pub mod rows;

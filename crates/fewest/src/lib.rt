@@ -6,6 +6,8 @@
 //     down     the root's state, and the pass down
 //     list     the list of changes
 //     call     the checks and the call
+#![tactic(auto)]
+
 pub mod call;
 mod down;
 mod list;

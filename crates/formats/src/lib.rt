@@ -10,6 +10,8 @@
 //     inputs   the checks of whole calls, 10 and 11 among them
 //     buffers  check 17
 // A check returns the number of the first test that fails, and 0 where none does.
+#![tactic(auto)]
+
 mod branch;
 pub mod buffers;
 pub mod bytes;

@@ -2,6 +2,8 @@
 // a plan.
 //     out   from a planner's file to our plan
 //     home  from our plan to the planner's file
+#![tactic(auto)]
+
 pub mod home;
 pub mod out;
 

@@ -3,6 +3,8 @@
 //     layers  the roots of a question and one part
 //     places  the calls in place, run
 //     whole   Start, advances, a whole question and a whole life of a session in place, without the record's bytes
+#![tactic(auto)]
+
 pub mod eight;
 pub mod layers;
 pub mod places;

@@ -2,5 +2,7 @@
 //     merging              one table that clears what both clear (S-6)
 //     agreement            whether both clear the same plans (S-13)
 //     agreement/reachable  the search over the states that the product reaches
+#![tactic(auto)]
+
 pub mod agreement;
 pub mod merging;

@@ -2,6 +2,8 @@
 //     numbers  runs of bytes and of numbers of two bytes
 //     layout   where each run of the record's bytes begins
 //     bytes    the record's bytes, the bytes' record, and whether bytes are a record
+#![tactic(auto)]
+
 pub mod bytes;
 pub mod layout;
 mod numbers;

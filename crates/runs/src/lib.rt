@@ -3,6 +3,8 @@
 //     changes   a list of changes, marked node by node
 //     pass      the pass over the nodes
 //     fresh     the call
+#![tactic(auto)]
+
 pub mod answer;
 mod changes;
 pub mod fresh;

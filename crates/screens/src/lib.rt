@@ -2,6 +2,8 @@
 // and the theorems (proofs/). Of the code only the order of the screens is here, for the calls in place and on record
 // bytes.
 //     in_place  deal, start, cancel and read over &mut [Session]
+#![tactic(auto)]
+
 pub mod in_place;
 
 ghost use Rattle.std.specs.Prelude.{◌≡◌, ◌<◌};

@@ -13,6 +13,8 @@
 //     cancel   Cancel
 //     read     Read
 //     in_place  the same calls over &mut Session
+#![tactic(auto)]
+
 mod advance;
 pub mod answers;
 mod cancel;

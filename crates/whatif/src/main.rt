@@ -8,6 +8,8 @@
 //     chunk      the lines of the questions that a chunk of the input completes
 //     send       what is written
 //     asking     the questions, chunk by chunk
+#![tactic(auto)]
+
 mod ask;
 mod asking;
 mod chunk;

@@ -40,13 +40,12 @@ part-write-plan-end c = let z =
     sized c.before.before.before.before.before.before.before.before.before.before.before in omega arith
 
 write-plan-requires : tie.Need-write_plan-requires
-write-plan-requires c κs =
-    (
-      file_tree c.args.file.now,
-      write-args _ _ _ _ c.requires _ (counts-are _ _ _ _ c.requires) _ _
-          c.place_nodes.ensures _
-          (labels-are _ _ _ _ c.requires),
-    )
+write-plan-requires c κs = (
+  file_tree c.args.file.now,
+  write-args _ _ _ _ c.requires _ (counts-are _ _ _ _ c.requires) _ _
+      c.place_nodes.ensures _
+      (labels-are _ _ _ _ c.requires),
+)
 
 returns : tie.Need-returns
 returns c =
