@@ -1,12 +1,11 @@
 -- `step_on` meets its contract, by the move that `next_move` returns.
-use Prim.Native.Nat.{◌+◌, ◌*◌, ◌<◌}
-use mathlib.Core.Path.{refl, sym, ◌∙◌}
+use Prim.Native.Nat.{◌+◌, ◌*◌}
+use mathlib.Core.Path.{refl}
 use native.Mathlib.Omega.{arith}
 use lib.ListN.{length}
 use borrow.Author.Rules.{rules}
 use Rattle.tables.specs.node_tables.Cells.{cell_forest}
 use Rattle.tables.proofs.node_tables.MoveAnswerLaws.{answer-inside}
-use Rattle.tables.specs.Climbs.{View}
 use Rattle.tables.specs.inner.PathViews.{path_view}
 use Rattle.tables.proofs.LookupLaws.{map-place}
 use Rattle.tables.proofs.StepLaws.{step-jump, step-parent, step-stuck}

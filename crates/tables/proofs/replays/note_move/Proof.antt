@@ -1,13 +1,8 @@
-use mathlib.Core.Path.{sym, ◌∙◌}
 use Rattle.tables.specs.node_tables.Cells.{cell_forest}
 use Rattle.tables.proofs.ReplayLaws.{note-jump, note-parent, note-stuck}
-use native.Mathlib.Omega.{arith}
 use borrow.Author.Rules.{rules}
 use Rattle.tables.proofs.replays.note_move.Statement.{statement}
 use Rattle.tables.proofs.replays.note_move.Tie as tie
-use Rattle.tables.proofs.replays.note_move.Reads as reads
-use Rattle.tables.proofs.replays.note_move.Lts as lts
-use Rattle.tables.proofs.node_tables.moves.next_move.Reads as next-move-reads
 
 returns : tie.Need-returns-in-Jump
 returns c =

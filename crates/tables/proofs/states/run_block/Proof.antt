@@ -1,7 +1,7 @@
 -- `states::run_block` meets its contract. The loop's invariant, for any initial buffer: the block's leaves and the
 -- first i listed inner nodes have their states.
 use Prim.Native.Nat.{ℕ, ◌+◌, ◌-◌, ◌*◌, ◌≤◌, ◌<◌}
-use mathlib.Core.Path.{◌≡◌, refl, sym, ap, subst, ◌∙◌}
+use mathlib.Core.Path.{◌≡◌, refl, sym, subst}
 use mathlib.Core.List.{List}
 use native.Mathlib.Nat.{mul-le-mul_right}
 use lib.ListN.{length, get_or, set, length-set}
