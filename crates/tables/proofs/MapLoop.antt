@@ -34,7 +34,6 @@ use Rattle.tables.specs.inner.Maps.{Prepared, MapArgs, Maps}
 use Rattle.tables.specs.inner.MapPairs.{PairRowed, taken_on, row_of, col_of, right_value, left_value, PairArgs}
 use Rattle.tables.specs.inner.MapPairs.{PairsWritten, Pairs}
 use Rattle.tables.proofs.MapTableLaws.{state-no-map}
-use Rattle.tables.proofs.MapRowLaws.{row_other}
 use Rattle.tables.proofs.StateLoop.{rules-below}
 
 -- ---- passing leaves by: a leaf is nobody's parent

@@ -3,8 +3,8 @@
 --     Folding, folding-start .. folding-done  the loop that folds moves into a map
 --     Joined, joined-start .. joined-lost     the loop over parts
 --     part-done, part-lost, part_none         a climb that is one part
-use Prim.Native.Nat.{ℕ, zero, suc, ◌+◌, ◌-◌, ◌*◌, ◌/◌, ◌≤◌, ◌<◌}
-use mathlib.Core.Path.{◌≡◌, refl, sym, ap, ap₂, ◌∙◌, subst}
+use Prim.Native.Nat.{ℕ, zero, suc, ◌+◌, ◌-◌, ◌/◌, ◌≤◌, ◌<◌}
+use mathlib.Core.Path.{◌≡◌, refl, sym, ap, ap₂, ◌∙◌}
 use mathlib.Core.Bool.{Bool, true, false, cond}
 use mathlib.Core.List.{List, [], ◌∷◌, ◌++◌, append_assoc, append-nil}
 use mathlib.Core.Logic.{◌⊎◌, inl, inr}
@@ -17,11 +17,10 @@ use lib.ListN.{length, get_or, set, length-set, length-append}
 use lib.Seq.{get_or-set_same, get_or-set_other}
 use Rattle.trees.specs.Climb.{Forest, Move, target, next_move, and_then, before, climb, climb_end}
 use Rattle.trees.specs.Passed.{passed_by}
-use Rattle.trees.proofs.MoveLaws.{none-some, next-inside, next-rises}
+use Rattle.trees.proofs.MoveLaws.{next-inside, next-rises}
 use Rattle.trees.proofs.ClimbLaws.{climb-done, climb-move, climb-stuck}
 use Rattle.list_laws.proofs.BoolLaws.{true-false}
 use Rattle.tables.specs.node_tables.Cells.{depth_cell, cell_forest}
-use Rattle.tables.specs.declared.answers.Climbed.{Climbed}
 use Rattle.tables.specs.declared.answers.Climbed.TheVariants.{Reached as To, OutOfRange}
 use Rattle.tables.specs.declared.answers.Reached.{Reached}
 use Rattle.tables.specs.declared.replays.Note.{Note}

@@ -11,13 +11,12 @@ use mathlib.Core.List.{List, [], ◌∷◌, ◌++◌}
 use mathlib.Core.Option.{Option, none, some}
 use native.Mathlib.Omega.{arith}
 use native.Mathlib.Nat.{le_refl}
-use lib.Dec.{ltb, eqb}
-use lib.ListN.{length, get_or}
+use lib.Dec.{ltb}
+use lib.ListN.{get_or}
 use borrow.Author.Tests.{lt-ltb, le-ltb, eq-eqb, ne_eqb}
 use Rattle.trees.specs.Climb.{Forest, Move, via_jump, to_parent, target, next_move, and_then}
 use Rattle.trees.proofs.MoveLaws.{none-some}
 use Rattle.list_laws.proofs.BoolLaws.{true-false}
-use Rattle.tables.specs.declared.node_tables.moves.NextMove.{NextMove}
 use Rattle.tables.specs.declared.node_tables.moves.NextMove.TheVariants.{Jump, Parent, Stuck}
 use Rattle.tables.specs.node_tables.inner.MoveAnswers.{next_move_of}
 use Rattle.tables.proofs.node_tables.MoveAnswerLaws.{answer-jump, answer-parent, answer-stuck}

@@ -7,16 +7,14 @@ use mathlib.Core.Path.{◌≡◌, refl, sym, ap, ◌∙◌}
 use mathlib.Core.Bool.{cond}
 use mathlib.Core.Logic.{◌⊎◌, inl, inr}
 use mathlib.Core.Option.{Option, none, some, some-injective}
-use native.Mathlib.Omega.{arith}
 use native.Mathlib.Nat.{le_refl}
 use lib.Dec.{ltb}
 use lib.ListN.{get_or}
 use borrow.Author.Tests.{lt-ltb, le-ltb, eq-eqb, ne_eqb}
 use Rattle.trees.specs.Climb.{Forest, Move, via_jump, to_parent, target, next_move, and_then}
 use Rattle.list_laws.proofs.Choice.{le-or}
-use Rattle.trees.proofs.MoveLaws.{none-some, next_start, next-inside}
+use Rattle.trees.proofs.MoveLaws.{none-some}
 use Rattle.tables.specs.node_tables.Cells.{cell_forest}
-use Rattle.tables.specs.declared.node_tables.moves.NextMove.{NextMove}
 use Rattle.tables.specs.declared.node_tables.moves.NextMove.TheVariants.{Jump, Parent, Stuck}
 use Rattle.tables.specs.node_tables.inner.MoveAnswers.{next_move_of}
 use Rattle.tables.proofs.node_tables.MoveAnswerLaws.{answer-jump, answer-parent, answer-stuck}

@@ -7,7 +7,7 @@
 -- written n table entry == what a buffer holds afterwards: the table and the entry's excess, or the entry where refused
 -- BuildDone == a build's promise: the answer, its number and both buffers, on every input
 -- CheckDone == a full check's promise
-use Rattle.std.specs.Prelude.{ℕ, zero, suc, ◌≡◌, Bool, true, false, cond, ◌&&◌, List, ◌++◌, eqb, length, take, drop}
+use Rattle.std.specs.Prelude.{ℕ, zero, suc, ◌≡◌, Bool, true, false, cond, ◌&&◌, List, ◌++◌, length, take, drop}
 use Rattle.std.proofs.Math.Option.{Option, none, some}
 use Rattle.list_laws.specs.Tests.{same_list}
 use Rattle.tables.specs.declared.answers.Building.{Building}

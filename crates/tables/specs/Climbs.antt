@@ -11,7 +11,7 @@
 -- climbed_of o == that as an answer, OutOfRange for none; climbed_number a == document 01's number of an answer: 18 for OutOfRange
 --
 -- Not here: which climbs a part makes (crate questions, Part). N, S and K are the caller's (in the session the record's); no header is read.
-use Rattle.std.specs.Prelude.{ℕ, ◌+◌, ◌-◌, ◌*◌, Bool, cond, List, leb, ltb, eqb, length, get_or, take, drop}
+use Rattle.std.specs.Prelude.{ℕ, ◌+◌, ◌-◌, ◌*◌, cond, List, leb, ltb, eqb, length, get_or, take, drop}
 use Rattle.std.proofs.Math.Option.{Option, none, some}
 use Rattle.trees.specs.Climb.{Move, via_jump, to_parent, and_then, climb, carry}
 use Rattle.trees.specs.Passed.{passed_by}

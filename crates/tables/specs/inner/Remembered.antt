@@ -10,7 +10,7 @@
 -- entry_of s m x r == r is entry x of the map m, no state where x or that entry is none
 -- Folded s m f c out == the first c entries of out are f and then the map m
 -- NoteArgs, StateArgs, RememberArgs, FoldArgs, ReplayArgs == limits, and runs that are long enough
-use Rattle.std.specs.Prelude.{ℕ, zero, suc, ◌+◌, ◌*◌, ◌/◌, ◌%◌, ◌≤◌, ◌<◌, ◌≡◌, true, false, cond, List, [], ◌∷◌, ◌++◌, ◌⊎◌, eqb, length, get_or}
+use Rattle.std.specs.Prelude.{ℕ, zero, suc, ◌+◌, ◌*◌, ◌/◌, ◌%◌, ◌≤◌, ◌<◌, ◌≡◌, true, cond, List, [], ◌∷◌, ◌++◌, ◌⊎◌, eqb, length, get_or}
 use Rattle.std.proofs.Math.Option.{Option, none, some}
 use Rattle.trees.specs.Climb.{Forest, Move, via_jump, to_parent, target, next_move, and_then, climb, climb_end}
 use Rattle.formats.specs.Limits.{node_limit, state_limit}

@@ -1,7 +1,6 @@
 -- `compare::near_row_is` meets its contract. The loop's invariant: the flag compares the entries passed.
 use Prim.Native.Nat.{ℕ, ◌≤◌, ◌-◌}
 use mathlib.Core.Path.{◌≡◌, refl, ◌∙◌}
-use mathlib.Core.Logic.{inl, inr}
 use lib.Dec.{eqb}
 use Rattle.tables.specs.StateCells.{map_cell}
 use Rattle.tables.specs.inner.Compare.{every, near_entry}
@@ -10,6 +9,7 @@ use native.Mathlib.Omega.{arith}
 use borrow.Author.Rules.{rules}
 use Rattle.tables.proofs.compare.near_row_is.Statement.{statement}
 use Rattle.tables.proofs.compare.near_row_is.Tie as tie
+use Rattle.tables.proofs.compare.near_row_is.Lts.{then-x-y, else-x-y}
 
 abbrev invariant-loop : tie.invariant-loop-q
 invariant-loop state_table s v table base stride at same₀ q₀ same q =
@@ -42,8 +42,8 @@ loop-again c =
     let g : ℕ → ℕ = near_entry a.table.now a.base a.stride in (
       omega arith,
       elim c.if-x-y.branch [
-        | inl w ↦ w.1 ∙ every-other l.q (map_cell a.s a.state_table.now a.v) g w.0.taken
-        | inr w ↦ w.1 ∙ every-same l.q (map_cell a.s a.state_table.now a.v) g l.same l.invariant.1 w.0.left
+        | then-x-y w ↦ w.same-is ∙ every-other l.q (map_cell a.s a.state_table.now a.v) g w.if-x-y.true
+        | else-x-y w ↦ w.same-is ∙ every-same l.q (map_cell a.s a.state_table.now a.v) g l.same l.invariant.1 w.if-x-y.false
       ],
     )
 

@@ -1,7 +1,6 @@
 -- `compare::root_row_is` meets its contract. The loop's invariant: the flag compares the entries passed.
 use Prim.Native.Nat.{◌≤◌, ◌+◌, ◌-◌, ◌*◌}
 use mathlib.Core.Path.{◌≡◌, refl, ◌∙◌}
-use mathlib.Core.Logic.{inl, inr}
 use lib.Dec.{eqb}
 use Rattle.tables.specs.StateCells.{map_cell}
 use Rattle.tables.specs.inner.Compare.{every}
@@ -10,6 +9,7 @@ use native.Mathlib.Omega.{arith}
 use borrow.Author.Rules.{rules}
 use Rattle.tables.proofs.compare.root_row_is.Statement.{statement}
 use Rattle.tables.proofs.compare.root_row_is.Tie as tie
+use Rattle.tables.proofs.compare.root_row_is.Lts.{then-x-q, else-x-q}
 
 abbrev invariant-loop : tie.invariant-loop-q
 invariant-loop state_table s v at same₀ q₀ same q =
@@ -33,9 +33,9 @@ loop-again c =
     let a = c.before.before.before.before.args in (
       omega arith,
       elim c.if-x-q.branch [
-        | inl w ↦ w.1 ∙ every-other l.q (map_cell a.s a.state_table.now a.v) (λ x. x) w.0.taken
-        | inr w ↦ w.1
-            ∙ every-same l.q (map_cell a.s a.state_table.now a.v) (λ x. x) l.same l.invariant.1 w.0.left
+        | then-x-q w ↦ w.same-is ∙ every-other l.q (map_cell a.s a.state_table.now a.v) (λ x. x) w.if-x-q.true
+        | else-x-q w ↦ w.same-is
+            ∙ every-same l.q (map_cell a.s a.state_table.now a.v) (λ x. x) l.same l.invariant.1 w.if-x-q.false
       ],
     )
 

@@ -4,7 +4,7 @@ use Prim.Native.Nat.{ℕ, ◌+◌, ◌-◌, ◌≤◌, ◌<◌}
 use mathlib.Core.Path.{◌≡◌, refl, ap, ◌∙◌, subst}
 use mathlib.Core.List.{List}
 use lib.ListN.{length, get_or}
-use Rattle.tables.specs.node_tables.inner.InnerNodes.{from, Listed}
+use Rattle.tables.specs.node_tables.inner.InnerNodes.{from}
 use Rattle.tables.proofs.node_tables.InnerNodeLaws.{from_zero, from_next}
 use Rattle.tables.specs.inner.MapPairs.{Pairs}
 use Rattle.tables.proofs.MapLoop.{pairs-down, pairs-turn, pair-args, list-args}

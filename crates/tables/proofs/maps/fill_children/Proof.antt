@@ -4,7 +4,6 @@ use mathlib.Core.Path.{◌≡◌, sym, subst}
 use mathlib.Core.List.{List}
 use Rattle.tables.specs.node_tables.inner.UpPass.{left_of}
 use Rattle.tables.specs.inner.MapPairs.{PairRowed, right_value, left_value, PairArgs}
-use native.Mathlib.Omega.{arith}
 use borrow.Author.Rules.{rules}
 use Rattle.tables.proofs.maps.fill_children.Statement.{statement}
 use Rattle.tables.proofs.maps.fill_children.Tie as tie

@@ -3,7 +3,6 @@ use Prim.Native.Nat.{ℕ, ◌+◌, ◌*◌}
 use mathlib.Core.Path.{sym, subst}
 use lib.ListN.{length, get_or}
 use Rattle.tables.specs.inner.MapPairs.{PairRowed, NearPairArgs}
-use native.Mathlib.Omega.{arith}
 use borrow.Author.Rules.{rules}
 use Rattle.tables.proofs.pair_rows.near_pair.Statement.{statement}
 use Rattle.tables.proofs.pair_rows.near_pair.Tie as tie

@@ -2,7 +2,6 @@
 use Prim.Native.Nat.{◌+◌, ◌*◌}
 use lib.ListN.{get_or}
 use Rattle.tables.proofs.PairMaps.{pair-rowed}
-use native.Mathlib.Omega.{arith}
 use borrow.Author.Rules.{rules}
 use Rattle.tables.proofs.pair_rows.near_rows.Statement.{statement}
 use Rattle.tables.proofs.pair_rows.near_rows.Tie as tie

@@ -4,8 +4,6 @@ use native.Mathlib.Omega.{arith}
 use borrow.Author.Rules.{rules}
 use Rattle.tables.proofs.replays.entry_of.Statement.{statement}
 use Rattle.tables.proofs.replays.entry_of.Tie as tie
-use Rattle.tables.proofs.replays.entry_of.Reads as reads
-use Rattle.tables.proofs.replays.entry_of.Lts as lts
 
 returns : tie.Need-returns-then-s-x
 returns c =

@@ -7,10 +7,6 @@ use native.Mathlib.Omega.{arith}
 use borrow.Author.Rules.{rules}
 use Rattle.tables.proofs.replays.fold_moves.Statement.{statement}
 use Rattle.tables.proofs.replays.fold_moves.Tie as tie
-use Rattle.tables.proofs.replays.fold_moves.Reads as reads
-use Rattle.tables.proofs.replays.fold_moves.Lts as lts
-use Rattle.tables.proofs.replays.entry_of.Reads as entry-of-reads
-use Rattle.tables.proofs.replays.replay.Reads as replay-reads
 
 abbrev invariant-loop : tie.invariant-loop-q
 invariant-loop map moves count labels steps state_table n s k out₀ q₀ out q =

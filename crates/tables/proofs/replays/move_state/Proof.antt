@@ -7,8 +7,6 @@ use native.Mathlib.Omega.{arith}
 use borrow.Author.Rules.{rules}
 use Rattle.tables.proofs.replays.move_state.Statement.{statement}
 use Rattle.tables.proofs.replays.move_state.Tie as tie
-use Rattle.tables.proofs.replays.move_state.Reads as reads
-use Rattle.tables.proofs.replays.move_state.Lts as lts
 
 mul-result : tie.Need-overflow_mul-result
 mul-result c =

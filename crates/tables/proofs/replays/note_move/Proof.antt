@@ -1,34 +1,23 @@
-use mathlib.Core.Path.{sym, ◌∙◌}
 use Rattle.tables.specs.node_tables.Cells.{cell_forest}
 use Rattle.tables.proofs.ReplayLaws.{note-jump, note-parent, note-stuck}
-use native.Mathlib.Omega.{arith}
 use borrow.Author.Rules.{rules}
 use Rattle.tables.proofs.replays.note_move.Statement.{statement}
 use Rattle.tables.proofs.replays.note_move.Tie as tie
-use Rattle.tables.proofs.replays.note_move.Reads as reads
-use Rattle.tables.proofs.replays.note_move.Lts as lts
-use Rattle.tables.proofs.node_tables.moves.next_move.Reads as next-move-reads
 
 returns : tie.Need-returns-in-Jump
 returns c =
-    let s = c.before.before.before.before in
-    let g = s.args in
-    note-jump (cell_forest g.n g.node_table.now) g.v g.to c.before.j-1.given.0.0
-    (sym c.before.j-1.given.1 ∙ c.before.before.before.next_move.ensures)
+    let g = c.args in
+    note-jump (cell_forest g.n g.node_table.now) g.v g.to c.in-Jump.j c.in-Jump.ensures
 
 returns-2 : tie.Need-returns-in-Parent
 returns-2 c =
-    let s = c.before.before.before.before in
-    let g = s.args in
-    note-parent (cell_forest g.n g.node_table.now) g.v g.to c.before.p-1.given.0.0
-    (sym c.before.p-1.given.1 ∙ c.before.before.before.next_move.ensures)
+    let g = c.args in
+    note-parent (cell_forest g.n g.node_table.now) g.v g.to c.in-Parent.p c.in-Parent.ensures
 
 returns-3 : tie.Need-returns-in-Stuck
 returns-3 c =
-    let s = c.before.before.before in
-    let g = s.args in
-    note-stuck (cell_forest g.n g.node_table.now) g.v g.to
-    (sym c.enum_told-1.given.1 ∙ c.before.before.next_move.ensures)
+    let g = c.args in
+    note-stuck (cell_forest g.n g.node_table.now) g.v g.to c.in-Stuck.ensures
 
 pub note_move_spec : {M : Type 1} → statement M
 note_move_spec =

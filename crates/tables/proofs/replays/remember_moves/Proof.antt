@@ -6,10 +6,6 @@ use native.Mathlib.Omega.{arith}
 use borrow.Author.Rules.{rules}
 use Rattle.tables.proofs.replays.remember_moves.Statement.{statement}
 use Rattle.tables.proofs.replays.remember_moves.Tie as tie
-use Rattle.tables.proofs.replays.remember_moves.Reads as reads
-use Rattle.tables.proofs.replays.remember_moves.Lts as lts
-use Rattle.tables.proofs.node_tables.moves.depth_at.Reads as depth-at-reads
-use Rattle.tables.proofs.replays.note_move.Reads as note-move-reads
 
 abbrev invariant-loop : tie.invariant-loop-n
 invariant-loop moves₀ node_table n from to v₀ count₀ moves v count = Noting n node_table from to moves v count

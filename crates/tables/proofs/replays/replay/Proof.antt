@@ -4,9 +4,6 @@ use native.Mathlib.Omega.{arith}
 use borrow.Author.Rules.{rules}
 use Rattle.tables.proofs.replays.replay.Statement.{statement}
 use Rattle.tables.proofs.replays.replay.Tie as tie
-use Rattle.tables.proofs.replays.replay.Reads as reads
-use Rattle.tables.proofs.replays.replay.Lts as lts
-use Rattle.tables.proofs.replays.move_state.Reads as move-state-reads
 
 abbrev invariant-loop : tie.invariant-loop-i
 invariant-loop moves count labels steps state_table n s k q x₀ i₀ x i = Replaying s k labels steps state_table moves count q i x

@@ -1,17 +1,11 @@
-use Prim.Native.Nat.{ℕ, ◌-◌, ◌+◌, ◌*◌, ◌≤◌, ◌<◌}
-use mathlib.Core.Path.{◌≡◌, refl, sym, ap₂, ◌∙◌}
+use Prim.Native.Nat.{ℕ, ◌-◌, ◌+◌, ◌*◌}
+use mathlib.Core.Path.{ap₂, ◌∙◌}
 use borrow.Author.Tests.{not-true, not-false}
 use Rattle.tables.proofs.RememberLoop.{replay-none, replay-lost, replay-done, part-whole, part_none, part-passed, part-links}
 use native.Mathlib.Omega.{arith}
 use borrow.Author.Rules.{rules}
 use Rattle.tables.proofs.replays.replay_climb.Statement.{statement}
 use Rattle.tables.proofs.replays.replay_climb.Tie as tie
-use Rattle.tables.proofs.replays.replay_climb.Reads as reads
-use Rattle.tables.proofs.replays.replay_climb.Lts as lts
-use Rattle.tables.proofs.node_tables.moves.depth_at.Reads as depth-at-reads
-use Rattle.tables.proofs.replays.remember_moves.Reads as remember-moves-reads
-use Rattle.tables.proofs.replays.replay.Reads as replay-reads
-use Rattle.tables.proofs.replays.replay_parts.Reads as replay-parts-reads
 
 returns : tie.Need-returns-then-not-x
 returns c =

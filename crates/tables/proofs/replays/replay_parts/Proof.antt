@@ -1,7 +1,7 @@
-use Prim.Native.Nat.{ℕ, ◌-◌, ◌+◌, ◌*◌, ◌≤◌, ◌<◌}
-use mathlib.Core.Path.{◌≡◌, refl, sym, ap₂, ◌∙◌}
+use Prim.Native.Nat.{ℕ, ◌-◌, ◌+◌, ◌*◌}
+use mathlib.Core.Path.{◌≡◌, refl, ap₂, ◌∙◌}
 use borrow.Author.Tests.{not-true, not-false}
-use lib.ListN.{length, get_or}
+use lib.ListN.{length}
 use Rattle.tables.specs.node_tables.Cells.{depth_cell}
 use Rattle.tables.proofs.RememberLoop.{Joined, sixteen, joined-start, joined-lost, joined-whole, joined-passed, joined-rises, joined-iteration}
 use Rattle.tables.proofs.RememberLoop.{replay-lost, replay-done}
@@ -9,11 +9,6 @@ use native.Mathlib.Omega.{arith}
 use borrow.Author.Rules.{rules}
 use Rattle.tables.proofs.replays.replay_parts.Statement.{statement}
 use Rattle.tables.proofs.replays.replay_parts.Tie as tie
-use Rattle.tables.proofs.replays.replay_parts.Reads as reads
-use Rattle.tables.proofs.replays.replay_parts.Lts as lts
-use Rattle.tables.proofs.node_tables.moves.depth_at.Reads as depth-at-reads
-use Rattle.tables.proofs.replays.fold_moves.Reads as fold-moves-reads
-use Rattle.tables.proofs.replays.remember_moves.Reads as remember-moves-reads
 
 abbrev invariant-loop : tie.invariant-loop-moves
 invariant-loop labels steps node_table state_table n s k from to q map₀ moves₀ v₀ links₀ map moves v links =

@@ -1,7 +1,7 @@
 -- `states::leaf_states` meets its contract. The loop's invariant: the nodes below v have their states as leaves, no
 -- other byte is changed.
 use Prim.Native.Nat.{ℕ, ◌+◌, ◌-◌, ◌*◌, ◌≤◌, ◌<◌}
-use mathlib.Core.Path.{◌≡◌, refl, subst, ◌∙◌}
+use mathlib.Core.Path.{◌≡◌, refl, subst}
 use lib.ListN.{length, length-set}
 use Rattle.list_laws.proofs.RowLaws.{stride}
 use Rattle.tables.specs.inner.States.{Leaves}

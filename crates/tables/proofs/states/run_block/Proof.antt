@@ -1,7 +1,7 @@
 -- `states::run_block` meets its contract. The loop's invariant, for any initial buffer: the block's leaves and the
 -- first i listed inner nodes have their states.
 use Prim.Native.Nat.{ℕ, ◌+◌, ◌-◌, ◌*◌, ◌≤◌, ◌<◌}
-use mathlib.Core.Path.{◌≡◌, refl, sym, ap, subst, ◌∙◌}
+use mathlib.Core.Path.{◌≡◌, refl, sym, subst}
 use mathlib.Core.List.{List}
 use native.Mathlib.Nat.{mul-le-mul_right}
 use lib.ListN.{length, get_or, set, length-set}
@@ -103,7 +103,7 @@ state-args a =
 
 -- the leaves before the listed node are passed by
 before-node : (t : tie.In-loop-i invariant-loop decreases-loop) (first : List ℕ)
-    → Reached t.before (start t.before).args.b first (leafing t.before).leaf_states.last.1.1.1.1.1.0
+    → Reached t.before (start t.before).args.b first (leafing t.before).leaf_states.new.state_table
     → Reached t.before (node t.before) first t.before.loop-i.state_table
 before-node t first W =
     let a = t.before in
@@ -134,16 +134,16 @@ cast-v c = omega (arith, c.slice_known-in-loop-i-1.given c.before.before.loop-i.
 
 shared-slice-read-inner-state : tie.Need-bounds-labels-v invariant-loop decreases-loop
 shared-slice-read-inner-state c =
-    let t = c.before.before.before in
+    let t = c.before.before in
     let s = start t.before in
     omega (arith, inner-at t, s.requires.inside, s.requires.args.count)
 
 cast-inner-state : tie.Need-overflow_cast-labels invariant-loop decreases-loop
-cast-inner-state c = omega (arith, c.shared_slice_known-in-loop-i-1.given (node c.before.before.before.before))
+cast-inner-state c = omega (arith, c.shared_slice_known-in-loop-i-1.given (node c.before.before.before))
 
 inner-state-requires : tie.Need-inner_state-x-requires invariant-loop decreases-loop
 inner-state-requires c κs =
-    let t = c.before.before.before in
+    let t = c.before.before in
     let a = t.before in
     let s = start a in
     let g = s.args in
@@ -154,17 +154,17 @@ inner-state-requires c κs =
 
 mul-state-table : tie.Need-overflow_mul-state_table invariant-loop decreases-loop
 mul-state-table c =
-    let t = c.before.before.before.before in
+    let t = c.before.before.before in
     let s = start t.before in
     let h : node t.before ≤ 65535 = omega (arith, inner-at t, s.requires.inside, s.requires.args.most) in
     omega (arith, mul-le-mul_right (s.args.s + 1) h, s.requires.args.rules.few)
 
 slice-write-state-table : tie.Need-bounds-state_table-v invariant-loop decreases-loop
-slice-write-state-table c = place_in c.before.before.before.before
+slice-write-state-table c = place_in c.before.before.before
 
 loop-again : tie.Need-loop-i-preserved invariant-loop decreases-loop
 loop-again c =
-    let t = c.before.before.before.before in
+    let t = c.before.before.before in
     let a = t.before in
     let s = start a in
     let g = s.args in
@@ -186,7 +186,7 @@ returns c first W =
     let s = start a in
     let g = s.args in
     let li = (listing a).list_inner-c in
-    let l = li.last.1.1.1.0 in
+    let l = li.new.list in
     let z : a.loop-i.i ≡ li.result = omega (arith, a.loop-i.invariant.0, c.loop-i-test.false) in
     states-end g.s g.k g.leaves.now g.inner.now g.kinds.now g.labels.now g.e first
     a.loop-i.state_table

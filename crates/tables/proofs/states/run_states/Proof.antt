@@ -1,6 +1,6 @@
 -- `states::run_states` meets its contract. The loop's invariant: the state bytes below b are the run's, no other byte
 -- is changed.
-use Prim.Native.Nat.{ℕ, ◌+◌, ◌-◌, ◌≤◌}
+use Prim.Native.Nat.{ℕ, ◌-◌, ◌≤◌}
 use mathlib.Core.Path.{◌≡◌, refl, subst}
 use lib.ListN.{length}
 use Rattle.tables.specs.inner.States.{StateArgs, Runs}

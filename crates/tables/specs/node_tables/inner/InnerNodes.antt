@@ -5,7 +5,7 @@
 -- Listed ks b e c l == the first c elements of l are the inner nodes of b, .. e - 1 by the kinds ks, in rising order:
 --   between two of them, before the first and after the last there are leaves only
 -- ListArgs ks b e m == what listing them into m cells needs
-use Rattle.std.specs.Prelude.{ℕ, zero, suc, ◌+◌, ◌-◌, ◌≤◌, ◌<◌, ◌≡◌, List, length, get_or}
+use Rattle.std.specs.Prelude.{ℕ, zero, suc, ◌+◌, ◌≤◌, ◌<◌, ◌≡◌, List, length, get_or}
 use Rattle.formats.specs.Limits.{node_limit}
 
 abbrev pub block_length : ℕ

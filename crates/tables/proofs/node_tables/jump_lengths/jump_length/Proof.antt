@@ -4,7 +4,6 @@ use mathlib.Core.Path.{ap}
 use mathlib.Core.List.{List}
 use lib.ListN.{get_or}
 use native.Mathlib.Omega.{arith}
-use borrow.Author.Rules.{rules}
 use Rattle.tables.proofs.node_tables.jump_lengths.jump_length.Statement.{statement}
 use Rattle.tables.proofs.node_tables.jump_lengths.jump_length.Tie as tie
 

@@ -1,7 +1,7 @@
 -- `write_up` meets its contract. The loop's invariant: sizes and parents are written as far as the pass has come, and
 -- no other cell has changed.
 use Prim.Native.Nat.{◌≤◌, ◌-◌, ◌*◌}
-use mathlib.Core.Path.{◌≡◌, refl, ◌∙◌}
+use mathlib.Core.Path.{◌≡◌, refl}
 use lib.ListN.{length, length-set}
 use Rattle.trees.proofs.PostorderLaws.{some_node}
 use Rattle.tables.proofs.node_tables.UpLoop.{UpsWritten, nothing_written, turns, turn-room, all-written}

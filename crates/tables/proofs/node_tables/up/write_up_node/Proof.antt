@@ -5,8 +5,6 @@ use native.Mathlib.Omega.{arith}
 use borrow.Author.Rules.{rules}
 use Rattle.tables.proofs.node_tables.up.write_up_node.Statement.{statement}
 use Rattle.tables.proofs.node_tables.up.write_up_node.Tie as tie
-use Rattle.tables.proofs.node_tables.up.write_up_node.Reads as reads
-use Rattle.tables.proofs.node_tables.up.write_up_node.Lts as lts
 
 slice-read-size : tie.Need-bounds-node_table-right
 slice-read-size c = simp length-set (omega arith)
