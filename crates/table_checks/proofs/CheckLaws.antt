@@ -190,7 +190,7 @@ module _ (ks ls node_table lv inn : List ℕ) (s k : ℕ) (state_table : List �
 
   all-linked : All ks ls node_table lv inn s k state_table → NodePairs ks node_table
   all-linked A =
-      let r = root_told (length ks - 1) A.root_node_is in
+      let r = root_told (length ks - 1) A.root-node-is in
       record {
         leaves = λ v h e. (leaf-told v (A.nodes.leaves v (omega arith) h e)).0;
         pairs = λ v h e. pair-told (length ks) node_table v (node-told v (A.nodes.pairs v (omega arith) h e)).0;
@@ -305,7 +305,7 @@ module _ (ks ls node_table lv inn : List ℕ) (s k : ℕ) (state_table : List �
 
   pub root-node-is-no : root_node node_table (length ks - 1) ≡ false
       → TablesTested s k lv inn ks ls node_table state_table false
-  root-node-is-no ne = told-false (λ mk t ek el d e. true-false (sym (built-all mk t ek el d e).root_node_is ∙ ne))
+  root-node-is-no ne = told-false (λ mk t ek el d e. true-false (sym (built-all mk t ek el d e).root-node-is ∙ ne))
 
   pub root-row-no : row_equals s state_table (length ks - 1) (λ q. q) ≡ false
       → TablesTested s k lv inn ks ls node_table state_table false
