@@ -16,10 +16,10 @@ use lib.ListN.{length, get_or, take, length-take}
 use lib.Seq.{get_or-take}
 use borrow.Author.Tests.{eqb-true, eq-eqb}
 use Rattle.trees.specs.Tree.{Tree, kinds_of, labels_of, size}
-use Rattle.trees.specs.Numbering.{sub, parent}
+use Rattle.trees.specs.Numbering.{sub}
 use Rattle.trees.specs.Tables.{node_table_of, state_table_of}
 use Rattle.trees.specs.Postorder.{is_postorder}
-use Rattle.trees.proofs.NodeLaws.{Inner, inner, Up, up, size-pos}
+use Rattle.trees.proofs.NodeLaws.{inner, size-pos}
 use Rattle.list_laws.proofs.RowLaws.{Cell, cell-split}
 use Rattle.trees.proofs.RunLaws.{state_below}
 use Rattle.trees.proofs.MapLaws.{state_map-below}
