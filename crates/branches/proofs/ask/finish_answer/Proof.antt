@@ -1,12 +1,9 @@
 use mathlib.Core.Path.{sym, ap, subst}
 use lib.ListN.{length}
 use Rattle.branches.specs.inner.Finish.{told_of, StateIn}
-use native.Mathlib.Omega.{arith}
 use borrow.Author.Rules.{rules}
 use Rattle.branches.proofs.ask.finish_answer.Statement.{statement}
 use Rattle.branches.proofs.ask.finish_answer.Tie as tie
-use Rattle.branches.proofs.ask.finish_answer.Reads as reads
-use Rattle.branches.proofs.ask.finish_answer.Lts as lts
 
 shared-slice-read-mark : tie.Need-bounds-marks-x
 shared-slice-read-mark c =

@@ -1,11 +1,7 @@
-use native.Mathlib.Omega.{arith}
 use Rattle.branches.proofs.FinishLaws.{first-start}
 use borrow.Author.Rules.{rules}
 use Rattle.branches.proofs.ask.first_state.Statement.{statement}
 use Rattle.branches.proofs.ask.first_state.Tie as tie
-use Rattle.branches.proofs.ask.first_state.Reads as reads
-use Rattle.branches.proofs.ask.first_state.Lts as lts
-use Rattle.branches.proofs.ask.after_upper.Reads as after-upper-reads
 
 returns : tie.Need-returns-in-WithUpper
 returns c = rw c.in-WithUpper.is c.after_upper.ensures
