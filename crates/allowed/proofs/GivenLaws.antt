@@ -4,13 +4,13 @@
 --     given-right, given-left   at a child, the state that follows at its parent is put in there
 --     given-replaced            a state put in is that of any subtree put in
 use Prim.Native.Nat.{ℕ, ◌+◌, ◌-◌, ◌≤◌, ◌<◌}
-use mathlib.Core.Path.{◌≡◌, refl, sym, ap, ap₂, ◌∙◌}
+use mathlib.Core.Path.{◌≡◌, refl, sym, ap, ◌∙◌}
 use native.Mathlib.Omega.{arith}
 use Rattle.trees.specs.Tree.{Tree, leaf, node, size, kind_at, label_at}
 use Rattle.trees.specs.Automaton.{Automaton, state}
-use Rattle.trees.specs.Numbering.{split, sub}
+use Rattle.trees.specs.Numbering.{sub}
 use Rattle.trees.proofs.NodeLaws.{Place, in_l, in_r, top, place, split-left, split-right, split-top, size-pos, sub-size}
-use Rattle.trees.proofs.RunLaws.{Children, children}
+use Rattle.trees.proofs.RunLaws.{children}
 use Rattle.allowed.specs.Clearing.{state_given, replaced}
 
 -- ---- where the node is: in the left part, in the right part, or at the root

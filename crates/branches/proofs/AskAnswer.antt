@@ -4,7 +4,7 @@
 --     answer-told                          the answer from the end of the climb
 use Prim.Native.Nat.{ℕ, ◌+◌, ◌*◌, ◌≤◌, ◌<◌}
 use mathlib.Core.Path.{◌≡◌, refl, sym, ap, ◌∙◌}
-use mathlib.Core.Bool.{Bool, true, false, cond}
+use mathlib.Core.Bool.{Bool, cond}
 use mathlib.Core.List.{List}
 use mathlib.Core.Option.{Option, none, some}
 use native.Mathlib.Omega.{arith}
@@ -21,14 +21,13 @@ use Rattle.branches.specs.declared.answers.Reading.{Reading}
 use Rattle.branches.specs.declared.answers.Branching.{Branching}
 use Rattle.branches.specs.declared.answers.Branching.TheVariants.{Refused}
 use Rattle.branches.specs.declared.answers.Branched.{Branched}
-use Rattle.branches.specs.Question.{first_state, branched, branch_on, branch_answer}
+use Rattle.branches.specs.Question.{branched, branch_on, branch_answer}
 use Rattle.formats.specs.Plan.{labels_within}
 use Rattle.formats.specs.Rules.{branch_steps, branch_marks, branch_automaton}
 use Rattle.tables.specs.node_tables.Cells.{depth_cell}
 use Rattle.branches.specs.inner.Finish.{first_of, numbered, told_of, StateIn, FirstArgs, AnswerArgs}
 use Rattle.tables.specs.declared.answers.Reached.{Reached}
 use Rattle.tables.specs.declared.answers.Climbed.{Climbed}
-use Rattle.tables.specs.declared.answers.Climbed.TheVariants.{Reached as To, OutOfRange}
 use Rattle.tables.specs.Climbs.{climbed_of}
 use Rattle.tables.specs.Replays.{replay_on}
 use Rattle.tables.specs.inner.Remembered.{ReplayArgs}

@@ -15,9 +15,8 @@ use Rattle.trees.specs.Automaton.{WordAutomaton}
 use Rattle.trees.specs.Numbering.{depth}
 use Rattle.trees.specs.Climb.{forest_of, Move, climb}
 use Rattle.trees.specs.Passed.{passed_by}
-use Rattle.trees.specs.Tables.{node_table_of, branch_table_of, branch_row, branch_map}
-use Rattle.list_laws.proofs.RowLaws.{length-rows}
-use Rattle.trees.proofs.TableRows.{length-branch_row, branch_table-map}
+use Rattle.trees.specs.Tables.{node_table_of, branch_table_of, branch_map}
+use Rattle.trees.proofs.TableRows.{branch_table-map}
 use Rattle.trees.proofs.ClimbLaws.{Tells, same-climb}
 use Rattle.trees.proofs.PassedLaws.{same-passed}
 use Rattle.formats.specs.Plan.{node_count, labels_within, plan_tree}

@@ -3,7 +3,7 @@
 --     first_runs                  the first state is read from the runs of labels and steps
 --     Handed, handed, replay-is   what is handed on is the caller's input
 use Prim.Native.Nat.{ℕ, ◌+◌, ◌-◌, ◌*◌, ◌<◌}
-use mathlib.Core.Path.{◌≡◌, refl, sym, ap, ◌∙◌, subst}
+use mathlib.Core.Path.{◌≡◌, refl, sym, ap, ◌∙◌}
 use mathlib.Core.List.{List}
 use mathlib.Core.Option.{Option, none, some, some-injective}
 use lib.ListN.{length, take, drop}

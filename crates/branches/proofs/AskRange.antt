@@ -5,8 +5,8 @@
 --     usable-in-range                    numbers as built and maps of states lead nowhere outside: there 18 has no cause
 --     bytes-usable, built-usable         so where all bytes are below S, and so on tables as built
 --     built-in-range                     tables as built lead nowhere outside
-use Prim.Native.Nat.{ℕ, ◌+◌, ◌*◌, ◌≤◌, ◌<◌}
-use mathlib.Core.Path.{◌≡◌, refl, sym, ap, ◌∙◌, subst}
+use Prim.Native.Nat.{ℕ, ◌+◌, ◌*◌, ◌<◌}
+use mathlib.Core.Path.{◌≡◌, refl, sym, ap, subst}
 use mathlib.Core.Bool.{Bool, true, false, cond, ◌&&◌}
 use mathlib.Core.List.{List, [], ◌∷◌}
 use mathlib.Core.Logic.{◌⊎◌, inl, inr}

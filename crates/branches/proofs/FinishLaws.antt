@@ -1,17 +1,16 @@
 -- Check 16, and the first state of a branch question.
 --     in-subtree-is, is-in-subtree                       what it says, and back
 --     first-no-label, first-label, first-start           the first state, in each reading
-use Prim.Native.Nat.{ℕ, ◌+◌, ◌-◌, ◌*◌, ◌≤◌, ◌<◌}
-use mathlib.Core.Path.{◌≡◌, sym, ap, ◌∙◌}
-use mathlib.Core.Bool.{true, false}
+use Prim.Native.Nat.{ℕ, ◌+◌, ◌*◌, ◌≤◌, ◌<◌}
+use mathlib.Core.Path.{◌≡◌, ap}
+use mathlib.Core.Bool.{true}
 use mathlib.Core.List.{List}
 use native.Mathlib.Omega.{arith}
 use lib.Dec.{leb, ltb}
 use lib.ListN.{get_or}
-use borrow.Author.Tests.{leb-true, le-leb, lt-leb, ltb-true, lt-ltb, le-ltb}
+use borrow.Author.Tests.{leb-true, le-leb, ltb-true, lt-ltb, le-ltb}
 use Rattle.trees.specs.Numbering.{is_in_subtree}
-use Rattle.list_laws.proofs.Choice.{le-or}
-use Rattle.list_laws.proofs.BoolLaws.{and_both, and_left, and_right, and-no-left, and-no-right}
+use Rattle.list_laws.proofs.BoolLaws.{and_both, and_left, and_right}
 use Rattle.tables.specs.node_tables.Cells.{size_cell}
 use Rattle.tables.specs.node_tables.Cells.{is_in_subtree_on}
 use Rattle.branches.specs.declared.answers.Reading.TheVariants.{WithUpper, BelowUpper}

@@ -6,7 +6,7 @@
 -- BranchUsable p r node_table state_table == plan, branch table and node table as built, and every map byte below S
 -- links_told answer, passed_told answer == the links of an answer, and the nodes passed over; 0 of a refusal
 -- AskDone reading .. == the promise of a branch question
-use Rattle.std.specs.Prelude.{ℕ, ◌-◌, ◌<◌, ◌≤◌, ◌*◌, ◌≡◌, Bool, true, false, List, ◌↔◌, length}
+use Rattle.std.specs.Prelude.{ℕ, ◌-◌, ◌<◌, ◌≤◌, ◌*◌, ◌≡◌, true, false, List, ◌↔◌, length}
 use Rattle.std.proofs.Math.Option.{some}
 use Rattle.trees.specs.Tree.{Tree, height}
 use Rattle.trees.specs.Automaton.{word_run}

@@ -9,8 +9,7 @@ use allowed::masks::call::allowed_labels;
 
 // For each node the labels that it may take: bit a is 1 exactly where the plan with this node alone relabelled to a is
 // cleared.
-#[unsafe(no_mangle)]
-pub extern "C" fn whatif_allowed(plan: &[u8], rules: &[u8], masks: &mut [u64]) -> u32
+pub fn whatif_allowed(plan: &[u8], rules: &[u8], masks: &mut [u64]) -> u32
     ensures { AllowedDone plan.now rules.now masks.old result masks.new }
 {
     allowed_labels(plan, rules, masks) as u32
@@ -18,8 +17,7 @@ pub extern "C" fn whatif_allowed(plan: &[u8], rules: &[u8], masks: &mut [u64]) -
 
 // For each node the states with which the plan is cleared: bit q is 1 exactly where the plan is cleared with state q at
 // this node, all else as it is.
-#[unsafe(no_mangle)]
-pub extern "C" fn whatif_clearing(plan: &[u8], rules: &[u8], sets: &mut [u16]) -> u32
+pub fn whatif_clearing(plan: &[u8], rules: &[u8], sets: &mut [u16]) -> u32
     ensures { ClearingDone plan.now rules.now sets.old result sets.new }
 {
     clearing_states(plan, rules, sets) as u32

@@ -1,4 +1,4 @@
-// The branches' calls: build, full check and the question in its plain reading. Its other reading is exported by
+// The branches' calls: build, full check and the question in its plain reading. Its other reading is crate
 // capi_branch_upper.
 ghost use Rattle.std.specs.Prelude.{length};
 ghost use Rattle.formats.specs.Checks.{first_no, branch_build_checks};
@@ -14,8 +14,7 @@ use branches::build::build_branch_tables;
 use branches::check::check_branch_tables;
 
 // Builds the tables of a plan for a branch table.
-#[unsafe(no_mangle)]
-pub extern "C" fn whatif_branch_build(
+pub fn whatif_branch_build(
     plan: &[u8],
     branch: &[u8],
     node_table: &mut [u16],
@@ -31,8 +30,7 @@ pub extern "C" fn whatif_branch_build(
 }
 
 // Whether the tables are what the build writes for the plan and the branch table.
-#[unsafe(no_mangle)]
-pub extern "C" fn whatif_branch_check(
+pub fn whatif_branch_check(
     plan: &[u8],
     branch: &[u8],
     node_table: &[u16],
@@ -73,8 +71,7 @@ pub fn ask_number(
 }
 
 // The branch question: the word from below node `upper` down to node `lower`.
-#[unsafe(no_mangle)]
-pub extern "C" fn whatif_branch(
+pub fn whatif_branch(
     plan: &[u8],
     branch: &[u8],
     node_table: &[u16],

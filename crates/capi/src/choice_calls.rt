@@ -25,8 +25,7 @@ fn copy_counts(a: [u64; STATE_LIMIT], n: usize, out: &mut [u64])
 
 // How many choices of labels for the nodes end in each state: the counts go to the front of `counts`, parts and links
 // to their output parameters.
-#[unsafe(no_mangle)]
-pub extern "C" fn whatif_count(
+pub fn whatif_count(
     plan: &[u8],
     rules: &[u8],
     node_table: &[u16],

@@ -1,6 +1,6 @@
 // The functions that C and Rust call on tables, lists, files and choices, a module for each family of the header. Each
 // is thin over a call of the layers below: its result is the answer's number, 0 where it is accepted, and its outputs
-// are written only on success.
+// are written only on success. Crate capi_c exports them.
 //     numbers        answers as numbers
 //     table_calls    build, full check, fresh run
 //     branch_calls   branch tables and the branch question

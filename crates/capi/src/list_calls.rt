@@ -46,8 +46,7 @@ fn copy_labels(a: [u8; CHANGE_LIMIT], n: usize, out: &mut [u8])
 
 // The upper list laid over the lower: its nodes and labels go to the front of `nodes` and `labels`, and their number to
 // `count`.
-#[unsafe(no_mangle)]
-pub extern "C" fn whatif_lay_over(
+pub fn whatif_lay_over(
     lower_nodes: &[u16],
     lower_labels: &[u8],
     upper_nodes: &[u16],

@@ -7,8 +7,7 @@ use planner::home::convert::planner_of_plan;
 use planner::out::convert::plan_of_planner;
 
 // Our plan of a planner's file, and the place of each of its nodes.
-#[unsafe(no_mangle)]
-pub extern "C" fn whatif_plan_of_planner(file: &[u8], plan: &mut [u8], places: &mut [u16]) -> u32
+pub fn whatif_plan_of_planner(file: &[u8], plan: &mut [u8], places: &mut [u16]) -> u32
     ensures { OutDone file.now plan.old places.old result
         plan.new places.new }
 {
@@ -16,8 +15,7 @@ pub extern "C" fn whatif_plan_of_planner(file: &[u8], plan: &mut [u8], places: &
 }
 
 // The planner's file of our plan.
-#[unsafe(no_mangle)]
-pub extern "C" fn whatif_planner_of_plan(plan: &[u8], file: &mut [u8]) -> u32
+pub fn whatif_planner_of_plan(plan: &[u8], file: &mut [u8]) -> u32
     ensures { HomeDone plan.now file.old result file.new }
 {
     planner_of_plan(plan, file) as u32

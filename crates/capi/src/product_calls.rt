@@ -22,8 +22,7 @@ fn merge_number(answer: MergeAnswer) -> u32
 }
 
 // Writes the merged table to `merged`.
-#[unsafe(no_mangle)]
-pub extern "C" fn whatif_merge(first: &[u8], second: &[u8], merged: &mut [u8]) -> u32
+pub fn whatif_merge(first: &[u8], second: &[u8], merged: &mut [u8]) -> u32
     ensures { MergeExported first.now second.now merged.old result merged.new }
 {
     let answer = merge(first, second, merged);
@@ -69,8 +68,7 @@ fn none_shown(n: usize) -> u32
 
 // Whether two tables agree goes to `agreed`; where they do not, the lines of a separating plan go to `lines` and their
 // number to `count`.
-#[unsafe(no_mangle)]
-pub extern "C" fn whatif_agree(
+pub fn whatif_agree(
     first: &[u8],
     second: &[u8],
     lines: &mut [u16],

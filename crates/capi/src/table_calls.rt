@@ -12,8 +12,7 @@ use table_checks::check::check_tables;
 use tables::build::build_tables;
 
 // Builds the tables of a plan for a rule table.
-#[unsafe(no_mangle)]
-pub extern "C" fn whatif_build(
+pub fn whatif_build(
     plan: &[u8],
     rules: &[u8],
     node_table: &mut [u16],
@@ -29,8 +28,7 @@ pub extern "C" fn whatif_build(
 }
 
 // Whether the tables are what the build writes for the plan and the rule table.
-#[unsafe(no_mangle)]
-pub extern "C" fn whatif_check(
+pub fn whatif_check(
     plan: &[u8],
     rules: &[u8],
     node_table: &[u16],
@@ -61,8 +59,7 @@ fn run_number(answer: Running, state: &mut u32, yes: &mut u32) -> u32
 }
 
 // The run of the plan with the listed labels changed, without tables.
-#[unsafe(no_mangle)]
-pub extern "C" fn whatif_fresh_run(
+pub fn whatif_fresh_run(
     plan: &[u8],
     rules: &[u8],
     nodes: &[u16],

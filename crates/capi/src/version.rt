@@ -6,8 +6,7 @@ ghost use Rattle.capi.specs.version.Version.{version_number};
 pub const VERSION: u32 = 10000;
 
 // The version of the archive.
-#[unsafe(no_mangle)]
-pub extern "C" fn whatif_version() -> u32
+pub fn whatif_version() -> u32
     ensures { result ≡ version_number }
 {
     VERSION

@@ -1,5 +1,5 @@
-// The whole question as C and Rust call it, outside the session: one call on tables that the caller has. It has an object
-// of its own, so that the compiler inlines the roots of its parts: in capi's object the count would share one copy.
+// The whole question as C and Rust call it, outside the session: one call on tables that the caller has. Crate capi_ask_c
+// exports it.
 //     whatif_ask   state, yes or no, parts, links and nodes passed over of a list of changes
 #![tactic(auto)]
 
@@ -37,8 +37,7 @@ fn ask_number(
 }
 
 // The whole question: the plan with the listed labels changed, a node named several times by its last entry.
-#[unsafe(no_mangle)]
-pub extern "C" fn whatif_ask(
+pub fn whatif_ask(
     plan: &[u8],
     rules: &[u8],
     node_table: &[u16],

@@ -1,6 +1,5 @@
-// The branch question with the upper node's label, as C and Rust call it: the other reading of `whatif_branch`, which
-// capi exports (branch_calls). It has an object of its own, so that the compiler inlines each reading's question: in one
-// object both would call one copy of it, with all arguments and results passed through memory.
+// The branch question with the upper node's label, as C and Rust call it: the other reading of `whatif_branch` (capi's
+// branch_calls). Crate capi_branch_upper_c exports it.
 //     whatif_branch_with_upper   the word from the upper node down to the lower, both included
 #![tactic(auto)]
 
@@ -11,8 +10,7 @@ use branches::ask::ask_branch_with_upper;
 use capi::branch_calls::ask_number;
 
 // The branch question with the upper node's label: the word from node `upper` down to node `lower`, both included.
-#[unsafe(no_mangle)]
-pub extern "C" fn whatif_branch_with_upper(
+pub fn whatif_branch_with_upper(
     plan: &[u8],
     branch: &[u8],
     node_table: &[u16],

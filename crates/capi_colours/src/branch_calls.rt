@@ -12,8 +12,7 @@ use colour_questions::branch::ask::{ask_colours, ask_colours_with_upper};
 use colour_tables::branch::build::build_branch_colours;
 
 // Builds the tables of colours of a plan for a branch table.
-#[unsafe(no_mangle)]
-pub extern "C" fn whatif_colour_branch_build(
+pub fn whatif_colour_branch_build(
     plan: &[u8],
     branch: &[u8],
     colour_numbers: &mut [u16],
@@ -56,8 +55,7 @@ fn descent_number(
 }
 
 // The branch question by colours: the word from below node `upper` down to node `lower`.
-#[unsafe(no_mangle)]
-pub extern "C" fn whatif_colour_branch(
+pub fn whatif_colour_branch(
     plan: &[u8],
     branch: &[u8],
     node_table: &[u16],
@@ -88,8 +86,7 @@ pub extern "C" fn whatif_colour_branch(
 }
 
 // The same with the upper node's label: the word from node `upper` down to node `lower`, both included.
-#[unsafe(no_mangle)]
-pub extern "C" fn whatif_colour_branch_with_upper(
+pub fn whatif_colour_branch_with_upper(
     plan: &[u8],
     branch: &[u8],
     node_table: &[u16],

@@ -1,5 +1,5 @@
 // The fewest changes as C and Rust call them, thin over a call of the layers below: the result is the answer's number,
-// 0 where it is accepted. The buffers are written only on success.
+// 0 where it is accepted. The buffers are written only on success. Crate capi_fewest_c exports the call.
 //     whatif_fewest   the least number of nodes to relabel so that the plan is cleared, or no longer is
 #![tactic(auto)]
 
@@ -9,8 +9,7 @@ use fewest::call::fewest_changes;
 
 // The least number of nodes that must be relabelled so that the plan is cleared (want 1) or no longer is (want 0; any
 // other number is read as 1), and the changes where they are at most 64.
-#[unsafe(no_mangle)]
-pub extern "C" fn whatif_fewest(
+pub fn whatif_fewest(
     plan: &[u8],
     rules: &[u8],
     may: &[u64],

@@ -20,8 +20,7 @@ pub const RUN_BYTES: usize = SCREENS * RECORD_BYTES;
 const LAST: u32 = LAST_SCREEN as u32;
 
 // Cancel of one screen: its question is forgotten, its last finished answer kept.
-#[unsafe(no_mangle)]
-pub extern "C" fn whatif_screens_cancel(records: &mut [u8], screen: u32) -> u32
+pub fn whatif_screens_cancel(records: &mut [u8], screen: u32) -> u32
     ensures { ScreensCallExported records.old (screens.cancel_on screen) result records.new }
 {
     if records.len() != RUN_BYTES {
@@ -35,8 +34,7 @@ pub extern "C" fn whatif_screens_cancel(records: &mut [u8], screen: u32) -> u32
 }
 
 // Start on one screen: a question about a list of changes.
-#[unsafe(no_mangle)]
-pub extern "C" fn whatif_screens_start(
+pub fn whatif_screens_start(
     records: &mut [u8],
     screen: u32,
     plan: &[u8],
@@ -73,8 +71,7 @@ pub extern "C" fn whatif_screens_start(
 }
 
 // Read of one screen: its last finished answer.
-#[unsafe(no_mangle)]
-pub extern "C" fn whatif_screens_read(
+pub fn whatif_screens_read(
     records: &[u8],
     screen: u32,
     state: &mut u32,
@@ -123,8 +120,7 @@ fn next_running(records: &[u8], first: usize) -> usize
 }
 
 // A deal: one advance for the next running screen; reports the screen to try first next time, and whether it finished.
-#[unsafe(no_mangle)]
-pub extern "C" fn whatif_screens_deal(
+pub fn whatif_screens_deal(
     records: &mut [u8],
     first: u32,
     plan: &[u8],

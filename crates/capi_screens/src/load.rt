@@ -53,8 +53,7 @@ fn copy_first(records: &mut [u8])
 }
 
 // Load: a plan and rules for the eight screens, and their tables; tells 0, the screen to try first.
-#[unsafe(no_mangle)]
-pub extern "C" fn whatif_screens_load(
+pub fn whatif_screens_load(
     records: &mut [u8],
     plan: &[u8],
     rules: &[u8],

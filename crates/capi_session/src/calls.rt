@@ -31,8 +31,7 @@ fn store_done(out: Called, rec: &mut [u8]) -> u32
 }
 
 // Load: a plan and rules for the session, and their tables.
-#[unsafe(no_mangle)]
-pub extern "C" fn whatif_load(
+pub fn whatif_load(
     rec: &mut [u8],
     plan: &[u8],
     rules: &[u8],
@@ -52,8 +51,7 @@ pub extern "C" fn whatif_load(
 }
 
 // Cancel: the question is forgotten, the last finished answer kept.
-#[unsafe(no_mangle)]
-pub extern "C" fn whatif_cancel(rec: &mut [u8]) -> u32
+pub fn whatif_cancel(rec: &mut [u8]) -> u32
     ensures { CallExported rec.old calls.cancel result rec.new }
 {
     if !laid_out(rec) {
@@ -84,8 +82,7 @@ fn store_started(out: Started, rec: &mut [u8], parts: &mut u32) -> u32
 }
 
 // Start: a question about a list of changes.
-#[unsafe(no_mangle)]
-pub extern "C" fn whatif_start(
+pub fn whatif_start(
     rec: &mut [u8],
     plan: &[u8],
     rules: &[u8],
@@ -133,8 +130,7 @@ fn store_advanced(step: AdvanceStep, at: usize, rec: &mut [u8], finished: &mut u
 }
 
 // Advance: one more part.
-#[unsafe(no_mangle)]
-pub extern "C" fn whatif_advance(
+pub fn whatif_advance(
     rec: &mut [u8],
     plan: &[u8],
     rules: &[u8],
@@ -183,8 +179,7 @@ fn tell_read(
 }
 
 // Read: the last finished answer.
-#[unsafe(no_mangle)]
-pub extern "C" fn whatif_read(
+pub fn whatif_read(
     rec: &[u8],
     state: &mut u32,
     yes: &mut u32,

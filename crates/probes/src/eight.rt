@@ -167,8 +167,7 @@ pub struct Eight {
 
 // Eight screens loaded with N, S and K: Start on two of them, some deals from a first screen on, Cancel of the second
 // and Read of the first.
-#[unsafe(no_mangle)]
-pub extern "C" fn probe_screens(
+pub fn probe_screens(
     n: u16,
     s: u8,
     k: u8,

@@ -19,8 +19,7 @@ pub struct Part {
 }
 
 // How many roots there are, and the roots with zeros behind them; 0 and zeros where they are refused.
-#[unsafe(no_mangle)]
-pub extern "C" fn probe_roots(
+pub fn probe_roots(
     n: usize,
     node_table: &[u16],
     nodes: &[u16],
@@ -35,8 +34,7 @@ pub extern "C" fn probe_roots(
 }
 
 // The part that comes next; state 16 where it is refused.
-#[unsafe(no_mangle)]
-pub extern "C" fn probe_part(
+pub fn probe_part(
     n: usize,
     s: usize,
     k: usize,

@@ -1,4 +1,5 @@
 // Work below the exported calls, for the bench and the comparison alone: no part of the library that ships.
+// Crate probes_c exports the probes.
 //     eight   the calls on eight screens in place, run, and a life of eight screens
 //     layers  the roots of a question and one part
 //     places  the calls in place, run

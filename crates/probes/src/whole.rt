@@ -72,8 +72,7 @@ fn advance_by(
 }
 
 // Start on a loaded session of N, S and K, then some advances.
-#[unsafe(no_mangle)]
-pub extern "C" fn probe_steps(
+pub fn probe_steps(
     n: u16,
     s: u8,
     k: u8,
@@ -148,8 +147,7 @@ fn question_on(
 }
 
 // The same on a loaded session of N, S and K.
-#[unsafe(no_mangle)]
-pub extern "C" fn probe_question(
+pub fn probe_question(
     n: u16,
     s: u8,
     k: u8,
@@ -195,8 +193,7 @@ pub fn call_number(answer: CallAnswer) -> u32
 
 // A life of a session, each call in place: fresh, Load, Start, Cancel, and the question asked again, with an advance
 // for each part, Read.
-#[unsafe(no_mangle)]
-pub extern "C" fn probe_life(
+pub fn probe_life(
     plan: &[u8],
     rules: &[u8],
     node_table: &mut [u16],

@@ -19,7 +19,7 @@ use borrow.Author.Tests.{eqb-true}
 use lib.ListN.{length, get_or, set, drop, length-set, length-drop, drop_of_length-le}
 use lib.Seq.{get_or-set_same, get_or-set_other, get_or-drop, drop-drop}
 use Rattle.trees.specs.Automaton.{Automaton, state}
-use Rattle.trees.specs.Postorder.{waiting, is_single, is_postorder, read, tree_of}
+use Rattle.trees.specs.Postorder.{waiting, is_single, is_postorder, tree_of}
 use Rattle.trees.proofs.PostorderLaws.{state-fold, read_whole, tree_of-kinds, tree_of-labels}
 use Rattle.trees.proofs.PostorderLaws.{leaf-at, inner-at, short-at, other_at, end-at}
 use Rattle.trees.proofs.MoveLaws.{none-some}

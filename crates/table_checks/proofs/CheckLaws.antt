@@ -16,10 +16,10 @@ use lib.ListN.{length, get_or, take, length-take}
 use lib.Seq.{get_or-take}
 use borrow.Author.Tests.{eqb-true, eq-eqb}
 use Rattle.trees.specs.Tree.{Tree, kinds_of, labels_of, size}
-use Rattle.trees.specs.Numbering.{sub, parent}
+use Rattle.trees.specs.Numbering.{sub}
 use Rattle.trees.specs.Tables.{node_table_of, state_table_of}
 use Rattle.trees.specs.Postorder.{is_postorder}
-use Rattle.trees.proofs.NodeLaws.{Inner, inner, Up, up, size-pos}
+use Rattle.trees.proofs.NodeLaws.{inner, size-pos}
 use Rattle.list_laws.proofs.RowLaws.{Cell, cell-split}
 use Rattle.trees.proofs.RunLaws.{state_below}
 use Rattle.trees.proofs.MapLaws.{state_map-below}
@@ -190,7 +190,7 @@ module _ (ks ls node_table lv inn : List ℕ) (s k : ℕ) (state_table : List �
 
   all-linked : All ks ls node_table lv inn s k state_table → NodePairs ks node_table
   all-linked A =
-      let r = root_told (length ks - 1) A.root_node_is in
+      let r = root_told (length ks - 1) A.root-node-is in
       record {
         leaves = λ v h e. (leaf-told v (A.nodes.leaves v (omega arith) h e)).0;
         pairs = λ v h e. pair-told (length ks) node_table v (node-told v (A.nodes.pairs v (omega arith) h e)).0;
@@ -305,7 +305,7 @@ module _ (ks ls node_table lv inn : List ℕ) (s k : ℕ) (state_table : List �
 
   pub root-node-is-no : root_node node_table (length ks - 1) ≡ false
       → TablesTested s k lv inn ks ls node_table state_table false
-  root-node-is-no ne = told-false (λ mk t ek el d e. true-false (sym (built-all mk t ek el d e).root_node_is ∙ ne))
+  root-node-is-no ne = told-false (λ mk t ek el d e. true-false (sym (built-all mk t ek el d e).root-node-is ∙ ne))
 
   pub root-row-no : row_equals s state_table (length ks - 1) (λ q. q) ≡ false
       → TablesTested s k lv inn ks ls node_table state_table false

@@ -3,16 +3,15 @@
 --     pair-jump-less                 the jump by pairs is a 16-bit number where all entries are
 --     pair-packed                    the differences, or-ed, are 0 exactly where the test of the pair holds
 use Prim.Native.Nat.{ℕ, ◌+◌, ◌-◌, ◌*◌, ◌%◌, ◌<◌}
-use mathlib.Core.Path.{◌≡◌, refl, sym, ap, ◌∙◌}
+use mathlib.Core.Path.{◌≡◌, refl, sym}
 use mathlib.Core.Bool.{Bool, true, false, cond}
 use mathlib.Core.List.{List}
-use native.Mathlib.Decide.{ℕ_discrete}
 use native.Mathlib.Omega.{arith}
 use lib.Arith.{digits_mod}
 use lib.Dec.{eqb, ltb}
 use lib.ListN.{get_or}
 use lib.Bits.{bit_or, bit_xor}
-use borrow.Author.Tests.{eq-eqb, ne_eqb, eqb-true}
+use borrow.Author.Tests.{eq-eqb, eqb-true}
 use Rattle.tables.specs.node_tables.Cells.{parent_cell, jump_cell, depth_cell, size_cell}
 use Rattle.tables.specs.node_tables.JumpLengths.{jump_lengths}
 use Rattle.tables.specs.node_tables.inner.UpPass.{left_of, inner_size}

@@ -4,12 +4,12 @@
 --     bit-most, two-mapped           the map that both children's steps are composed with, as the code makes it
 --     near-at, rows-two              the test of both maps, as the code makes it
 use Prim.Native.Nat.{ℕ, zero, suc, ◌+◌, ◌-◌, ◌*◌, ◌≤◌, ◌<◌}
-use mathlib.Core.Path.{◌≡◌, refl, sym, ap, ap₂, ◌∙◌}
+use mathlib.Core.Path.{◌≡◌, refl, sym, ap₂, ◌∙◌}
 use mathlib.Core.Bool.{Bool, true, false, cond, ◌&&◌}
 use mathlib.Core.List.{List}
 use native.Mathlib.Omega.{arith}
 use lib.Dec.{eqb}
-use lib.ListN.{length, get_or}
+use lib.ListN.{get_or}
 use lib.Bits.{bit_and, bit_or, bit_xor}
 use Rattle.tables.specs.node_tables.Cells.{jump_cell}
 use Rattle.tables.specs.StateCells.{map_cell}

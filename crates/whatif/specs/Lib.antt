@@ -6,4 +6,5 @@ pub mod Text
 pub mod Line
 pub mod Stream
 pub mod Said
+pub mod Told
 pub mod Turns

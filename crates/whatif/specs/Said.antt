@@ -5,6 +5,7 @@
 -- plan_of w, rules_of w, questions_of w == what came of those bytes
 -- said_on p r qs == what is said to the plan p and the rules r, and then to the bytes qs of the questions
 -- said_to h p r qs == what is said to an input by its parts: its lengths, with which h starts, its plan, rules and questions
+-- said_after h w == what is said to an input of which h came first, and w is what follows the twelve length bytes
 --
 -- What is said to a question is question_line (Stream), and its line lineOf (Line).
 use Rattle.std.specs.Prelude.{ℕ, zero, suc, ◌+◌, cond, List, [], ◌∷◌, take, drop}
@@ -54,6 +55,11 @@ said_on p r qs = said_by (first_no (rule_table_checks p r)) p r qs
 -- bytes come"
 unfoldable pub said_to : List ℕ → List ℕ → List ℕ → List ℕ → List ℕ
 said_to h p r qs = cond (too_large (stated_plan h) (stated_rules h)) too_large_line (said_on p r qs)
+
+abbrev pub said_after : List ℕ → List ℕ → List ℕ
+said_after h w =
+    said_to h (take (stated_plan h) w) (take (stated_rules h) (drop (stated_plan h) w))
+    (take (stated_questions h) (drop (stated_plan h + stated_rules h) w))
 
 abbrev pub said : List ℕ → List ℕ
 said w = said_to w (plan_of w) (rules_of w) (questions_of w)

@@ -1,10 +1,11 @@
 // The three lengths at the start of the input, the space for what they announce, and a read.
-ghost use Rattle.std.specs.Prelude.{◌≡◌, ◌≤◌, ◌<◌, min, length, get_or};
+ghost use Rattle.std.specs.Prelude.{◌≡◌, ◌≤◌, ◌<◌, min, length, get_or, take, IfOk};
+ghost use Rattle.std.specs.Io.KnownBytes.{Consumes, IsAtEnd, ReadConsumes};
 ghost use Rattle.formats.specs.Bytes.{le32};
-ghost use Rattle.io.specs.Counts.{IsPrefixLen};
-ghost use Rattle.whatif.specs.Input.{too_large};
+ghost use Rattle.whatif.specs.Input.{IsPrefixLen, too_large};
 
-use libc::STDIN_FILENO;
+use std::io;
+use std::io::Read;
 
 // The longest plan and rules that the program takes: N 1,001, and S 16 with K 64.
 pub const PLAN_LIMIT: usize = 2014;
@@ -90,6 +91,20 @@ pub fn asked_space() -> [u8; 197]
     [0; 197]
 }
 
+// The space for the line of Load's refusal.
+pub fn line_space() -> [u8; 4096]
+    ensures { length result ≡ 4096 }
+{
+    [0; 4096]
+}
+
+// The space for the lines of what is read at a time, at most 48 bytes for each byte of the questions.
+pub fn lines_space() -> [u8; 65536]
+    ensures { length result ≡ 65536 }
+{
+    [0; 65536]
+}
+
 fn least(a: usize, b: usize) -> usize
     ensures upper_bound { (result ≤ a) × (result ≤ b) }
     ensures value { result ≡ min a b }
@@ -98,14 +113,31 @@ fn least(a: usize, b: usize) -> usize
 }
 
 // One read of at most `most` bytes. Fewer may come, as from a pipe; none at the end of the input.
-pub fn read_some(most: usize, chunk: &mut [u8]) -> usize
-    ensures upper_bound { result ≤ most }
-    ensures upper_bound_2 { result ≤ length chunk.old }
-    ensures prefix_len { IsPrefixLen result chunk.new }
+pub fn read_some<R: Read>(input: &mut R, most: usize, chunk: &mut [u8]) -> io::Result<usize>
+    ensures upper_bound { IfOk result (λ n. n ≤ most) }
+    ensures upper_bound_2 { IfOk result (λ n. n ≤ length chunk.old) }
+    ensures prefix_len { IfOk result (λ n. IsPrefixLen n chunk.new) }
+    ensures taken { ReadConsumes (R.remaining input.old) (R.remaining input.new) result (take most chunk.new) }
 {
     let n = least(most, chunk.len());
-    let got = libc::read(STDIN_FILENO, &mut chunk[..n]);
-    io::count(got, &chunk[..n])
+    input.read(&mut chunk[..n])
+}
+
+// Reads until the space is full or the input ends, and returns how many bytes came.
+fn read_full<R: Read>(input: &mut R, space: &mut [u8]) -> io::Result<usize>
+    ensures prefix_len { IfOk result (λ n. IsPrefixLen n space.new) }
+    ensures taken { IfOk result (λ n. Consumes (R.remaining input.old) (R.remaining input.new) (take n space.new)) }
+    ensures ended { IfOk result (λ n. n < length space.new → IsAtEnd (R.remaining input.new)) }
+{
+    let mut done = 0;
+    while done < space.len() {
+        let n = input.read(&mut space[done..])?;
+        if n == 0 {
+            return Ok(done);
+        }
+        done += n;
+    }
+    Ok(done)
 }
 
 // How many bytes were asked for, and how many came.
@@ -116,12 +148,14 @@ pub struct ReadCount {
 }
 
 // As many reads as it takes for `most` bytes; fewer come where the input ends.
-pub fn read_whole(most: usize, space: &mut [u8]) -> ReadCount
-    ensures asked_value { result.asked ≡ min most (length space.old) }
-    ensures count_le_asked { result.count ≤ result.asked }
-    ensures prefix_len { IsPrefixLen result.count space.new }
+pub fn read_whole<R: Read>(input: &mut R, most: usize, space: &mut [u8]) -> io::Result<ReadCount>
+    ensures asked_value { IfOk result (λ r. r.asked ≡ min most (length space.old)) }
+    ensures count_le_asked { IfOk result (λ r. r.count ≤ r.asked) }
+    ensures prefix_len { IfOk result (λ r. IsPrefixLen r.count space.new) }
+    ensures taken { IfOk result (λ r. Consumes (R.remaining input.old) (R.remaining input.new) (take r.count space.new)) }
+    ensures ended { IfOk result (λ r. r.count < r.asked → IsAtEnd (R.remaining input.new)) }
 {
     let n = least(most, space.len());
-    let count = io::read_full(STDIN_FILENO, &mut space[..n]);
-    ReadCount { asked: n, count }
+    let count = read_full(input, &mut space[..n])?;
+    Ok(ReadCount { asked: n, count })
 }

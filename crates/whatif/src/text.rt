@@ -2,12 +2,15 @@
 ghost use Rattle.std.specs.Prelude.{◌+◌, ◌≤◌, length};
 ghost use Rattle.whatif.specs.Text.{Put, decimal};
 
+use itoa::Buffer;
+
 pub fn put_word(out: &mut [u8], at: usize, word: &[u8]) -> usize
     requires { at + length word.now ≤ length out.old }
     ensures { Put out.old at word.now out.new result }
 {
-    bytes::copy(word, &mut out[at..]);
-    at + word.len()
+    let end = at + word.len();
+    out[at..end].copy_from_slice(word);
+    end
 }
 
 // A number in decimal: at most 10 digits.
@@ -16,7 +19,6 @@ pub fn put_number(out: &mut [u8], at: usize, n: u32) -> usize
     ensures put { Put out.old at (decimal n) out.new result }
     ensures upper_bound { result ≤ at + 10 }
 {
-    let mut digits = [0u8; 20];
-    let k = io::decimal(n as u64, &mut digits);
-    put_word(out, at, &digits[..k])
+    let mut digits = Buffer::new();
+    put_word(out, at, digits.format(n).as_bytes())
 }

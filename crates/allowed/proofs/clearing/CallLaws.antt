@@ -1,7 +1,7 @@
 -- The clearing states: from the two passes to the whole buffer, and the call's answers.
 --     parts-list                    where the pass down ends, the buffer begins with the clearing states
 --     done_refused, done-written    the promise
-use Prim.Native.Nat.{ℕ, ◌+◌, ◌-◌, ◌*◌, ◌≤◌, ◌<◌}
+use Prim.Native.Nat.{ℕ, ◌*◌}
 use mathlib.Core.Path.{◌≡◌, refl, sym, ap, ◌∙◌}
 use mathlib.Core.List.{List, ◌++◌}
 use native.Mathlib.Omega.{arith}

@@ -2,8 +2,8 @@
 --     leaf-case .. inner-set  an iteration by the node's kind
 --     down-next, node-args    one node more, and what its iteration needs
 --     down-start, down-end    where the pass begins, and where it ends
-use Prim.Native.Nat.{ℕ, ◌+◌, ◌-◌, ◌*◌, ◌/◌, ◌%◌, ◌≤◌, ◌<◌}
-use mathlib.Core.Path.{◌≡◌, refl, sym, ap, ap₂, ◌∙◌, subst}
+use Prim.Native.Nat.{ℕ, ◌+◌, ◌-◌, ◌/◌, ◌%◌, ◌≤◌, ◌<◌}
+use mathlib.Core.Path.{◌≡◌, sym, ap, ap₂, ◌∙◌, subst}
 use mathlib.Core.List.{List}
 use native.Mathlib.Decide.{ℕ_discrete}
 use native.Mathlib.Omega.{arith}
@@ -13,21 +13,20 @@ use borrow.Author.Tests.{eq-eqb, ne_eqb}
 use Rattle.trees.specs.Tree.{Tree, kinds_of, labels_of, size, kind_at}
 use Rattle.trees.specs.Automaton.{state}
 use Rattle.trees.specs.Numbering.{sub}
-use Rattle.trees.proofs.NodeLaws.{size-pos}
 use Rattle.trees.proofs.PostorderLaws.{postorder-tree, size_of, kind-of}
 use Rattle.trees.proofs.RunLaws.{Children, children}
 use Rattle.formats.specs.Rules.{tree_automaton}
 use Rattle.allowed.specs.Clearing.{clearing_set}
-use Rattle.allowed.specs.inner.Inputs.{left_child, PassArgs, MarksGiven}
+use Rattle.allowed.specs.inner.Inputs.{left_child, PassArgs}
 use Rattle.allowed.specs.inner.Sets.{right_set, left_set, marked_set}
-use Rattle.allowed.specs.inner.clearing.Cells.{right_first, first_cell, pair_cell, first_node_in}
+use Rattle.allowed.specs.inner.clearing.Cells.{right_first, pair_cell, first_node_in}
 use Rattle.allowed.specs.inner.clearing.Up.{UpDone, UpWritten}
 use Rattle.allowed.specs.inner.clearing.Down.{leaf_down, leaf_next, pair_at, inner_down, inner_next, node_down, node_next}
-use Rattle.allowed.specs.inner.clearing.Down.{InnerDownArgs, NodeDownArgs, DownDone, DownWritten, SetsDone}
+use Rattle.allowed.specs.inner.clearing.Down.{InnerDownArgs, NodeDownArgs, DownDone, DownWritten}
 use Rattle.allowed.specs.inner.clearing.Down.{SetsWritten}
 use Rattle.allowed.proofs.StepLaws as steps
 use Rattle.allowed.proofs.StepLaws.{run_below, set-args, marked-states}
-use Rattle.allowed.proofs.clearing.FirstLaws.{first_node_in, first_leaf, first-once, FirstOf, first_of}
+use Rattle.allowed.proofs.clearing.FirstLaws.{first-in, first_leaf, first-once, FirstOf, first_of}
 use Rattle.allowed.proofs.clearing.UpLoop.{not-kind, first-is}
 
 -- ---- an iteration, by the node's kind
@@ -98,7 +97,7 @@ module _ (ks ls lv inn : List ℕ) (s k : ℕ) (G : PassArgs ks ls lv inn s k) w
       waiting = λ v l g d w. get_or-set_other b i (right_first t v) c 0 (omega arith)
           ∙ D.waiting v (not-i v l (λ q. d (ap (kind_at t) q ∙ e))) g d (omega arith);
       firsts = λ u l g d. get_or-set_other b i u c 0 (omega arith) ∙ D.firsts u (omega arith) g d;
-      pairs = λ v l g d. get_or-set_other b i (right_first t v) c 0 (λ q. omega (arith, (first_node_in t v g d).1))
+      pairs = λ v l g d. get_or-set_other b i (right_first t v) c 0 (λ q. omega (arith, (first-in t v g d).1))
           ∙ D.pairs v (omega arith) g d;
       kept = λ j l. get_or-set_other b i j c 0 (omega arith) ∙ D.kept j l;
     }
@@ -115,7 +114,7 @@ module _ (ks ls lv inn : List ℕ) (s k : ℕ) (G : PassArgs ks ls lv inn s k) w
           ∙ omega (arith, K.pos)
 
       f-in : (0 < right_first t i) × (right_first t i < i)
-      f-in = first_node_in t i h e
+      f-in = first-in t i h e
 
       pair_is : pair_at ks b i ≡ pair_cell (tree_automaton s k lv inn mk) t i
       pair_is = ap (λ (j : ℕ). get_or b j 0) f-is ∙ D.pairs i (omega arith) h e
@@ -180,7 +179,7 @@ module _ (ks ls lv inn : List ℕ) (s k : ℕ) (G : PassArgs ks ls lv inn s k) w
         ];
         firsts = λ u l g d. apart u (omega arith) (λ z. d (ap (kind_at t) z ∙ first_leaf t i h e))
             ∙ D.firsts u (omega arith) g d;
-        pairs = λ v l g d. apart (right_first t v) (λ z. omega (arith, (first_node_in t v g d).1))
+        pairs = λ v l g d. apart (right_first t v) (λ z. omega (arith, (first-in t v g d).1))
             (λ z. omega (arith, first-once t v i g d h e z)) ∙ D.pairs v (omega arith) g d;
         kept = λ j l. apart j (omega arith) (λ z. omega (arith, f-in.1)) ∙ D.kept j l;
       }
@@ -191,7 +190,7 @@ module _ (ks ls lv inn : List ℕ) (s k : ℕ) (G : PassArgs ks ls lv inn s k) w
         inside = omega arith;
         low = low;
         right = record { kind_in = omega (arith, n_is); cell_in = omega arith };
-        first_node_in = omega (arith, f-is, f-in.1);
+        first_in = omega (arith, f-is, f-in.1);
         sets = set-args ks ls lv inn s k G (pair_at ks b i % 16) (get_or ls i 0) (pair_at ks b i / 16 % 16)
             (omega (arith, left-state, run_below ks ls lv inn s k G mk (sub t (left_child t i)))) (G.below i)
             (omega (arith, right-state, run_below ks ls lv inn s k G mk (sub t (i - 1))));

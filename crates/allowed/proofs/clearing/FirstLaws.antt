@@ -1,24 +1,23 @@
 -- The first node of a right child's subtree.
---     first_node_in      it is below its inner node, and above 0
+--     first-in      it is below its inner node, and above 0
 --     first_leaf    it is a leaf
 --     first-once    of one inner node only
 --     first_of      every leaf but the plan's first node is one: the node before it is the left child
-use Prim.Native.Nat.{ℕ, ◌+◌, ◌-◌, ◌<◌}
+use Prim.Native.Nat.{ℕ, ◌-◌, ◌<◌}
 use mathlib.Core.Path.{◌≡◌, sym, ap, ◌∙◌}
-use mathlib.Core.Logic.{◌⊎◌, inl, inr}
+use mathlib.Core.Logic.{inl, inr}
 use native.Mathlib.Decide.{ℕ_discrete}
 use native.Mathlib.Omega.{arith}
 use Rattle.trees.specs.Tree.{Tree, size, kind_at}
 use Rattle.trees.specs.Numbering.{sub, parent}
 use Rattle.trees.proofs.NodeLaws.{Inner, inner, Up, up, size-pos}
-use Rattle.trees.proofs.RunLaws.{Children, children}
-use Rattle.allowed.specs.inner.Inputs.{left_child}
+use Rattle.trees.proofs.RunLaws.{children}
 use Rattle.allowed.specs.inner.clearing.Cells.{right_first}
 
 module _ (t : Tree) where
   module _ (v : ℕ) (h : v < size t) (c : kind_at t v ≡ 0 → ⊥) where
-    pub first_in : (0 < right_first t v) × (right_first t v < v)
-    first_node_in = (omega (arith, (children t v h c).right-size), omega (arith, size-pos (sub t (v - 1)), (children t v h c).pos))
+    pub first-in : (0 < right_first t v) × (right_first t v < v)
+    first-in = (omega (arith, (children t v h c).right-size), omega (arith, size-pos (sub t (v - 1)), (children t v h c).pos))
 
     -- the node before it has v as its parent
     pub first-parent : parent t (right_first t v - 1) ≡ v
@@ -30,8 +29,8 @@ module _ (t : Tree) where
     pub first_leaf : kind_at t (right_first t v) ≡ 0
     first_leaf = elim (ℕ_discrete (kind_at t (right_first t v)) 0) [
       | yes e ↦ e
-      | no e ↦ absurd (let J : Inner t (right_first t v) = inner t (right_first t v) (omega (arith, first_node_in.1)) e in
-          omega (arith, J.right-up, first-parent, first_node_in.1))
+      | no e ↦ absurd (let J : Inner t (right_first t v) = inner t (right_first t v) (omega (arith, first-in.1)) e in
+          omega (arith, J.right-up, first-parent, first-in.1))
     ]
 
   pub first-once : (v w : ℕ) → v < size t → (kind_at t v ≡ 0 → ⊥) → w < size t → (kind_at t w ≡ 0 → ⊥)

@@ -18,11 +18,11 @@ use Rattle.trees.proofs.PostorderLaws.{postorder-tree, size_of, kind-of}
 use Rattle.trees.proofs.RunLaws.{Children, children, size-leaf, size-inner, state-leaf, state-inner}
 use Rattle.formats.specs.Rules.{tree_automaton}
 use Rattle.allowed.specs.inner.Inputs.{left_child, PassArgs}
-use Rattle.allowed.specs.inner.clearing.Cells.{right_first, first_cell, pair_cell, first_node_in, state_in, FirstArgs, StateArgs}
-use Rattle.allowed.specs.inner.clearing.Up.{pair_in, inner_up, node_up, PairArgs, InnerUpArgs, NodeUpArgs, UpDone}
+use Rattle.allowed.specs.inner.clearing.Cells.{right_first, first_cell, pair_cell, first_node_in, state_in, StateArgs}
+use Rattle.allowed.specs.inner.clearing.Up.{pair_in, inner_up, node_up, InnerUpArgs, NodeUpArgs, UpDone}
 use Rattle.allowed.specs.inner.clearing.Up.{UpWritten}
 use Rattle.allowed.proofs.StepLaws.{rule-args, run_below}
-use Rattle.allowed.proofs.clearing.FirstLaws.{first_node_in, first_leaf, first-once}
+use Rattle.allowed.proofs.clearing.FirstLaws.{first-in, first_leaf, first-once}
 
 -- ---- by the node's kind
 
@@ -135,7 +135,7 @@ module _ (ks ls lv inn : List ℕ) (s k : ℕ) (G : PassArgs ks ls lv inn s k) w
         inside = λ c. omega (
           arith,
           right-first u (omega arith) (kind-not t ks u x c),
-          (first_node_in t u (omega (arith, n_is)) (kind-not t ks u x c)).1,
+          (first-in t u (omega (arith, n_is)) (kind-not t ks u x c)).1,
         );
       }
 
@@ -150,7 +150,7 @@ module _ (ks ls lv inn : List ℕ) (s k : ℕ) (G : PassArgs ks ls lv inn s k) w
         f-is = right-first i (omega arith) c
 
         f-in : (0 < right_first t i) × (right_first t i < i)
-        f-in = first_node_in t i hi c
+        f-in = first-in t i hi c
 
         left_is : right_first t i - 1 ≡ left_child t i
         left_is = omega arith
@@ -212,7 +212,7 @@ module _ (ks ls lv inn : List ℕ) (s k : ℕ) (G : PassArgs ks ls lv inn s k) w
           ];
           pairs = λ v l hv d. elim (ℕ_discrete v i) [
             | yes e ↦ rw e at_first
-            | no e ↦ apart (right_first t v) (λ z. omega (arith, (first_node_in t v hv d).1))
+            | no e ↦ apart (right_first t v) (λ z. omega (arith, (first-in t v hv d).1))
                 (λ z. e (first-once t v i hv d hi c z)) ∙ (all mk t x y).pairs v (omega arith) hv d
           ];
           kept = λ j l. apart j (λ z. omega (arith, hi)) (λ z. omega (arith, hi, f-in.1)) ∙ (all mk t x y).kept j l;
@@ -223,7 +223,7 @@ module _ (ks ls lv inn : List ℕ) (s k : ℕ) (G : PassArgs ks ls lv inn s k) w
           pos = K.pos;
           inside = omega arith;
           right = record { kind_in = omega arith; cell_in = omega arith };
-          first_node_in = omega (arith, f-is, f-in.1);
+          first_in = omega (arith, f-is, f-in.1);
           left = record { kind_in = omega (arith, f-is, f-in.1); cell_in = omega (arith, f-is, f-in.1) };
           left_low = omega (arith, own_is, G.most, size-pos (sub t i));
           pair = record {

@@ -1,5 +1,5 @@
 -- A number's three parts.
-use Prim.Native.Nat.{ℕ, ◌+◌, ◌*◌, ◌/◌, ◌%◌, ◌<◌}
+use Prim.Native.Nat.{ℕ, ◌<◌}
 use mathlib.Core.Path.{◌≡◌}
 use native.Mathlib.Omega.{arith}
 use Rattle.allowed.specs.inner.masks.Cells.{packed_cell, size_in, state_in, set_in}

@@ -2,14 +2,14 @@
 --     up_start, up_next    before the first node, and one node more
 --     node-args            what an iteration needs
 use Prim.Native.Nat.{ℕ, ◌+◌, ◌-◌, ◌*◌, ◌≤◌, ◌<◌}
-use mathlib.Core.Path.{◌≡◌, refl, sym, ap, ap₂, ◌∙◌, subst}
+use mathlib.Core.Path.{◌≡◌, refl, sym, ap, ap₂, ◌∙◌}
 use mathlib.Core.List.{List, []}
 use native.Mathlib.Decide.{ℕ_discrete}
 use native.Mathlib.Omega.{arith}
 use lib.ListN.{length, get_or, set}
 use lib.Seq.{get_or-set_same, get_or-set_other}
 use borrow.Author.Tests.{eq-eqb, ne_eqb}
-use Rattle.trees.specs.Tree.{Tree, kinds_of, labels_of, size, kind_at, label_at}
+use Rattle.trees.specs.Tree.{Tree, kinds_of, labels_of, size, kind_at}
 use Rattle.trees.specs.Automaton.{state}
 use Rattle.trees.specs.Numbering.{sub}
 use Rattle.trees.proofs.NodeLaws.{sub-size}
@@ -18,7 +18,7 @@ use Rattle.trees.proofs.RunLaws.{Children, children, state-leaf, state-inner, si
 use Rattle.formats.specs.Rules.{tree_automaton}
 use Rattle.allowed.specs.inner.masks.Cells.{packed_cell, size_in, state_in}
 use Rattle.allowed.specs.inner.masks.Up.{left_within, inner_cell, node_cell, InnerCellArgs, NodeCellArgs}
-use Rattle.allowed.specs.inner.masks.Up.{run_cell, UpDone, UpWritten}
+use Rattle.allowed.specs.inner.masks.Up.{run_cell, UpWritten}
 use Rattle.allowed.specs.inner.Inputs.{PassArgs}
 use Rattle.allowed.proofs.StepLaws.{rule-args, run_below}
 use Rattle.allowed.proofs.masks.CellLaws.{size-packed, state-packed}

@@ -34,8 +34,7 @@ fn rule_number(
 
 // The rule question by colours: the plan with the listed labels changed, a node named several times by its last
 // entry. It has six buffers of the table's, the list's two and five outputs, each as C passes it.
-#[unsafe(no_mangle)]
-pub extern "C" fn whatif_colour_ask(
+pub fn whatif_colour_ask(
     plan: &[u8],
     rules: &[u8],
     node_table: &[u16],

@@ -8,8 +8,7 @@ use capi::numbers::build_number;
 use colour_tables::rule::build::build_rule_colours;
 
 // Builds the tables of colours of a plan for a rule table.
-#[unsafe(no_mangle)]
-pub extern "C" fn whatif_colour_build(
+pub fn whatif_colour_build(
     plan: &[u8],
     rules: &[u8],
     colour_numbers: &mut [u16],

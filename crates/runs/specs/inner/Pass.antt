@@ -18,7 +18,7 @@
 -- RunArgs p r vs bs n s k == plan, rules and list that pass their checks, with N, S and K of their headers
 --
 -- A label or a state past a run's end counts 0, as in crate formats, so that the bounds hold at every index.
-use Rattle.std.specs.Prelude.{ℕ, zero, suc, ◌+◌, ◌-◌, ◌*◌, ◌≤◌, ◌<◌, ◌≡◌, true, List, [], ◌∷◌, length, get_or, drop}
+use Rattle.std.specs.Prelude.{ℕ, zero, suc, ◌+◌, ◌*◌, ◌≤◌, ◌<◌, ◌≡◌, true, List, [], ◌∷◌, length, get_or, drop}
 use Rattle.std.proofs.Math.Option.{Option, some}
 use Rattle.trees.specs.Automaton.{state}
 use Rattle.trees.specs.Postorder.{is_postorder, tree_of, waiting, read}

@@ -4,7 +4,7 @@
 -- JoinArgs s b p j m == what joining two maps needs: both rows inside, the first one's entries below s, room in m bytes
 -- through_entry m table base stride q == near_entry (tables) composed with the entries m
 -- ThroughArgs s l v m table base stride == what comparing with them needs, l bytes in the state table and m entries
-use Rattle.std.specs.Prelude.{ℕ, ◌+◌, ◌*◌, ◌≤◌, ◌<◌, ◌≡◌, List, length, get_or}
+use Rattle.std.specs.Prelude.{ℕ, ◌≤◌, ◌<◌, ◌≡◌, List, length, get_or}
 use Rattle.tables.specs.StateCells.{map_cell}
 use Rattle.tables.specs.inner.Rows.{RowIn, NearArgs}
 use Rattle.tables.specs.inner.Compare.{near_entry}

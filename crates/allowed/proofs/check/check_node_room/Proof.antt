@@ -1,16 +1,11 @@
 -- `check_node_room` meets its contract: each return cites the law of its answer.
-use mathlib.Core.Path.{◌≡◌, sym, ◌∙◌}
-use Rattle.formats.specs.Checks.{first_no, rule_table_checks}
+use mathlib.Core.Path.{sym, ◌∙◌}
 use Rattle.formats.proofs.InputLaws.{rule-table-passes}
 use Rattle.allowed.proofs.InputsLaws.{first-no, no_room, all_yes}
 use native.Mathlib.Omega.{arith}
 use borrow.Author.Rules.{rules}
 use Rattle.allowed.proofs.check.check_node_room.Statement.{statement}
 use Rattle.allowed.proofs.check.check_node_room.Tie as tie
-use Rattle.allowed.proofs.check.check_node_room.Reads as reads
-use Rattle.allowed.proofs.check.check_node_room.Lts as lts
-use Rattle.formats.proofs.bytes.read32.Reads as read32-reads
-use Rattle.formats.proofs.inputs.check_rule_inputs.Reads as check-rule-inputs-reads
 
 returns : tie.Need-returns-then-t-ne0
 returns c = let g = c.before.before.before.before.args in first-no g.plan.now g.rules.now g.room c.before.check_rule_inputs-t.result

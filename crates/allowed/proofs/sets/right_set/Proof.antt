@@ -1,14 +1,10 @@
 -- `right_set` meets its contract.
-use Prim.Native.Nat.{ℕ, ◌+◌, ◌*◌, ◌<◌}
-use mathlib.Core.Path.{◌≡◌}
+use Prim.Native.Nat.{◌+◌, ◌*◌}
 use Rattle.state_sets.proofs.BitLaws.{gathered-below}
 use native.Mathlib.Omega.{arith}
 use borrow.Author.Rules.{rules}
 use Rattle.allowed.proofs.sets.right_set.Statement.{statement}
 use Rattle.allowed.proofs.sets.right_set.Tie as tie
-use Rattle.allowed.proofs.sets.right_set.Reads as reads
-use Rattle.allowed.proofs.sets.right_set.Lts as lts
-use Rattle.state_sets.proofs.gather.gathered.Reads as gathered-reads
 
 returns : tie.Need-returns
 returns c =

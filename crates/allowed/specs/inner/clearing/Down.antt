@@ -10,7 +10,7 @@
 -- DownWritten ks ls lv inn mk s k i c before after == that, for the tree with kinds ks and labels ls
 -- DownArgs == what the pass needs: a buffer as the pass up leaves it, and the root's set c, for some leaf states and marks
 -- SetsDone, SetsWritten == where it ends: every node has its set
-use Rattle.std.specs.Prelude.{ℕ, ◌+◌, ◌-◌, ◌*◌, ◌/◌, ◌%◌, ◌≤◌, ◌<◌, ◌≡◌, cond, List, eqb, length, get_or, set}
+use Rattle.std.specs.Prelude.{ℕ, ◌-◌, ◌/◌, ◌%◌, ◌≤◌, ◌<◌, ◌≡◌, cond, List, eqb, length, get_or, set}
 use Rattle.trees.specs.Tree.{Tree, kinds_of, labels_of, size, kind_at}
 use Rattle.trees.specs.Automaton.{Automaton}
 use Rattle.formats.specs.Rules.{tree_automaton}

@@ -5,8 +5,6 @@ use Rattle.branches.proofs.FinishLaws.{first-no-label, first-label}
 use borrow.Author.Rules.{rules}
 use Rattle.branches.proofs.ask.after_upper.Statement.{statement}
 use Rattle.branches.proofs.ask.after_upper.Tie as tie
-use Rattle.branches.proofs.ask.after_upper.Reads as reads
-use Rattle.branches.proofs.ask.after_upper.Lts as lts
 
 cast-a : tie.Need-overflow_cast-a
 cast-a c = omega (arith, c.shared_slice_known-1.given c.before.args.u)

@@ -8,15 +8,8 @@ use Rattle.formats.specs.Buffers.{branch_tables}
 use Rattle.formats.proofs.BufferLaws.{Headed, headed-are}
 use Rattle.branches.proofs.AskParts.{Handed, handed}
 use borrow.Author.Rules.{rules}
-use Rattle.formats.proofs.bytes.read32.Reads as read32-reads
-use Rattle.tables.proofs.node_tables.moves.depth_at.Reads as depth-at-reads
 use Rattle.branches.proofs.ask.answer_branch.Statement.{statement}
 use Rattle.branches.proofs.ask.answer_branch.Tie as tie
-use Rattle.branches.proofs.ask.answer_branch.Reads as reads
-use Rattle.branches.proofs.ask.answer_branch.Lts as lts
-use Rattle.branches.proofs.ask.finish_answer.Reads as finish-answer-reads
-use Rattle.branches.proofs.ask.first_state.Reads as first-state-reads
-use Rattle.tables.proofs.replays.replay_climb.Reads as replay-climb-reads
 use Rattle.branches.proofs.AskAnswer.{first-args, replay-args, state_in, answer-first, answer-told}
 
 -- what the given headers and lengths say

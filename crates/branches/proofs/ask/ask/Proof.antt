@@ -10,12 +10,8 @@ use Rattle.formats.proofs.BufferLaws.{headed-are}
 use Rattle.branches.proofs.AskChecks.{ask-17, ask-13-upper, ask-13-lower, ask-16, ask-on}
 use Rattle.branches.proofs.AskTheorem.{ask-done}
 use borrow.Author.Rules.{rules}
-use Rattle.formats.proofs.bytes.read32.Reads as read32-reads
 use Rattle.branches.proofs.ask.ask.Statement.{statement}
 use Rattle.branches.proofs.ask.ask.Tie as tie
-use Rattle.branches.proofs.ask.ask.Reads as reads
-use Rattle.branches.proofs.ask.ask.Lts as lts
-use Rattle.branches.proofs.ask.answer_branch.Reads as answer-branch-reads
 
 -- 17 passes
 fits : (c : tie.Else-not-branch_buffers_fit) → let g = c.before.before.before.before.before.before.args in

@@ -1,23 +1,17 @@
 use mathlib.Core.Path.{sym, ap, subst}
 use lib.ListN.{length}
 use Rattle.branches.specs.inner.Finish.{told_of, StateIn}
-use native.Mathlib.Omega.{arith}
 use borrow.Author.Rules.{rules}
 use Rattle.branches.proofs.ask.finish_answer.Statement.{statement}
 use Rattle.branches.proofs.ask.finish_answer.Tie as tie
-use Rattle.branches.proofs.ask.finish_answer.Reads as reads
-use Rattle.branches.proofs.ask.finish_answer.Lts as lts
 
 shared-slice-read-mark : tie.Need-bounds-marks-x
 shared-slice-read-mark c =
-    let e = c.before.before.before in
-    let s = e.before.before in
-    subst (StateIn (length s.args.marks.now)) e.end-1.given.1 s.requires
+    subst (StateIn (length c.args.marks.now)) c.in-Reached.is c.requires
 
 returns : tie.Need-returns-in-Reached
 returns c =
-    let e = c.before.before.before in
-    ap (told_of e.before.before.args.marks.now) (sym e.end-1.given.1)
+    ap (told_of c.args.marks.now) (sym c.in-Reached.is)
 
 pub finish_answer_spec : {M : Type 1} → statement M
 finish_answer_spec =

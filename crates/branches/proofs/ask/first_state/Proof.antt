@@ -1,18 +1,14 @@
-use native.Mathlib.Omega.{arith}
 use Rattle.branches.proofs.FinishLaws.{first-start}
 use borrow.Author.Rules.{rules}
 use Rattle.branches.proofs.ask.first_state.Statement.{statement}
 use Rattle.branches.proofs.ask.first_state.Tie as tie
-use Rattle.branches.proofs.ask.first_state.Reads as reads
-use Rattle.branches.proofs.ask.first_state.Lts as lts
-use Rattle.branches.proofs.ask.after_upper.Reads as after-upper-reads
 
 returns : tie.Need-returns-in-WithUpper
-returns c = rw c.before.enum_told-1.given.1 c.after_upper.ensures
+returns c = rw c.in-WithUpper.is c.after_upper.ensures
 
 returns-2 : tie.Need-returns-in-BelowUpper
 returns-2 c =
-    rw c.enum_told-in-BelowUpper-1.given.1 (first-start _ _ _ _ _ c.before.before.before.before.requires.least)
+    rw c.in-BelowUpper.is (first-start _ _ _ _ _ c.requires.least)
 
 pub first_state_spec : {M : Type 1} → statement M
 first_state_spec =

@@ -6,35 +6,28 @@ use Rattle.branches.proofs.build.fill_branch.Statement.{statement}
 use Rattle.branches.proofs.build.fill_branch.Tie as tie
 
 build-node-table-requires : tie.Need-build_node_table-requires
-build-node-table-requires c κs = fill-link-args _ _ _ _ _ _ _ c.before.before.before.before.before.before.requires
+build-node-table-requires c κs = fill-link-args _ _ _ _ _ _ _ c.requires
 
 fill-steps-requires : tie.Need-fill_steps-requires
 fill-steps-requires c κs =
-    let b = c.before.before.before.before.build_node_table in
-    let a = c.before.before.before.before.before.before.before.before.before.before.before in
-    fill-branch-args _ _ _ _ _ _ _ a.requires a.args.node_table.now b.new.1.0 b.ensures b.auto.1.0
+    let b = c.build_node_table in
+    fill-branch-args _ _ _ _ _ _ _ c.requires c.args.node_table.now b.new.node_table b.ensures b.auto.node_table
 
 fill-maps-requires : tie.Need-fill_maps-requires
 fill-maps-requires c κs =
-    let d = c.before.before.before.before in
-    let e = d.before.before.before.before.before in
-    let a = e.before.before.before.before.before.before.before in
-    let f = d.fill_steps in
-    let b = e.build_node_table in
-    rw f.auto.1.1.1.1.1.1.0
-    (fill-branch-args _ _ _ _ _ _ _ a.requires a.args.node_table.now b.new.1.0 b.ensures b.auto.1.0)
+    let f = c.fill_steps in
+    let b = c.build_node_table in
+    rw f.auto.state_table
+    (fill-branch-args _ _ _ _ _ _ _ c.requires c.args.node_table.now b.new.node_table b.ensures b.auto.node_table)
 
 returns : tie.Need-returns
 returns c =
-    let m = c.before.before.fill_maps in
-    let d = c.before.before.before.before.before.before.before in
-    let e = d.before.before.before.before.before in
-    let a = e.before.before.before.before.before.before.before in
-    let f = d.fill_steps in
-    let b = e.build_node_table in
-    filled _ _ _ _ _ _ _ a.requires a.args.node_table.now b.new.1.0 b.ensures a.args.state_table.now
-    f.new.1.1.1.1.1.1.0 m.new.1.1.1.1.1.1.0 refl
-    (m.auto.1.1.1.1.1.1.0 ∙ f.auto.1.1.1.1.1.1.0)
+    let m = c.fill_maps in
+    let f = c.fill_steps in
+    let b = c.build_node_table in
+    filled _ _ _ _ _ _ _ c.requires c.args.node_table.now b.new.node_table b.ensures c.args.state_table.now
+    f.new.state_table m.new.state_table refl
+    (m.auto.state_table ∙ f.auto.state_table)
     f.ensures m.ensures
 
 pub fill_branch_spec : {M : Type 1} → statement M

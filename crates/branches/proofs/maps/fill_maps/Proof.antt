@@ -42,7 +42,7 @@ mapped a =
     let s = a.before.before.before.before.before.before.before.before.before in
     let r = a.before.before.before.same_row in
     a.loop-v.invariant.2 s.args.state_table.now
-    (map-root _ _ _ _ _ _ _ (entered s) (s.args.n - 1) s.args.state_table.now r.new.0 (omega (arith, pos s))
+    (map-root _ _ _ _ _ _ _ (entered s) (s.args.n - 1) s.args.state_table.now r.new.state_table (omega (arith, pos s))
     r.ensures)
 
 sub-root : tie.Need-overflow_sub-root invariant-loop decreases-loop
@@ -52,9 +52,9 @@ same-row-requires : tie.Need-same_row-requires invariant-loop decreases-loop
 same-row-requires c κs =
     let s = c.before.before.before.before.before in
     record {
-      room = row_in s.args.s s.args.n (s.args.n - 1) (length s.args.state_table.now) (omega (arith, pos s))
-          s.requires.room;
-      few = omega (arith, s.requires.few);
+      room = row_in c.args.s c.args.n (c.args.n - 1) (length c.args.state_table.now) (omega (arith, pos s))
+          c.requires.room;
+      few = omega (arith, c.requires.few);
     }
 
 loop-holds : tie.Need-loop-v-init invariant-loop decreases-loop
@@ -65,9 +65,9 @@ node-map-requires c κs =
     let i = c.before in
     let a = i.before in
     let s = a.before.before.before.before.before.before.before.before.before in
-    let e : a.loop-v.v - 1 + 1 ≡ a.loop-v.v = omega (arith, i.loop-v-test.true) in
-    map-args _ _ _ _ _ _ _ (entered s) (a.loop-v.v - 1) s.args.state_table.now a.loop-v.state_table (rw e (mapped a))
-    (omega (arith, a.loop-v.invariant.0, i.loop-v-test.true)) (omega (arith, kept-length a, s.requires.room))
+    let e : c.loop-v.v - 1 + 1 ≡ c.loop-v.v = omega (arith, c.loop-v-test.true) in
+    map-args _ _ _ _ _ _ _ (entered s) (c.loop-v.v - 1) c.args.state_table.now c.loop-v.state_table (rw e (mapped a))
+    (omega (arith, c.loop-v.invariant.0, c.loop-v-test.true)) (omega (arith, kept-length a, c.requires.room))
 
 loop-again : tie.Need-loop-v-preserved invariant-loop decreases-loop
 loop-again c =
@@ -75,12 +75,12 @@ loop-again c =
     let i = n.before.before in
     let a = i.before in
     let s = a.before.before.before.before.before.before.before.before.before in
-    let e : a.loop-v.v - 1 + 1 ≡ a.loop-v.v = omega (arith, i.loop-v-test.true) in (
-      omega (arith, a.loop-v.invariant.0),
-      n.node_map.auto.state_table ∙ a.loop-v.invariant.1,
-      λ b d. map-iteration _ _ _ _ _ _ _ (entered s) (a.loop-v.v - 1) b a.loop-v.state_table
-          n.node_map.new.state_table
-          (rw e (a.loop-v.invariant.2 b d)) (omega (arith, a.loop-v.invariant.0, i.loop-v-test.true)) n.node_map.ensures,
+    let e : c.loop-v.v - 1 + 1 ≡ c.loop-v.v = omega (arith, c.loop-v-test.true) in (
+      omega (arith, c.loop-v.invariant.0),
+      c.node_map.auto.state_table ∙ c.loop-v.invariant.1,
+      λ b d. map-iteration _ _ _ _ _ _ _ (entered s) (c.loop-v.v - 1) b c.loop-v.state_table
+          c.node_map.new.state_table
+          (rw e (c.loop-v.invariant.2 b d)) (omega (arith, c.loop-v.invariant.0, c.loop-v-test.true)) c.node_map.ensures,
     )
 
 same_length : tie.Need-shape_of-state_table invariant-loop decreases-loop
@@ -89,7 +89,7 @@ same_length c = kept-length c.before
 returns : tie.Need-returns invariant-loop decreases-loop
 returns c =
     let a = c.before in
-    let e : 0 ≡ a.loop-v.v = omega (arith, c.loop-v-test.false) in
+    let e : 0 ≡ c.loop-v.v = omega (arith, c.loop-v-test.false) in
     rw e (mapped a)
 
 pub fill_maps_spec : {M : Type 1} → statement M

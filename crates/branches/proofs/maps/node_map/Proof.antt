@@ -4,7 +4,6 @@ use mathlib.Core.Path.{◌≡◌, sym, subst}
 use mathlib.Core.List.{List}
 use Rattle.tables.specs.inner.Rows.{Rowed}
 use Rattle.branches.specs.inner.Maps.{node_map, NodeArgs}
-use native.Mathlib.Omega.{arith}
 use borrow.Author.Rules.{rules}
 use Rattle.branches.proofs.maps.node_map.Statement.{statement}
 use Rattle.branches.proofs.maps.node_map.Tie as tie

@@ -8,11 +8,6 @@ use Rattle.runs.specs.inner.Pass.{RunArgs}
 use Rattle.runs.proofs.RunLaws.{run-args, done-answer, done_refused}
 use Rattle.runs.proofs.fresh.fresh_run.Statement.{statement}
 use Rattle.runs.proofs.fresh.fresh_run.Tie as tie
-use Rattle.runs.proofs.fresh.fresh_run.Reads as reads
-use Rattle.runs.proofs.fresh.fresh_run.Lts as lts
-use Rattle.formats.proofs.bytes.read32.Reads as read32-reads
-use Rattle.formats.proofs.inputs.check_fresh_run.Reads as check-fresh-run-reads
-use Rattle.runs.proofs.fresh.run_passed.Reads as run-passed-reads
 
 -- where the first test is left, every check passes
 passed : (c : tie.Else-no-ne0)

@@ -5,9 +5,6 @@ use borrow.Author.Rules.{rules}
 use Rattle.runs.proofs.RunLaws.{parts-args, root_in, result-is}
 use Rattle.runs.proofs.fresh.run_passed.Statement.{statement}
 use Rattle.runs.proofs.fresh.run_passed.Tie as tie
-use Rattle.runs.proofs.fresh.run_passed.Reads as reads
-use Rattle.runs.proofs.fresh.run_passed.Lts as lts
-use Rattle.runs.proofs.pass.pass.Reads as pass-reads
 
 pass-requires : tie.Need-pass-q-requires
 pass-requires c κs = parts-args c.before.before.before.before.before.before.before.before.requires

@@ -38,7 +38,7 @@ cast-p c =
     let p = (inner c.before).requires in
     record { fits = omega (arith, left_below p.2 p.1.inside c.before.if-kinds-v-eq0.false, p.0.states) }
 
-sub-t24 : tie.Need-overflow-sub-t24
+sub-t24 : tie.Need-overflow_sub-result
 sub-t24 c = omega (arith, two c.before.before)
 
 rule-requires : tie.Need-rule-requires

@@ -3,7 +3,7 @@
 use Prim.Native.Nat.{ℕ, ◌-◌, ◌<◌}
 use mathlib.Core.Path.{◌≡◌, refl, ap, ◌∙◌}
 use native.Mathlib.Omega.{arith}
-use lib.ListN.{length, get_or}
+use lib.ListN.{get_or}
 use Rattle.runs.specs.inner.Listed.{marked}
 use Rattle.runs.proofs.PassLoop.{Passed, span-start, span-step, span-end, stretch-args}
 use Rattle.runs.proofs.pass.turns.Statement.{statement}

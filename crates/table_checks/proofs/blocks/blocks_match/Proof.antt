@@ -21,8 +21,7 @@ decreases-loop kinds labels node_table lengths leaves inner s k state_table list
 
 loop-holds : tie.Need-loop-b-init invariant-loop decreases-loop
 loop-holds c =
-    let s = c.before.before.before.before.before.before.before in
-    let g = s.args in (
+    let g = c.args in (
       refl,
       omega arith,
       refl,
@@ -32,29 +31,26 @@ loop-holds c =
 
 block-match-requires : tie.Need-block_match-requires invariant-loop decreases-loop
 block-match-requires c κs =
-    let s = c.before.before.before.before.before.before.before.before.before.before.before in
-    let g = s.args in
-    let l = c.before.before.before.loop-b in
-    let e = c.before.block_end-e in (
+    let g = c.args in
+    let l = c.loop-b in
+    let e = c.block_end-e in (
       record {
-        table = s.requires.0.table;
-        kinds = s.requires.0.kinds;
+        table = c.requires.0.table;
+        kinds = c.requires.0.kinds;
         order = omega (arith, e.ensures.0);
         inside = omega (arith, e.ensures.1, l.invariant.0);
-        fits = omega (arith, e.ensures.2, l.invariant.2, s.requires.0.fits);
+        fits = omega (arith, e.ensures.2, l.invariant.2, c.requires.0.fits);
         short = e.ensures.2;
       },
-      s.requires.1,
+      c.requires.1,
     )
 
 returns : tie.Need-returns-then-not-block_match invariant-loop decreases-loop
 returns c =
-    let d = c.before.before.before.before.before.before.before.before in
-    let s = d.before.before.before.before.before.before.before in
-    let g = s.args in
-    let l = c.before.before.before.before.before.before.before.loop-b in
-    let e = c.before.before.before.before.before.block_end-e in
-    let m = c.before.before.before.block_match in
+    let g = c.args in
+    let l = c.loop-b in
+    let e = c.block_end-e in
+    let m = c.block_match in
     nodes-no g.kinds.now g.labels.now g.node_table.now g.leaves.now g.inner.now g.s g.k
     g.state_table.now l.b e.result (omega (arith, e.ensures.1, l.invariant.0))
     (subst (λ (r : Bool). Means r (Nodes g.kinds.now g.labels.now g.node_table.now g.leaves.now
@@ -63,15 +59,13 @@ returns c =
 
 loop-again : tie.Need-loop-b-preserved invariant-loop decreases-loop
 loop-again c =
-    let d = c.before.before.before.before.before.before.before.before in
-    let s = d.before.before.before.before.before.before.before in
-    let g = s.args in
-    let l = c.before.before.before.before.before.before.before.loop-b in
-    let e = c.before.before.before.before.before.block_end-e in
-    let m = c.before.before.before.block_match in (
+    let g = c.args in
+    let l = c.loop-b in
+    let e = c.block_end-e in
+    let m = c.block_match in (
       refl,
       omega (arith, e.ensures.1, l.invariant.0),
-      m.auto.1.1.1.1.1.1.1.1.1.1.1.0 ∙ l.invariant.2,
+      m.auto.list ∙ l.invariant.2,
       nodes-more g.kinds.now g.labels.now g.node_table.now g.leaves.now g.inner.now g.s g.k
           g.state_table.now l.b e.result l.invariant.3
           (subst (λ (r : Bool). Means r (Nodes g.kinds.now g.labels.now g.node_table.now g.leaves.now
@@ -81,9 +75,8 @@ loop-again c =
 
 returns-2 : tie.Need-returns invariant-loop decreases-loop
 returns-2 c =
-    let s = c.before.before.before.before.before.before.before.before.before in
-    let g = s.args in
-    let l = c.before.loop-b in
+    let g = c.args in
+    let l = c.loop-b in
     nodes-all g.kinds.now g.labels.now g.node_table.now g.leaves.now g.inner.now g.s g.k
     g.state_table.now l.b (omega (arith, l.invariant.0, l.invariant.1, c.loop-b-test.false)) l.invariant.3
 

@@ -1,13 +1,10 @@
 -- `rules::check_tables` meets its contract.
 use mathlib.Core.Path.{sym, ◌∙◌}
-use lib.ListN.{length}
 use Rattle.formats.specs.Passing.{PlanPasses}
 use Rattle.formats.proofs.RuleLaws.{RulesPass}
 use Rattle.formats.proofs.InputLaws.{build-passes}
-use Rattle.formats.specs.Built.{built_node_table, built_state_table}
 use Rattle.tables.specs.inner.Written.{Passed}
 use Rattle.tables.proofs.BuildLaws.{build-args}
-use Rattle.tables.proofs.CheckTheorems.{build_number}
 use Rattle.tables.proofs.CheckAnswers.{check-refused, check-matches, check-differs}
 use native.Mathlib.Omega.{arith}
 use borrow.Author.Rules.{rules}

@@ -12,12 +12,12 @@ use Rattle.table_checks.proofs.rows16.row_differences16.Tie as tie
 
 returns : tie.Need-returns-then-node_table-right
 returns c =
-    let g = c.before.before.before.before.before.before.before.args in
-    let a = c.before.near_differences-a in
+    let g = c.args in
+    let a = c.near_differences-a in
     let b = c.near_differences-b in
     or-test a.result b.result
     ∙ rows-near g.node_table.now g.inner.now 16 g.n g.state_table.now g.v g.left g.row
-    g.col g.step c.before.before.if-node_table-right.true (eqb a.result 0) (eqb b.result 0) a.ensures
+    g.col g.step c.if-node_table-right.true (eqb a.result 0) (eqb b.result 0) a.ensures
     b.ensures
 
 cast-inside : tie.Need-overflow_cast-node_table
@@ -25,46 +25,41 @@ cast-inside c =
     omega (
       arith,
       c.shared_slice_known-5-1.given
-          (c.before.before.before.before.before.before.args.v * 4 + 1),
+          (c.args.v * 4 + 1),
     )
 
 join-maps-requires : tie.Need-join_maps-requires
 join-maps-requires c κs =
-    let s = c.before.before.before.before.before.before.before.before in
-    let g = s.args in
-    subst (λ (j : ℕ). JoinArgs 16 g.state_table.now g.v j 16) (sym c.before.inside-j.ensures.0)
-    s.requires.maps
+    let g = c.args in
+    subst (λ (j : ℕ). JoinArgs 16 g.state_table.now g.v j 16) (sym c.inside-j.ensures.0)
+    c.requires.maps
 
 joined-differences-requires : tie.Need-joined_differences-a-requires
 joined-differences-requires c κs =
-    let s = c.before.before.before.before.before.before.before.before.before.before.before in
-    let m = c.before.before.join_maps in
+    let m = c.join_maps in
     record {
-      near = s.requires.right;
-      below = λ q h. omega (arith, s.requires.right_below q h, s.requires.maps.room, m.auto.1.1.1.1.0);
+      near = c.requires.right;
+      below = λ q h. omega (arith, c.requires.right_below q h, c.requires.maps.room, m.auto.joined);
     }
 
 joined-differences-requires-2 : tie.Need-joined_differences-b-requires
 joined-differences-requires-2 c κs =
-    let s = c.before.before.before.before.before.before.before.before.before.before.before.before.before in
-    let m = c.before.before.before.before.join_maps in
+    let m = c.join_maps in
     record {
-      near = s.requires.left;
-      below = λ q h. omega (arith, s.requires.left_below q h, s.requires.maps.room, m.auto.1.1.1.1.0);
+      near = c.requires.left;
+      below = λ q h. omega (arith, c.requires.left_below q h, c.requires.maps.room, m.auto.joined);
     }
 
 returns-2 : tie.Need-returns
 returns-2 c =
-    let d = c.before.before.before.before.before.before.before.before in
-    let s = d.before.before.before.before.before.before in
-    let g = s.args in
-    let j = c.before.before.before.before.before.before.before.inside-j in
-    let m = c.before.before.before.before.before.join_maps in
-    let a = c.before.before.joined_differences-a in
+    let g = c.args in
+    let j = c.inside-j in
+    let m = c.join_maps in
+    let a = c.joined_differences-a in
     let b = c.joined_differences-b in
     or-test a.result b.result
     ∙ rows-joined g.node_table.now g.inner.now 16 g.n g.state_table.now g.v g.left g.row
-    g.col g.step s.requires d.before.if-node_table-right.false j.result j.ensures.0 m.new.1.1.1.1.0 m.ensures
+    g.col g.step c.requires c.if-node_table-right.false j.result j.ensures.0 m.new.joined m.ensures
     (eqb a.result 0) (eqb b.result 0) a.ensures b.ensures
 
 pub row_differences16_spec : {M : Type 1} → statement M

@@ -10,11 +10,6 @@ use native.Mathlib.Omega.{arith}
 use borrow.Author.Rules.{rules}
 use Rattle.allowed.proofs.clearing.call.clearing_states.Statement.{statement}
 use Rattle.allowed.proofs.clearing.call.clearing_states.Tie as tie
-use Rattle.allowed.proofs.clearing.call.clearing_states.Reads as reads
-use Rattle.allowed.proofs.clearing.call.clearing_states.Lts as lts
-use Rattle.allowed.proofs.check.check_node_room.Reads as check-node-room-reads
-use Rattle.allowed.proofs.clearing.call.write_clearing.Reads as write-clearing-reads
-use Rattle.formats.proofs.bytes.read32.Reads as read32-reads
 
 -- no check failed
 passed : (c : tie.Else-refused-ne0)

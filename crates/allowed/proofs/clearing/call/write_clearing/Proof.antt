@@ -6,10 +6,6 @@ use native.Mathlib.Omega.{arith}
 use borrow.Author.Rules.{rules}
 use Rattle.allowed.proofs.clearing.call.write_clearing.Statement.{statement}
 use Rattle.allowed.proofs.clearing.call.write_clearing.Tie as tie
-use Rattle.allowed.proofs.clearing.call.write_clearing.Reads as reads
-use Rattle.allowed.proofs.clearing.call.write_clearing.Lts as lts
-use Rattle.allowed.proofs.clearing.call.write_sets.Reads as write-sets-reads
-use Rattle.formats.proofs.rules.inner_count.Reads as inner-count-reads
 
 write-sets-requires : tie.Need-write_sets-requires
 write-sets-requires c κs =

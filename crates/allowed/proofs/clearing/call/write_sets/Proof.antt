@@ -1,20 +1,14 @@
 -- `write_sets` meets its contract: up, then down from the marked states.
 use mathlib.Core.Path.{sym, subst}
-use mathlib.Core.List.{List}
 use Prim.Native.Nat.{ℕ}
 use lib.ListN.{length}
 use Rattle.allowed.proofs.StepLaws.{mark-args}
 use Rattle.allowed.specs.inner.clearing.Down.{DownWritten}
 use Rattle.allowed.proofs.clearing.DownLoop.{down-start}
-use Rattle.allowed.proofs.clearing.up.pairs_up.Reads as pairs-up-reads
-use Rattle.allowed.proofs.sets.marked_set.Reads as marked-set-reads
-use Rattle.allowed.proofs.clearing.down.sets_down.Reads as sets-down-reads
 use native.Mathlib.Omega.{arith}
 use borrow.Author.Rules.{rules}
 use Rattle.allowed.proofs.clearing.call.write_sets.Statement.{statement}
 use Rattle.allowed.proofs.clearing.call.write_sets.Tie as tie
-use Rattle.allowed.proofs.clearing.call.write_sets.Reads as reads
-use Rattle.allowed.proofs.clearing.call.write_sets.Lts as lts
 
 marked-set-requires : tie.Need-marked_set-c-requires
 marked-set-requires c κs = mark-args c.before.before.before.before.before.before.before.before.before.before.args.marks.now c.before.before.before.before.before.before.before.before.before.before.args.s c.before.before.before.before.before.before.before.before.before.before.requires.0.few c.before.before.before.before.before.before.before.before.before.before.requires.1

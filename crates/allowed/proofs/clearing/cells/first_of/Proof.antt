@@ -4,17 +4,15 @@ use native.Mathlib.Omega.{arith}
 use borrow.Author.Rules.{rules}
 use Rattle.allowed.proofs.clearing.cells.first_of.Statement.{statement}
 use Rattle.allowed.proofs.clearing.cells.first_of.Tie as tie
-use Rattle.allowed.proofs.clearing.cells.first_of.Reads as reads
-use Rattle.allowed.proofs.clearing.cells.first_of.Lts as lts
 
 returns : tie.Need-returns-then-kinds-u-eq0
-returns c = first-of-leaf c.before.before.args.kinds.now c.before.before.args.cells.now c.before.before.args.u c.if-kinds-u-eq0.true
+returns c = first-of-leaf c.args.kinds.now c.args.cells.now c.args.u c.if-kinds-u-eq0.true
 
 cast-result : tie.Need-overflow_cast-result
-cast-result c = omega (arith, c.shared_slice_known-2-1.given c.before.before.before.args.u)
+cast-result c = omega (arith, c.shared_slice_known-2-1.given c.args.u)
 
 returns-2 : tie.Need-returns
-returns-2 c = first-of-inner c.before.before.before.args.kinds.now c.before.before.before.args.cells.now c.before.before.before.args.u c.before.if-kinds-u-eq0.false
+returns-2 c = first-of-inner c.args.kinds.now c.args.cells.now c.args.u c.if-kinds-u-eq0.false
 
 pub first_of_spec : {M : Type 1} → statement M
 first_of_spec =

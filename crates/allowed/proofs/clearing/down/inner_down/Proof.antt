@@ -4,35 +4,29 @@ use mathlib.Core.Path.{sym, subst}
 use lib.ListN.{get_or}
 use Rattle.allowed.specs.inner.Sets.{SetArgs}
 use Rattle.allowed.proofs.clearing.DownLoop.{inner_made, inner-returned}
-use Rattle.allowed.proofs.clearing.cells.first_of.Reads as first-of-reads
-use Rattle.allowed.proofs.sets.right_set.Reads as right-set-reads
-use Rattle.allowed.proofs.sets.left_set.Reads as left-set-reads
-use native.Mathlib.Omega.{arith}
 use borrow.Author.Rules.{rules}
 use Rattle.allowed.proofs.clearing.down.inner_down.Statement.{statement}
 use Rattle.allowed.proofs.clearing.down.inner_down.Tie as tie
-use Rattle.allowed.proofs.clearing.down.inner_down.Reads as reads
-use Rattle.allowed.proofs.clearing.down.inner_down.Lts as lts
 
 right-set-requires : tie.Need-right_set-r-requires
 right-set-requires c κs =
-    let g = c.before.before.before.before.before.before.args in
+    let g = c.args in
     subst (λ (f : ℕ). SetArgs g.inner.now g.s g.k (get_or g.cells.now f 0 % 16) g.a (get_or g.cells.now f 0 / 16 % 16))
-    (sym c.before.first_of-f.ensures) c.before.before.before.before.before.before.requires.sets
+    (sym c.first_of-f.ensures) c.requires.sets
 
 left-set-requires : tie.Need-left_set-l-requires
 left-set-requires c κs =
-    let g = c.before.before.before.before.before.before.before.args in
+    let g = c.args in
     subst (λ (f : ℕ). SetArgs g.inner.now g.s g.k (get_or g.cells.now f 0 % 16) g.a (get_or g.cells.now f 0 / 16 % 16))
-    (sym c.before.before.first_of-f.ensures) c.before.before.before.before.before.before.before.requires.sets
+    (sym c.first_of-f.ensures) c.requires.sets
 
 returns : tie.Need-returns
 returns c =
-    let g = c.before.before.before.before.before.before.before.before.args in (
-      inner_made g.kinds.now g.inner.now g.s g.k g.cells.now g.v g.a g.c c.before.before.before.first_of-f.result
-          c.before.before.before.first_of-f.ensures c.left_set-l.result c.left_set-l.ensures.0,
-      inner-returned g.kinds.now g.inner.now g.s g.k g.cells.now g.v g.a g.c c.before.before.before.first_of-f.result
-          c.before.before.before.first_of-f.ensures c.before.right_set-r.result c.before.right_set-r.ensures.0,
+    let g = c.args in (
+      inner_made g.kinds.now g.inner.now g.s g.k g.cells.now g.v g.a g.c c.first_of-f.result
+          c.first_of-f.ensures c.left_set-l.result c.left_set-l.ensures.0,
+      inner-returned g.kinds.now g.inner.now g.s g.k g.cells.now g.v g.a g.c c.first_of-f.result
+          c.first_of-f.ensures c.right_set-r.result c.right_set-r.ensures.0,
     )
 
 pub inner_down_spec : {M : Type 1} → statement M

@@ -3,11 +3,9 @@ use native.Mathlib.Omega.{arith}
 use borrow.Author.Rules.{rules}
 use Rattle.allowed.proofs.clearing.down.leaf_down.Statement.{statement}
 use Rattle.allowed.proofs.clearing.down.leaf_down.Tie as tie
-use Rattle.allowed.proofs.clearing.down.leaf_down.Reads as reads
-use Rattle.allowed.proofs.clearing.down.leaf_down.Lts as lts
 
 cast-result : tie.Need-overflow_cast-result
-cast-result c = omega (arith, c.slice_known-1.given c.before.args.v)
+cast-result c = omega (arith, c.slice_known-1.given c.args.v)
 
 pub leaf_down_spec : {M : Type 1} → statement M
 leaf_down_spec =

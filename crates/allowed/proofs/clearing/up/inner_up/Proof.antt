@@ -1,35 +1,31 @@
 -- `inner_up` meets its contract.
 use Prim.Native.Nat.{ℕ, ◌-◌}
-use mathlib.Core.Path.{◌≡◌, sym, ap, ◌∙◌, subst}
+use mathlib.Core.Path.{sym, ap, subst}
 use Rattle.allowed.specs.inner.clearing.Cells.{first_node_in}
 use Rattle.allowed.specs.inner.clearing.Up.{PairArgs}
 use Rattle.allowed.proofs.clearing.UpLoop.{up-made}
-use Rattle.allowed.proofs.clearing.cells.first_of.Reads as first-of-reads
-use Rattle.allowed.proofs.clearing.up.pair_cell.Reads as pair-cell-reads
 use native.Mathlib.Omega.{arith}
 use borrow.Author.Rules.{rules}
 use Rattle.allowed.proofs.clearing.up.inner_up.Statement.{statement}
 use Rattle.allowed.proofs.clearing.up.inner_up.Tie as tie
-use Rattle.allowed.proofs.clearing.up.inner_up.Reads as reads
-use Rattle.allowed.proofs.clearing.up.inner_up.Lts as lts
 
 pair-cell-requires : tie.Need-pair_cell-x-requires
 pair-cell-requires c κs =
-    let g = c.before.before.before.before.before.before.before.before.args in
+    let g = c.args in
     subst (λ (f : ℕ). PairArgs g.kinds.now g.labels.now g.leaves.now g.inner.now g.s g.k g.cells.now f g.v)
-    (sym c.before.first_of-f.ensures) c.before.before.before.before.before.before.before.before.requires.pair
+    (sym c.first_of-f.ensures) c.requires.pair
 
 cast-cells : tie.Need-overflow_cast-cells
 cast-cells c =
-    let g = c.before.before.before.before.before.before.before.before.before.before.before.args in
-    let e = ap (λ (f : ℕ). first_node_in g.kinds.now g.cells.now (f - 1)) c.before.before.before.before.first_of-f.ensures in
-    omega (arith, c.first_of-g.ensures, e, c.before.before.before.before.before.before.before.before.before.before.before.requires.left_low)
+    let g = c.args in
+    let e = ap (λ (f : ℕ). first_node_in g.kinds.now g.cells.now (f - 1)) c.first_of-f.ensures in
+    omega (arith, c.first_of-g.ensures, e, c.requires.left_low)
 
 returns : tie.Need-returns
 returns c =
-    let g = c.before.before.before.before.before.before.before.before.before.before.before.args in
+    let g = c.args in
     up-made g.kinds.now g.labels.now g.leaves.now g.inner.now g.s g.k g.cells.now g.v
-    c.before.before.before.before.first_of-f.result c.before.before.pair_cell-x.result c.first_of-g.result c.before.before.before.before.first_of-f.ensures c.before.before.pair_cell-x.ensures c.first_of-g.ensures
+    c.first_of-f.result c.pair_cell-x.result c.first_of-g.result c.first_of-f.ensures c.pair_cell-x.ensures c.first_of-g.ensures
 
 pub inner_up_spec : {M : Type 1} → statement M
 inner_up_spec =

@@ -10,11 +10,6 @@ use native.Mathlib.Omega.{arith}
 use borrow.Author.Rules.{rules}
 use Rattle.allowed.proofs.masks.call.allowed_labels.Statement.{statement}
 use Rattle.allowed.proofs.masks.call.allowed_labels.Tie as tie
-use Rattle.allowed.proofs.masks.call.allowed_labels.Reads as reads
-use Rattle.allowed.proofs.masks.call.allowed_labels.Lts as lts
-use Rattle.allowed.proofs.check.check_node_room.Reads as check-node-room-reads
-use Rattle.allowed.proofs.masks.call.write_allowed.Reads as write-allowed-reads
-use Rattle.formats.proofs.bytes.read32.Reads as read32-reads
 
 -- no check failed
 passed : (c : tie.Else-refused-ne0)

@@ -1,15 +1,12 @@
 -- `set_root` meets its contract.
 use Prim.Native.Nat.{ℕ, ◌+◌, ◌*◌}
-use mathlib.Core.Path.{◌≡◌, ap}
+use mathlib.Core.Path.{ap}
 use lib.ListN.{get_or, set}
 use Rattle.allowed.specs.inner.masks.Root.{root_set}
 use native.Mathlib.Omega.{arith}
 use borrow.Author.Rules.{rules}
 use Rattle.allowed.proofs.masks.call.set_root.Statement.{statement}
 use Rattle.allowed.proofs.masks.call.set_root.Tie as tie
-use Rattle.allowed.proofs.masks.call.set_root.Reads as reads
-use Rattle.allowed.proofs.masks.call.set_root.Lts as lts
-use Rattle.allowed.proofs.sets.marked_set.Reads as marked-set-reads
 
 mul-cells : tie.Need-overflow_mul-cells
 mul-cells c = omega (arith, c.before.marked_set-c.ensures.1)

@@ -6,10 +6,6 @@ use native.Mathlib.Omega.{arith}
 use borrow.Author.Rules.{rules}
 use Rattle.allowed.proofs.masks.call.write_allowed.Statement.{statement}
 use Rattle.allowed.proofs.masks.call.write_allowed.Tie as tie
-use Rattle.allowed.proofs.masks.call.write_allowed.Reads as reads
-use Rattle.allowed.proofs.masks.call.write_allowed.Lts as lts
-use Rattle.allowed.proofs.masks.call.write_parts.Reads as write-parts-reads
-use Rattle.formats.proofs.rules.inner_count.Reads as inner-count-reads
 
 write-parts-requires : tie.Need-write_parts-requires
 write-parts-requires c κs =

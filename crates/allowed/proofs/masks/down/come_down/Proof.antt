@@ -1,6 +1,6 @@
 -- `come_down` meets its contract. The loop's invariant: the nodes from v on have had their turns.
-use Prim.Native.Nat.{ℕ, ◌+◌, ◌-◌, ◌≤◌, ◌<◌}
-use mathlib.Core.Path.{◌≡◌, refl, sym, ap, ◌∙◌, subst}
+use Prim.Native.Nat.{ℕ, ◌+◌, ◌-◌, ◌≤◌}
+use mathlib.Core.Path.{◌≡◌, refl, sym, subst}
 use mathlib.Core.List.{List}
 use lib.ListN.{length}
 use Rattle.allowed.specs.inner.masks.Down.{DownWritten}
@@ -9,9 +9,6 @@ use native.Mathlib.Omega.{arith}
 use borrow.Author.Rules.{rules}
 use Rattle.allowed.proofs.masks.down.come_down.Statement.{statement}
 use Rattle.allowed.proofs.masks.down.come_down.Tie as tie
-use Rattle.allowed.proofs.masks.down.come_down.Reads as reads
-use Rattle.allowed.proofs.masks.down.come_down.Lts as lts
-use Rattle.allowed.proofs.masks.down.node_down.Reads as node-down-reads
 
 abbrev invariant-loop : tie.invariant-loop-v
 invariant-loop kinds labels leaves inner s k cells₀ v₀ cells v =

@@ -1,19 +1,14 @@
 -- `inner_down` meets its contract.
-use Prim.Native.Nat.{ℕ, ◌+◌, ◌-◌, ◌*◌, ◌%◌, ◌<◌}
-use mathlib.Core.Path.{◌≡◌, ap, ap₂, ◌∙◌}
+use Prim.Native.Nat.{ℕ, ◌+◌, ◌-◌, ◌*◌}
+use mathlib.Core.Path.{◌≡◌}
 use mathlib.Core.List.{List}
-use lib.ListN.{length, get_or, set, length-set}
+use lib.ListN.{get_or, set, length-set}
 use Rattle.allowed.specs.inner.masks.Down.{inner_down}
 use Rattle.allowed.specs.inner.masks.Up.{left_within}
 use native.Mathlib.Omega.{arith}
 use borrow.Author.Rules.{rules}
 use Rattle.allowed.proofs.masks.down.inner_down.Statement.{statement}
 use Rattle.allowed.proofs.masks.down.inner_down.Tie as tie
-use Rattle.allowed.proofs.masks.down.inner_down.Reads as reads
-use Rattle.allowed.proofs.masks.down.inner_down.Lts as lts
-use Rattle.allowed.proofs.masks.down.inner_labels.Reads as inner-labels-reads
-use Rattle.allowed.proofs.sets.left_set.Reads as left-set-reads
-use Rattle.allowed.proofs.sets.right_set.Reads as right-set-reads
 
 -- three stores of equal numbers
 stored : (b : List ℕ) (r l v x y p q p' q' m m' : ℕ) → p ≡ p' → q ≡ q' → m ≡ m'

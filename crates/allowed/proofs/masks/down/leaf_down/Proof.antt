@@ -1,15 +1,10 @@
 -- `leaf_down` meets its contract.
-use Prim.Native.Nat.{ℕ}
-use mathlib.Core.Path.{◌≡◌, ap}
+use mathlib.Core.Path.{ap}
 use lib.ListN.{set}
 use Rattle.allowed.specs.inner.masks.Down.{leaf_down}
-use native.Mathlib.Omega.{arith}
 use borrow.Author.Rules.{rules}
 use Rattle.allowed.proofs.masks.down.leaf_down.Statement.{statement}
 use Rattle.allowed.proofs.masks.down.leaf_down.Tie as tie
-use Rattle.allowed.proofs.masks.down.leaf_down.Reads as reads
-use Rattle.allowed.proofs.masks.down.leaf_down.Lts as lts
-use Rattle.state_sets.proofs.gather.gathered.Reads as gathered-reads
 
 returns : tie.Need-returns
 unfolding leaf_down

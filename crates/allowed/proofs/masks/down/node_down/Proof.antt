@@ -1,16 +1,10 @@
 -- `node_down` meets its contract.
-use Prim.Native.Nat.{ℕ}
-use mathlib.Core.Path.{◌≡◌, sym, ◌∙◌}
-use lib.ListN.{get_or}
+use mathlib.Core.Path.{◌∙◌}
 use Rattle.allowed.proofs.masks.DownLoop.{leaf-case, inner-case}
 use native.Mathlib.Omega.{arith}
 use borrow.Author.Rules.{rules}
 use Rattle.allowed.proofs.masks.down.node_down.Statement.{statement}
 use Rattle.allowed.proofs.masks.down.node_down.Tie as tie
-use Rattle.allowed.proofs.masks.down.node_down.Reads as reads
-use Rattle.allowed.proofs.masks.down.node_down.Lts as lts
-use Rattle.allowed.proofs.masks.down.inner_down.Reads as inner-down-reads
-use Rattle.allowed.proofs.masks.down.leaf_down.Reads as leaf-down-reads
 
 returns : tie.Need-returns-then-kinds-v-eq0
 returns c =

@@ -1,15 +1,11 @@
 -- `node_cell` meets its contract.
-use Prim.Native.Nat.{ℕ, ◌+◌, ◌*◌}
-use mathlib.Core.Path.{◌≡◌, ◌∙◌}
+use mathlib.Core.Path.{◌∙◌}
 use lib.ListN.{get_or}
 use Rattle.allowed.proofs.masks.UpLoop.{leaf-cell, inner-cell}
 use native.Mathlib.Omega.{arith}
 use borrow.Author.Rules.{rules}
 use Rattle.allowed.proofs.masks.up.node_cell.Statement.{statement}
 use Rattle.allowed.proofs.masks.up.node_cell.Tie as tie
-use Rattle.allowed.proofs.masks.up.node_cell.Reads as reads
-use Rattle.allowed.proofs.masks.up.node_cell.Lts as lts
-use Rattle.allowed.proofs.masks.up.inner_cell.Reads as inner-cell-reads
 
 cast-result : tie.Need-overflow_cast-result
 cast-result c =

@@ -11,26 +11,21 @@ use Rattle.tables.proofs.node_tables.build.build_node_table.Reads as build-node-
 
 build-node-table-requires : tie.Need-build_node_table-requires
 build-node-table-requires c κs =
-    node-args _ _ _ _ _ _ _ c.before.before.before.before.before.before.requires
+    node-args _ _ _ _ _ _ _ c.requires
 
 write-words-requires : tie.Need-write_words-requires
 write-words-requires c κs =
-    let b = c.before.before.before.before in
-    let s = b.before.before.before.before.before.before.before in
-    let t = b.build_node_table in
-    word-args _ _ _ _ _ _ _ s.requires s.args.numbers.now t.new.1.0 t.ensures t.auto.1.0
-    s.args.bytes.now refl
+    let t = c.build_node_table in
+    word-args _ _ _ _ _ _ _ c.requires c.args.numbers.now t.new.node_table t.ensures t.auto.node_table
+    c.args.bytes.now refl
 
 returns : tie.Need-returns
 returns c =
-    let a = c.before.before.before.before in
-    let b = a.before.before.before.before.before in
-    let s = b.before.before.before.before.before.before.before in
-    let t = b.build_node_table in
-    let w = a.write_words in
-    filled _ _ _ _ _ _ _ s.requires s.args.numbers.now t.new.1.0 t.ensures t.auto.1.0
-    s.args.bytes.now w.new.1.1.1.1.1.0 w.new.1.1.1.1.0 w.ensures refl
-    (w.auto.1.1.1.1.0 ∙ t.auto.1.0) refl w.auto.1.1.1.1.1.0
+    let t = c.build_node_table in
+    let w = c.write_words in
+    filled _ _ _ _ _ _ _ c.requires c.args.numbers.now t.new.node_table t.ensures t.auto.node_table
+    c.args.bytes.now w.new.bytes w.new.numbers w.ensures refl
+    (w.auto.numbers ∙ t.auto.node_table) refl w.auto.bytes
 
 pub fill_colours_spec : {M : Type 1} → statement M
 fill_colours_spec =

@@ -16,26 +16,24 @@ use Rattle.colour_tables.proofs.forests.rows.next_row.Reads as next-row-reads
 use Rattle.colour_tables.proofs.forests.rows.put_row.Reads as put-row-reads
 
 -- the row is inside, and its place fits a word
-fits : (c : tie.After-put_row-arg-1) → let g = c.before.before.before.before.before.args in
+fits : (c : tie.After-put_row-arg-1) → let g = c.args in
     (g.c * (g.n * 4) + g.n * 4 ≤ length g.nums.now) × (g.c * (g.n * 4) ≤ 3932100)
     × (g.v * 4 + 4 ≤ g.n * 4) × (g.n ≤ 65535)
 fits c =
-    let i = c.before.before.before in
-    let s = i.before.before in
-    let A : NextArgs s.args.nums.now s.args.n s.args.c s.args.v = s.requires i.if-c-lt1.false in (
+    let A : NextArgs c.args.nums.now c.args.n c.args.c c.args.v = c.requires c.if-c-lt1.false in (
       A.room,
-      omega (arith, A.most, mul-le-mul_right (s.args.n * 4) A.few),
+      omega (arith, A.most, mul-le-mul_right (c.args.n * 4) A.few),
       omega (arith, A.at),
       A.most,
     )
 
 returns : tie.Need-returns-then-c-lt1
 returns c =
-    let g = c.before.before.args in
+    let g = c.args in
     sym (colour-none g.nums.now g.n g.c g.v g.lands c.if-c-lt1.true)
 
 next-row-requires : tie.Need-next_row-row-requires
-next-row-requires c κs = c.before.before.before.requires c.before.if-c-lt1.false
+next-row-requires c κs = c.requires c.if-c-lt1.false
 
 mul-put-row : tie.Need-overflow_mul-n
 mul-put-row c = omega (arith, fits c)
@@ -54,13 +52,10 @@ put-row-requires c κs = omega (arith, fits c)
 
 returns-2 : tie.Need-returns
 returns-2 c =
-    let m = c.before.before in
-    let r = m.before.before in
-    let i = r.before.before in
-    let g = i.before.before.args in
-    m.put_row.ensures
-    ∙ ap (λ (x : Row). put_row g.nums.now (g.c * (g.n * 4) + g.v * 4) x g.lands) r.next_row-row.ensures
-    ∙ sym (colour-put g.nums.now g.n g.c g.v g.lands i.if-c-lt1.false)
+    let g = c.args in
+    c.put_row.ensures
+    ∙ ap (λ (x : Row). put_row g.nums.now (g.c * (g.n * 4) + g.v * 4) x g.lands) c.next_row-row.ensures
+    ∙ sym (colour-put g.nums.now g.n g.c g.v g.lands c.if-c-lt1.false)
 
 pub put_colour_spec : {M : Type 1} → statement M
 put_colour_spec =

@@ -1,7 +1,6 @@
 -- `take_in_turn` meets its contract: after c iterations the row is that of the first c colours.
 use Prim.Native.Nat.{◌-◌, ◌^◌, ◌≤◌, ◌<◌}
 use mathlib.Core.Path.{◌≡◌, refl, ◌∙◌}
-use mathlib.Core.Logic.{⊎_elim}
 use lib.ListN.{length, get_or, take, length-set}
 use Rattle.colours.specs.Colouring.{takes}
 use Rattle.colour_tables.proofs.rows.TurnLoop.{below, takes-small, power_small, bit-own, bit-low}
@@ -10,6 +9,7 @@ use native.Mathlib.Omega.{arith}
 use borrow.Author.Rules.{rules}
 use Rattle.colour_tables.proofs.rows.turns.take_in_turn.Statement.{statement}
 use Rattle.colour_tables.proofs.rows.turns.take_in_turn.Tie as tie
+use Rattle.colour_tables.proofs.rows.turns.take_in_turn.Lts.{then-taken-q-eq0, else-taken-q-eq0}
 use Rattle.colour_tables.proofs.rows.turns.take_in_turn.Reads as reads
 use Rattle.colour_tables.proofs.rows.turns.take_in_turn.Lts as lts
 use Rattle.colour_tables.proofs.forests.rows.put_colour.Reads as put-colour-reads
@@ -24,76 +24,66 @@ abbrev decreases-loop : tie.decreases-loop-c
 decreases-loop successors bytes₀ numbers₀ n at v owners₀ taken₀ c₀ bytes numbers owners taken c = length successors - c
 
 loop-holds : tie.Need-loop-c-init invariant-loop decreases-loop
-loop-holds c =
-    let s = c.before.before.before in (
-      refl,
-      refl,
-      take-start s.args.successors.now s.args.bytes.now s.args.numbers.now s.args.n s.args.at
-          s.args.v s.requires.node _ refl,
-    )
+loop-holds c = (
+  refl,
+  refl,
+  take-start c.args.successors.now c.args.bytes.now c.args.numbers.now c.args.n c.args.at
+      c.args.v c.requires.node _ refl,
+)
 
 -- the state led to is below 16
 successors-small : (c : tie.After-shared_slice_known-in-loop-c-1 invariant-loop decreases-loop)
-    → let a = c.before.before in get_or a.before.before.before.before.args.successors.now a.loop-c.c 0 < 16
+    → get_or c.args.successors.now c.loop-c.c 0 < 16
 successors-small c =
-    let a = c.before.before in
-    a.before.before.before.before.requires.turns.small a.loop-c.c c.before.loop-c-test.true
+    c.requires.turns.small c.loop-c.c c.loop-c-test.true
 
-taken-small : (c : tie.After-shared_slice_known-in-loop-c-1 invariant-loop decreases-loop) → c.before.before.loop-c.taken < 65536
+taken-small : (c : tie.After-shared_slice_known-in-loop-c-1 invariant-loop decreases-loop) → c.loop-c.taken < 65536
 taken-small c =
-    let a = c.before.before in
-    let o = a.loop-c in
-    let s = a.before.before.before.before in
-    below s.args.successors.now o.invariant.2.row o.invariant.2.landed o.owners o.taken o.c
-    o.invariant.2.turns s.requires.turns c.before.loop-c-test.true
+    let o = c.loop-c in
+    below c.args.successors.now o.invariant.2.row o.invariant.2.landed o.owners o.taken o.c
+    o.invariant.2.turns c.requires.turns c.loop-c-test.true
 
 -- the bit that is taken
 bit_is : (c : tie.Joined-taken-q-eq0 invariant-loop decreases-loop)
-    → let a = c.before.before.before in
+    →
     c.if-taken-q-eq0.bit
-    ≡ 2 ^ takes (take a.loop-c.c a.loop-c.invariant.2.row)
-    (get_or a.before.before.before.before.args.successors.now a.loop-c.c 0)
+    ≡ 2 ^ takes (take c.loop-c.c c.loop-c.invariant.2.row)
+    (get_or c.args.successors.now c.loop-c.c 0)
 bit_is c =
-    let a = c.before.before.before in
-    let o = a.loop-c in
-    let s = a.before.before.before.before in
-    let h = c.before.before.loop-c-test.true in
-    ⊎_elim
-    (λ w. w.1 ∙ bit-own s.args.successors.now o.invariant.2.row o.invariant.2.landed o.owners o.taken o.c
-    o.invariant.2.turns s.requires.turns h w.0.taken)
-    (λ w. w.1 ∙ bit-low s.args.successors.now o.invariant.2.row o.invariant.2.landed o.owners o.taken o.c
-    o.invariant.2.turns s.requires.turns h w.0.left)
-    c.if-taken-q-eq0.branch
+    let o = c.loop-c in
+    let h = c.loop-c-test.true in
+    elim c.if-taken-q-eq0.branch [
+      | then-taken-q-eq0 w ↦ w.bit-is ∙ bit-own c.args.successors.now o.invariant.2.row o.invariant.2.landed o.owners o.taken o.c
+          o.invariant.2.turns c.requires.turns h w.if-taken-q-eq0.true
+      | else-taken-q-eq0 w ↦ w.bit-is ∙ bit-low c.args.successors.now o.invariant.2.row o.invariant.2.landed o.owners o.taken o.c
+          o.invariant.2.turns c.requires.turns h w.if-taken-q-eq0.false
+    ]
 
 bit-small : (c : tie.Joined-taken-q-eq0 invariant-loop decreases-loop) → c.if-taken-q-eq0.bit ≤ 65536
 bit-small c =
-    let a = c.before.before.before in
-    let o = a.loop-c in
-    let s = a.before.before.before.before in
-    let h = c.before.before.loop-c-test.true in
+    let o = c.loop-c in
+    let h = c.loop-c-test.true in
     omega (
       arith,
       bit_is c,
-      power_small s.args.successors.now o.invariant.2.row o.invariant.2.landed o.owners o.taken o.c
-          o.invariant.2.turns s.requires.turns h,
+      power_small c.args.successors.now o.invariant.2.row o.invariant.2.landed o.owners o.taken o.c
+          o.invariant.2.turns c.requires.turns h,
     )
 
 -- the state that is taken
 place_is : (c : tie.After-place_of_bit-x invariant-loop decreases-loop)
-    → let a = c.before.before.before.before.before in
-    (c.place_of_bit-x.result-1
-    ≡ takes (take a.loop-c.c a.loop-c.invariant.2.row)
-    (get_or a.before.before.before.before.args.successors.now a.loop-c.c 0))
-    × (c.place_of_bit-x.result-1 < 16)
+    →
+    (c.place_of_bit-x.result
+    ≡ takes (take c.loop-c.c c.loop-c.invariant.2.row)
+    (get_or c.args.successors.now c.loop-c.c 0))
+    × (c.place_of_bit-x.result < 16)
 place_is c =
-    let a = c.before.before.before.before.before in
-    let o = a.loop-c in
-    let s = a.before.before.before.before in
-    let h = c.before.before.before.before.loop-c-test.true in
-    let l : takes (take o.c o.invariant.2.row) (get_or s.args.successors.now o.c 0) < 16 =
-    takes-small s.args.successors.now o.invariant.2.row o.invariant.2.landed o.owners o.taken o.c
-    o.invariant.2.turns s.requires.turns h in
-    let e : c.place_of_bit-x.result-1 ≡ takes (take o.c o.invariant.2.row) (get_or s.args.successors.now o.c 0) =
+    let o = c.loop-c in
+    let h = c.loop-c-test.true in
+    let l : takes (take o.c o.invariant.2.row) (get_or c.args.successors.now o.c 0) < 16 =
+    takes-small c.args.successors.now o.invariant.2.row o.invariant.2.landed o.owners o.taken o.c
+    o.invariant.2.turns c.requires.turns h in
+    let e : c.place_of_bit-x.result ≡ takes (take o.c o.invariant.2.row) (get_or c.args.successors.now o.c 0) =
     c.place_of_bit-x.ensures _ l (bit_is c.before.before) in
     (e, omega arith)
 
@@ -123,45 +113,37 @@ array-write-owners c = (place_is c).1
 
 slice-write-bytes : tie.Need-bounds-bytes-at invariant-loop decreases-loop
 slice-write-bytes c =
-    let a = c.before.before.before.before.before in
-    let s = a.before.before.before.before in
-    omega (arith, s.requires.room, a.loop-c.invariant.0, c.before.before.before.before.loop-c-test.true)
+    omega (arith, c.requires.room, c.loop-c.invariant.0, c.loop-c-test.true)
 
 array-read-put-colour : tie.Need-bounds-owners-q invariant-loop decreases-loop
 array-read-put-colour c = successors-small c.before.before.before.before
 
 put-colour-requires : tie.Need-put_colour-requires invariant-loop decreases-loop
 put-colour-requires c κs =
-    let a = c.before.before.before.before.before.before in
-    let o = a.loop-c in
-    let s = a.before.before.before.before in
-    take-args s.args.successors.now s.args.bytes.now s.args.numbers.now s.args.n s.args.at
-    s.args.v s.requires.node s.requires o.bytes o.numbers o.owners o.taken o.c o.invariant.2
-    c.before.before.before.before.before.loop-c-test.true o.invariant.0 o.invariant.1
+    let o = c.loop-c in
+    take-args c.args.successors.now c.args.bytes.now c.args.numbers.now c.args.n c.args.at
+    c.args.v c.requires.node c.requires o.bytes o.numbers o.owners o.taken o.c o.invariant.2
+    c.loop-c-test.true o.invariant.0 o.invariant.1
 
 loop-again : tie.Need-loop-c-preserved invariant-loop decreases-loop
 loop-again c =
     let m = c.before.before in
     let p = m.before.before in
-    let a = p.before.before.before.before.before in
-    let o = a.loop-c in
-    let s = a.before.before.before.before in
-    let h = p.before.before.before.before.loop-c-test.true in (
+    let o = c.loop-c in
+    let h = c.loop-c-test.true in (
       length-set o.bytes _ _ ∙ o.invariant.0,
-      m.put_colour.auto.nums ∙ o.invariant.1,
-      take-turn s.args.successors.now s.args.bytes.now s.args.numbers.now s.args.n s.args.at
-          s.args.v s.requires.node s.requires o.bytes o.numbers o.owners o.taken o.c o.invariant.2
-          h o.invariant.0 o.invariant.1 p.place_of_bit-x.result-1 p.before.before.if-taken-q-eq0.bit m.put_colour.new.nums
-          (bit_is p.before.before) (place_is p).0 m.put_colour.ensures,
+      c.put_colour.auto.nums ∙ o.invariant.1,
+      take-turn c.args.successors.now c.args.bytes.now c.args.numbers.now c.args.n c.args.at
+          c.args.v c.requires.node c.requires o.bytes o.numbers o.owners o.taken o.c o.invariant.2
+          h o.invariant.0 o.invariant.1 c.place_of_bit-x.result c.if-taken-q-eq0.bit c.put_colour.new.nums
+          (bit_is p.before.before) (place_is p).0 c.put_colour.ensures,
     )
 
 returns : tie.Need-returns invariant-loop decreases-loop
 returns c =
-    let a = c.before in
-    let o = a.loop-c in
-    let s = a.before.before.before.before in
-    take_done s.args.successors.now s.args.bytes.now s.args.numbers.now s.args.n s.args.at
-    s.args.v s.requires.node o.bytes o.numbers o.owners o.taken o.c o.invariant.2
+    let o = c.loop-c in
+    take_done c.args.successors.now c.args.bytes.now c.args.numbers.now c.args.n c.args.at
+    c.args.v c.requires.node o.bytes o.numbers o.owners o.taken o.c o.invariant.2
     c.loop-c-test.false
 
 pub take_in_turn_spec : {M : Type 1} → statement M

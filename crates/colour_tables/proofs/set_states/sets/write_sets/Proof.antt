@@ -25,104 +25,85 @@ abbrev decreases-loop : tie.decreases-loop-v
 decreases-loop labels inner s k count base numbers₀ bytes₀ n v₀ numbers bytes v = v
 
 -- what the functions of one node need
-above : (i : tie.In-loop-v invariant-loop decreases-loop) → let a = i.before in let s = a.before.before.before.before.before in
-    AboveArgs a.loop-v.bytes a.loop-v.numbers (length s.args.labels.now) s.args.base s.args.count
-    (a.loop-v.v - 1)
+above : (i : tie.In-loop-v invariant-loop decreases-loop) →
+    AboveArgs i.loop-v.bytes i.loop-v.numbers (length i.args.labels.now) i.args.base i.args.count
+    (i.loop-v.v - 1)
 above i =
-    let a = i.before in
-    let s = a.before.before.before.before.before in
-    let f = a.loop-v.invariant in
-    sets-above s.args.labels.now s.args.inner.now s.args.s s.args.k s.args.count s.args.base
-    s.args.bytes.now s.args.numbers.now s.requires _ a.loop-v.v (a.loop-v.v - 1) a.loop-v.bytes
-    a.loop-v.numbers f.1
+    let f = i.loop-v.invariant in
+    sets-above i.args.labels.now i.args.inner.now i.args.s i.args.k i.args.count i.args.base
+    i.args.bytes.now i.args.numbers.now i.requires _ i.loop-v.v (i.loop-v.v - 1) i.loop-v.bytes
+    i.loop-v.numbers f.1
     (omega (arith, i.loop-v-test.true)) (omega (arith, i.loop-v-test.true, f.0)) f.2 f.3 f.4
 
 down : (r : tie.After-row_above-above invariant-loop decreases-loop)
-    → let a = r.before.before.before.before in
-    let s = a.before.before.before.before.before in
-    DownArgs r.row_above-above.result s.args.labels.now a.loop-v.numbers s.args.inner.now a.loop-v.bytes
-    (length s.args.labels.now) s.args.s s.args.k s.args.count (a.loop-v.v - 1)
+    →
+    DownArgs r.row_above-above.result r.args.labels.now r.loop-v.numbers r.args.inner.now r.loop-v.bytes
+    (length r.args.labels.now) r.args.s r.args.k r.args.count (r.loop-v.v - 1)
 down r =
-    let i = r.before.before.before in
-    let a = i.before in
-    let s = a.before.before.before.before.before in
-    let f = a.loop-v.invariant in
-    sets_down s.args.labels.now s.args.inner.now s.args.s s.args.k s.args.count s.args.base
-    s.args.bytes.now s.args.numbers.now s.requires _ a.loop-v.v (a.loop-v.v - 1) a.loop-v.bytes
-    a.loop-v.numbers f.1
-    (omega (arith, i.loop-v-test.true)) (omega (arith, i.loop-v-test.true, f.0)) f.2 f.3 f.4
+    let f = r.loop-v.invariant in
+    sets_down r.args.labels.now r.args.inner.now r.args.s r.args.k r.args.count r.args.base
+    r.args.bytes.now r.args.numbers.now r.requires _ r.loop-v.v (r.loop-v.v - 1) r.loop-v.bytes
+    r.loop-v.numbers f.1
+    (omega (arith, r.loop-v-test.true)) (omega (arith, r.loop-v-test.true, f.0)) f.2 f.3 f.4
     r.row_above-above.result r.row_above-above.ensures
 
 place : (r : tie.After-row_above-above invariant-loop decreases-loop) (successors : List ℕ)
-    → let a = r.before.before.before.before in
-    let s = a.before.before.before.before.before in
-    RowOf s.args.count
-    (λ c. down_set s.args.labels.now a.loop-v.numbers s.args.inner.now a.loop-v.bytes
-    (length s.args.labels.now) s.args.s s.args.k (a.loop-v.v - 1) (get_or r.row_above-above.result c 0)) successors
-    → TurnArgs successors a.loop-v.bytes a.loop-v.numbers (length s.args.labels.now) s.args.base s.args.count
-    (a.loop-v.v - 1)
+    →
+    RowOf r.args.count
+    (λ c. down_set r.args.labels.now r.loop-v.numbers r.args.inner.now r.loop-v.bytes
+    (length r.args.labels.now) r.args.s r.args.k (r.loop-v.v - 1) (get_or r.row_above-above.result c 0)) successors
+    → TurnArgs successors r.loop-v.bytes r.loop-v.numbers (length r.args.labels.now) r.args.base r.args.count
+    (r.loop-v.v - 1)
 place r =
-    let i = r.before.before.before in
-    let a = i.before in
-    let s = a.before.before.before.before.before in
-    let f = a.loop-v.invariant in
-    sets-place s.args.labels.now s.args.inner.now s.args.s s.args.k s.args.count s.args.base
-    s.args.bytes.now s.args.numbers.now s.requires _ a.loop-v.v (a.loop-v.v - 1) a.loop-v.bytes
-    a.loop-v.numbers f.1
-    (omega (arith, i.loop-v-test.true)) (omega (arith, i.loop-v-test.true, f.0)) f.2 f.3 f.4
+    let f = r.loop-v.invariant in
+    sets-place r.args.labels.now r.args.inner.now r.args.s r.args.k r.args.count r.args.base
+    r.args.bytes.now r.args.numbers.now r.requires _ r.loop-v.v (r.loop-v.v - 1) r.loop-v.bytes
+    r.loop-v.numbers f.1
+    (omega (arith, r.loop-v-test.true)) (omega (arith, r.loop-v-test.true, f.0)) f.2 f.3 f.4
     r.row_above-above.result r.row_above-above.ensures
 
 loop-holds : tie.Need-loop-v-init invariant-loop decreases-loop
-loop-holds c =
-    let s = c.before.before.before.before in (
-      omega arith,
-      refl,
-      refl,
-      refl,
-      sets-start s.args.labels.now s.args.inner.now s.args.s s.args.k s.args.count s.args.base
-          s.args.bytes.now s.args.numbers.now s.requires (length s.args.labels.now) refl,
-    )
+loop-holds c = (
+  omega arith,
+  refl,
+  refl,
+  refl,
+  sets-start c.args.labels.now c.args.inner.now c.args.s c.args.k c.args.count c.args.base
+      c.args.bytes.now c.args.numbers.now c.requires (length c.args.labels.now) refl,
+)
 
 row-above-requires : tie.Need-row_above-above-requires invariant-loop decreases-loop
-row-above-requires c κs = above c.before.before
+row-above-requires c κs = above c
 
 successors-down-requires : tie.Need-successors_down-successors-requires invariant-loop decreases-loop
-successors-down-requires c κs = down c.before.before
+successors-down-requires c κs = down c
 
 put-copy-requires : tie.Need-put_copy-requires invariant-loop decreases-loop
 put-copy-requires c κs =
     let d = c.before.before in
-    place d.before.before.before d.successors_down-successors.result d.successors_down-successors.ensures
+    place d.before c.successors_down-successors.result c.successors_down-successors.ensures
 
 loop-again : tie.Need-loop-v-preserved invariant-loop decreases-loop
 loop-again c =
-    let p = c.before.before.before.before in
-    let d = p.before.before.before in
-    let r = d.before.before.before in
-    let i = r.before.before.before in
-    let a = i.before in
-    let s = a.before.before.before.before.before in
-    let f = a.loop-v.invariant in (
+    let f = c.loop-v.invariant in (
       omega (arith, f.0),
       refl,
       omega arith,
       omega arith,
-      sets-next s.args.labels.now s.args.inner.now s.args.s s.args.k s.args.count s.args.base
-          s.args.bytes.now s.args.numbers.now s.requires _ a.loop-v.v (a.loop-v.v - 1) a.loop-v.bytes
-          a.loop-v.numbers f.1
-          (omega (arith, i.loop-v-test.true)) (omega (arith, i.loop-v-test.true, f.0)) f.2 f.3 f.4
-          r.row_above-above.result r.row_above-above.ensures d.successors_down-successors.result d.successors_down-successors.ensures _ _
-          p.put_copy.ensures,
+      sets-next c.args.labels.now c.args.inner.now c.args.s c.args.k c.args.count c.args.base
+          c.args.bytes.now c.args.numbers.now c.requires _ c.loop-v.v (c.loop-v.v - 1) c.loop-v.bytes
+          c.loop-v.numbers f.1
+          (omega (arith, c.loop-v-test.true)) (omega (arith, c.loop-v-test.true, f.0)) f.2 f.3 f.4
+          c.row_above-above.result c.row_above-above.ensures c.successors_down-successors.result c.successors_down-successors.ensures _ _
+          c.put_copy.ensures,
     )
 
 returns : tie.Need-returns invariant-loop decreases-loop
 returns c =
-    let a = c.before in
-    let s = a.before.before.before.before.before in
-    let z : a.loop-v.v ≡ 0 = omega (arith, c.loop-v-test.false) in
-    subst (λ (i : ℕ). Sets s.args.labels.now s.args.inner.now s.args.s s.args.k s.args.count
-    s.args.base s.args.bytes.now s.args.numbers.now i a.loop-v.bytes a.loop-v.numbers) z
-    a.loop-v.invariant.4
+    let z : c.loop-v.v ≡ 0 = omega (arith, c.loop-v-test.false) in
+    subst (λ (i : ℕ). Sets c.args.labels.now c.args.inner.now c.args.s c.args.k c.args.count
+    c.args.base c.args.bytes.now c.args.numbers.now i c.loop-v.bytes c.loop-v.numbers) z
+    c.loop-v.invariant.4
 
 pub write_sets_spec : {M : Type 1} → statement M
 write_sets_spec =

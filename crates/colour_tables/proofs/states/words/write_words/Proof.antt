@@ -25,106 +25,85 @@ abbrev decreases-loop : tie.decreases-loop-v
 decreases-loop labels steps s k numbers₀ bytes₀ n v₀ numbers bytes v = v
 
 -- what the functions of one node need
-above : (i : tie.In-loop-v invariant-loop decreases-loop) → let a = i.before in let s = a.before.before.before.before.before in
-    AboveArgs a.loop-v.bytes a.loop-v.numbers (length s.args.labels.now) 0 s.args.s (a.loop-v.v - 1)
+above : (i : tie.In-loop-v invariant-loop decreases-loop) →
+    AboveArgs i.loop-v.bytes i.loop-v.numbers (length i.args.labels.now) 0 i.args.s (i.loop-v.v - 1)
 above i =
-    let a = i.before in
-    let s = a.before.before.before.before.before in
-    let f = a.loop-v.invariant in
-    words-above s.args.labels.now s.args.steps.now s.args.s s.args.k s.args.bytes.now
-    s.args.numbers.now s.requires _ a.loop-v.v (a.loop-v.v - 1) a.loop-v.bytes a.loop-v.numbers f.1
+    let f = i.loop-v.invariant in
+    words-above i.args.labels.now i.args.steps.now i.args.s i.args.k i.args.bytes.now
+    i.args.numbers.now i.requires _ i.loop-v.v (i.loop-v.v - 1) i.loop-v.bytes i.loop-v.numbers f.1
     (omega (arith, i.loop-v-test.true)) (omega (arith, i.loop-v-test.true, f.0)) f.2 f.3 f.4
 
 successors : (r : tie.After-row_above-above invariant-loop decreases-loop) (a : ℕ)
-    → let s = r.before.before.before.before.before.before.before.before.before in
-    a < s.args.k → LedArgs r.row_above-above.result s.args.steps.now s.args.s s.args.k a
+    →
+    a < r.args.k → LedArgs r.row_above-above.result r.args.steps.now r.args.s r.args.k a
 successors r =
-    let i = r.before.before.before in
-    let a = i.before in
-    let s = a.before.before.before.before.before in
-    let f = a.loop-v.invariant in
-    words-successors s.args.labels.now s.args.steps.now s.args.s s.args.k s.args.bytes.now
-    s.args.numbers.now s.requires _ a.loop-v.v (a.loop-v.v - 1) a.loop-v.bytes a.loop-v.numbers f.1
-    (omega (arith, i.loop-v-test.true)) (omega (arith, i.loop-v-test.true, f.0)) f.2 f.3 f.4
+    let f = r.loop-v.invariant in
+    words-successors r.args.labels.now r.args.steps.now r.args.s r.args.k r.args.bytes.now
+    r.args.numbers.now r.requires _ r.loop-v.v (r.loop-v.v - 1) r.loop-v.bytes r.loop-v.numbers f.1
+    (omega (arith, r.loop-v-test.true)) (omega (arith, r.loop-v-test.true, f.0)) f.2 f.3 f.4
     r.row_above-above.result r.row_above-above.ensures
 
 place : (r : tie.After-row_above-above invariant-loop decreases-loop) (successors : List ℕ) (x : ℕ)
-    → let a = r.before.before.before.before in
-    let s = a.before.before.before.before.before in
-    RowOf s.args.s (λ c. get_or s.args.steps.now (get_or r.row_above-above.result c 0 * s.args.k + x) 0) successors
-    → TurnArgs successors a.loop-v.bytes a.loop-v.numbers (length s.args.labels.now) 0 s.args.s (a.loop-v.v - 1)
+    →
+    RowOf r.args.s (λ c. get_or r.args.steps.now (get_or r.row_above-above.result c 0 * r.args.k + x) 0) successors
+    → TurnArgs successors r.loop-v.bytes r.loop-v.numbers (length r.args.labels.now) 0 r.args.s (r.loop-v.v - 1)
 place r =
-    let i = r.before.before.before in
-    let a = i.before in
-    let s = a.before.before.before.before.before in
-    let f = a.loop-v.invariant in
-    words-place s.args.labels.now s.args.steps.now s.args.s s.args.k s.args.bytes.now
-    s.args.numbers.now s.requires _ a.loop-v.v (a.loop-v.v - 1) a.loop-v.bytes a.loop-v.numbers f.1
-    (omega (arith, i.loop-v-test.true)) (omega (arith, i.loop-v-test.true, f.0)) f.2 f.3 f.4
+    let f = r.loop-v.invariant in
+    words-place r.args.labels.now r.args.steps.now r.args.s r.args.k r.args.bytes.now
+    r.args.numbers.now r.requires _ r.loop-v.v (r.loop-v.v - 1) r.loop-v.bytes r.loop-v.numbers f.1
+    (omega (arith, r.loop-v-test.true)) (omega (arith, r.loop-v-test.true, f.0)) f.2 f.3 f.4
     r.row_above-above.result r.row_above-above.ensures
 
 loop-holds : tie.Need-loop-v-init invariant-loop decreases-loop
-loop-holds c =
-    let s = c.before.before.before.before in (
-      omega arith,
-      refl,
-      refl,
-      refl,
-      words-start s.args.labels.now s.args.steps.now s.args.s s.args.k s.args.bytes.now
-          s.args.numbers.now s.requires (length s.args.labels.now) refl,
-    )
+loop-holds c = (
+  omega arith,
+  refl,
+  refl,
+  refl,
+  words-start c.args.labels.now c.args.steps.now c.args.s c.args.k c.args.bytes.now
+      c.args.numbers.now c.requires (length c.args.labels.now) refl,
+)
 
 row-above-requires : tie.Need-row_above-above-requires invariant-loop decreases-loop
-row-above-requires c κs = above c.before.before
+row-above-requires c κs = above c
 
 shared-slice-read-a : tie.Need-bounds-labels-v invariant-loop decreases-loop
 shared-slice-read-a c =
-    let i = c.before.before.before.before in
-    omega (arith, i.before.loop-v.invariant.0, i.loop-v-test.true)
+    omega (arith, c.loop-v.invariant.0, c.loop-v-test.true)
 
 cast-a : tie.Need-overflow_cast-a invariant-loop decreases-loop
 cast-a c =
-    let s = c.before.before.before.before.before.before.before.before.before.before in
-    omega (arith, s.requires.below (c.before.before.before.before.before.loop-v.v - 1), s.requires.label_most)
+    omega (arith, c.requires.below (c.loop-v.v - 1), c.requires.label_most)
 
 successors-by-word-requires : tie.Need-successors_by_word-successors-requires invariant-loop decreases-loop
 successors-by-word-requires c κs =
     let r = c.before in
-    let s = r.before.before.before.before.before.before.before.before.before in
-    successors r (get_or s.args.labels.now _ 0) (s.requires.below _)
+    successors r (get_or c.args.labels.now _ 0) (c.requires.below _)
 
 put-copy-requires : tie.Need-put_copy-requires invariant-loop decreases-loop
 put-copy-requires c κs =
     let d = c.before.before in
-    place d.before.before d.successors_by_word-successors.result _ d.successors_by_word-successors.ensures
+    place d.before.before c.successors_by_word-successors.result _ c.successors_by_word-successors.ensures
 
 loop-again : tie.Need-loop-v-preserved invariant-loop decreases-loop
 loop-again c =
-    let p = c.before.before.before.before in
-    let d = p.before.before.before in
-    let r = d.before.before in
-    let i = r.before.before.before in
-    let a = i.before in
-    let s = a.before.before.before.before.before in
-    let f = a.loop-v.invariant in (
+    let f = c.loop-v.invariant in (
       omega (arith, f.0),
       refl,
       omega arith,
       omega arith,
-      words-next s.args.labels.now s.args.steps.now s.args.s s.args.k s.args.bytes.now
-          s.args.numbers.now s.requires _ a.loop-v.v (a.loop-v.v - 1) a.loop-v.bytes a.loop-v.numbers f.1
-          (omega (arith, i.loop-v-test.true)) (omega (arith, i.loop-v-test.true, f.0)) f.2 f.3 f.4
-          r.row_above-above.result r.row_above-above.ensures d.successors_by_word-successors.result _ d.successors_by_word-successors.ensures _ _ refl
-          p.put_copy.ensures,
+      words-next c.args.labels.now c.args.steps.now c.args.s c.args.k c.args.bytes.now
+          c.args.numbers.now c.requires _ c.loop-v.v (c.loop-v.v - 1) c.loop-v.bytes c.loop-v.numbers f.1
+          (omega (arith, c.loop-v-test.true)) (omega (arith, c.loop-v-test.true, f.0)) f.2 f.3 f.4
+          c.row_above-above.result c.row_above-above.ensures c.successors_by_word-successors.result _ c.successors_by_word-successors.ensures _ _ refl
+          c.put_copy.ensures,
     )
 
 returns : tie.Need-returns invariant-loop decreases-loop
 returns c =
-    let a = c.before in
-    let s = a.before.before.before.before.before in
-    let z : a.loop-v.v ≡ 0 = omega (arith, c.loop-v-test.false) in
-    subst (λ (i : ℕ). Words s.args.labels.now s.args.steps.now s.args.s s.args.k s.args.bytes.now
-    s.args.numbers.now i a.loop-v.bytes a.loop-v.numbers) z a.loop-v.invariant.4
+    let z : c.loop-v.v ≡ 0 = omega (arith, c.loop-v-test.false) in
+    subst (λ (i : ℕ). Words c.args.labels.now c.args.steps.now c.args.s c.args.k c.args.bytes.now
+    c.args.numbers.now i c.loop-v.bytes c.loop-v.numbers) z c.loop-v.invariant.4
 
 pub write_words_spec : {M : Type 1} → statement M
 write_words_spec =

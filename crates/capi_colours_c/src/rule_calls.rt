@@ -1,0 +1,3 @@
+// Rule questions by colours.
+pub mod ask;
+pub mod build;
