@@ -26,7 +26,7 @@ use Rattle.formats.specs.Inputs.{Inputs, Sizes, sizes_in}
 use Rattle.model.specs.Calls as calls
 use Rattle.model.specs.Calls.{Call, load, start, advance, cancel, read, may_load, may_start, is_running}
 use Rattle.model.specs.Refusals.{refusal}
-use Rattle.model.specs.Model.{stage_of, Record, idle, fresh_record, loaded_record, with_last, outcome_of, last_of, marks_by, left_within}
+use Rattle.model.specs.Model.{stage_of, Record, idle, fresh_record, loaded_record, with_last, last_of, marks_by, left_within}
 use Rattle.questions.specs.PartInputs.{view_by}
 use Rattle.model.specs.Model.{roots_in, started}
 use Rattle.model.specs.Model.{stepped, advance_with, part_next, acted, proceeds, unless, act}
@@ -37,7 +37,7 @@ use Rattle.session.specs.declared.state.Phase.TheVariants.{Empty}
 use Rattle.session.specs.declared.state.Session.{Session}
 use Rattle.session.specs.Records.{phase_to, record_of, session_of, padded, zero_from, rises_to}
 use Rattle.session.specs.Records.{sizes_fit, no_question, list_fits, parts_fit, question_fits, valid_in, valid}
-use Rattle.session.specs.Records.{last_to, last_is_own}
+use Rattle.session.specs.Records.{last_is_own}
 use Rattle.session.specs.inner.Shapes.{Shaped}
 use Rattle.session.proofs.PadLaws.{take-padded, take-padded-by, zero-padded, zero-padded-by, zero-replicate}
 use Rattle.session.proofs.RecordLaws.{Listed, record-of-struct, struct-shaped}

@@ -1,10 +1,10 @@
 -- Advance, by what the code has found: one law for each answer.
 --     advance-1, advance-17, advance-18, step-found
 --     advance-limits, next-args, handle-args       what the calls below ask
-use Prim.Native.Nat.{ℕ, suc, ◌+◌, ◌-◌, ◌*◌, ◌≤◌, ◌<◌}
+use Prim.Native.Nat.{ℕ, suc, ◌+◌, ◌-◌, ◌≤◌, ◌<◌}
 use mathlib.Core.Path.{◌≡◌, refl, sym, ap, ◌∙◌}
 use mathlib.Core.Bool.{Bool, true, false, not, cond, ◌&&◌}
-use mathlib.Core.List.{List, [], ◌∷◌}
+use mathlib.Core.List.{[], ◌∷◌}
 use mathlib.Core.Option.{Option, none, some}
 use native.Mathlib.Omega.{arith}
 use native.Mathlib.Numerals.{add-one}
@@ -32,8 +32,7 @@ use Rattle.model.specs.Calls.{Call, advance, is_running}
 use Rattle.model.specs.Refusals.{refusal}
 use Rattle.model.specs.Model.{Acted, acted, last_then, stepped, advance_with, part_next, proceeds}
 use Rattle.questions.specs.PartInputs.{view_by}
-use Rattle.session.specs.declared.state.Phase.{Phase}
-use Rattle.session.specs.declared.state.Phase.TheVariants.{Running, Answered}
+use Rattle.session.specs.declared.state.Phase.TheVariants.{Running}
 use Rattle.session.specs.declared.state.Last.{Last}
 use Rattle.session.specs.declared.state.Session.{Session}
 use Rattle.session.specs.declared.answers.AdvanceAnswer.TheVariants.{More, Finished, Refused as NotAdvanced}

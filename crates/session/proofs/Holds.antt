@@ -7,10 +7,10 @@
 --     last_fits            that answer, if there is one, is of some question on S states
 --     holds_of             a struct that passes its conditions has such a record
 --     tails-of, struct_is  and is the struct of that record
-use Prim.Native.Nat.{ℕ, ◌-◌, ◌*◌, ◌≤◌, ◌<◌}
-use mathlib.Core.Path.{◌≡◌, refl, sym, ap, ◌∙◌, subst}
-use mathlib.Core.Bool.{true, false, ◌&&◌}
-use mathlib.Core.Option.{Option, none, some}
+use Prim.Native.Nat.{◌-◌, ◌*◌, ◌≤◌, ◌<◌}
+use mathlib.Core.Path.{◌≡◌, refl, sym, subst}
+use mathlib.Core.Bool.{true, false}
+use mathlib.Core.Option.{some}
 use native.Mathlib.Omega.{arith}
 use lib.ListN.{length, take}
 use lib.Seq.{length-take-le}
@@ -26,7 +26,7 @@ use Rattle.session.specs.declared.state.Phase.TheVariants.{Empty, Loaded, Runnin
 use Rattle.session.specs.declared.state.Session.{Session}
 use Rattle.session.specs.Records.{phase_of, sizes_of, record_of, session_of, zero_from, rises_to}
 use Rattle.session.specs.Records.{sizes_fit, no_question, list_fits, parts_fit, question_fits, valid_in, valid}
-use Rattle.session.specs.Records.{last_in, last_to, no_last, is_none, last_question_fits}
+use Rattle.session.specs.Records.{last_in, last_to, is_none, last_question_fits}
 use Rattle.session.specs.inner.Shapes.{Shaped}
 use Rattle.session.proofs.LastLaws.{LastFits, OwnAnswer, last_below, none_is, none-back, present-back, last-of, last-back, own_of, own-last}
 use Rattle.session.proofs.RecordLaws.{Tails, struct-of-record}

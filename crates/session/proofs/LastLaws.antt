@@ -6,14 +6,14 @@
 --     last-is, last-append, last_below   the last of a list of states
 use Prim.Native.Nat.{ℕ, zero, suc, ◌+◌, ◌-◌, ◌*◌, ◌≤◌, ◌<◌}
 use mathlib.Core.Path.{◌≡◌, refl, sym, ap, ◌∙◌}
-use mathlib.Core.Bool.{Bool, true, false, cond, not, ◌&&◌}
+use mathlib.Core.Bool.{Bool, true, false, cond, ◌&&◌}
 use mathlib.Core.List.{List, [], ◌∷◌, ◌++◌}
 use mathlib.Core.Option.{Option, none, some}
 use native.Mathlib.Omega.{arith}
-use lib.Dec.{leb, ltb, eqb}
+use lib.Dec.{leb, ltb}
 use lib.ListN.{length, get_or, take}
 use lib.Seq.{get_or-take}
-use borrow.Author.Tests.{le-leb, lt-ltb, eq-eqb, leb-true, ltb-true, eqb-true, not-true}
+use borrow.Author.Tests.{le-leb, lt-ltb, leb-true, ltb-true, eqb-true, not-true}
 use Rattle.list_laws.specs.Tests.{all_below}
 use Rattle.list_laws.proofs.BoolLaws.{and_both, and_left, and_right}
 use Rattle.trees.proofs.MoveLaws.{both}

@@ -1,7 +1,7 @@
 -- Start, by what the code has found: one law for each answer.
 --     start-1, start-17, start-list, start-18, start-yes
 --     start-limits, start-headers, start-room, start-listed, start-count     what the calls below ask
-use Prim.Native.Nat.{ℕ, zero, suc, ◌+◌, ◌*◌, ◌≤◌}
+use Prim.Native.Nat.{ℕ, zero, suc, ◌*◌, ◌≤◌}
 use mathlib.Core.Path.{◌≡◌, refl, sym, ap, ◌∙◌}
 use mathlib.Core.Bool.{Bool, true, false, cond, not, ◌&&◌}
 use mathlib.Core.List.{List, [], ◌∷◌, ◌++◌}

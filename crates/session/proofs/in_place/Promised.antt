@@ -2,8 +2,7 @@
 --     load_promised, start_promised, advance_promised, cancel_promised, read_promised   the promises
 --     load-tied, start-tied, advance-tied, cancel-tied, read-tied   a promise gives the step of the theorem
 --     load-says, start-says, advance-says, cancel-says, read-says   the source's contract is the promise, clause by clause
--- A contract that promises less, with its walk adapted, is refused at its `..-says`; a promise that says less at its
--- `..-tied`.
+-- A contract that promises less is refused at its `..-says`; a promise that says less at its `..-tied`.
 use mathlib.Core.Path.{◌≡◌, refl}
 use seplogic.Ra.Ura.{Ura}
 use base.Logic.{SProp}

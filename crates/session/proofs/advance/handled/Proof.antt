@@ -6,13 +6,10 @@ use Rattle.session.proofs.advance.handled.Tie as tie
 
 returns : tie.Need-returns-then-h
 returns c =
-    let o = c.before in
-    let m = o.before in
-    let e = m.before.before.before in
-    handled-last _ _ _ _ _ _ e.if-h.true _ _ c.stepped-head.ensures m.is_marked-yes.ensures o.answer_of-last.ensures
+    handled-last _ _ _ _ _ _ c.if-h.true _ _ c.stepped-head.ensures c.is_marked-yes.ensures c.answer_of-last.ensures
 
 returns-2 : tie.Need-returns
-returns-2 c = handled-more _ _ _ _ _ _ c.before.before.if-h.false c.stepped-head-2.ensures
+returns-2 c = handled-more _ _ _ _ _ _ c.if-h.false c.stepped-head-2.ensures
 
 pub handled_spec : {M : Type 1} → statement M
 handled_spec =

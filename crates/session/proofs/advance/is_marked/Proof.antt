@@ -6,9 +6,9 @@ use Rattle.session.proofs.advance.is_marked.Tie as tie
 
 returns : tie.Need-returns
 returns c =
-    let a = c.before.before.before.args in
-    mark-at a.rules.now a.s a.k _ a.q c.before.inner_count.ensures.value
-    c.before.before.before.requires.state
+    let a = c.args in
+    mark-at a.rules.now a.s a.k _ a.q c.inner_count.ensures.value
+    c.requires.state
 
 pub is_marked_spec : {M : Type 1} → statement M
 is_marked_spec =

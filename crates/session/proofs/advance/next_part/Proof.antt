@@ -5,28 +5,21 @@ use borrow.Author.Rules.{rules}
 use Rattle.session.proofs.advance.next_part.Statement.{statement}
 use Rattle.session.proofs.advance.next_part.Tie as tie
 
-abbrev of : tie.After-struct_known-6-1 → tie.Start
-of a = a.before.before.before.before.before.before.before.before.before.before.before.before.before.before
-
 slice-aggregate-part : tie.Need-slice_bounds-part-end
 slice-aggregate-part c =
-    let a = of c.before in
-    sym (length-take-le a.args.h.parts a.args.roots.now a.requires.few_parts)
+    sym (length-take-le c.args.h.parts c.args.roots.now c.requires.few_parts)
 
 slice-aggregate-part-2 : tie.Need-slice_bounds-part-end-2
 slice-aggregate-part-2 c =
-    let a = of c.before.before in
-    sym (length-take-le a.args.h.handled a.args.states.now a.requires.few_handled)
+    sym (length-take-le c.args.h.handled c.args.states.now c.requires.few_handled)
 
 slice-aggregate-part-3 : tie.Need-slice_bounds-part-end-3
 slice-aggregate-part-3 c =
-    let a = of c.before.before.before in
-    sym (length-take-le a.args.h.m a.args.nodes.now a.requires.few)
+    sym (length-take-le c.args.h.m c.args.nodes.now c.requires.few)
 
 slice-aggregate-part-4 : tie.Need-slice_bounds-part-end-4
 slice-aggregate-part-4 c =
-    let a = of c.before.before.before.before in
-    sym (length-take-le a.args.h.m a.args.labels.now a.requires.few_labels)
+    sym (length-take-le c.args.h.m c.args.labels.now c.requires.few_labels)
 
 returns : tie.Need-returns
 returns c = (c.part.ensures.result, c.part.ensures.passed_most)

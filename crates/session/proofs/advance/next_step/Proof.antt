@@ -14,83 +14,51 @@ use borrow.Author.Rules.{rules}
 use Rattle.session.proofs.advance.next_step.Statement.{statement}
 use Rattle.session.proofs.advance.next_step.Tie as tie
 
-abbrev at : tie.After-allowed → tie.Start
-at a = a.before.before.before.before.before.before
-
 abbrev of : tie.After-allowed → Session
 of a =
-    let b = (at a).args in whole b.h b.nodes.now b.labels.now b.roots.now b.states.now
+    let b = a.args in whole b.h b.nodes.now b.labels.now b.roots.now b.states.now
 
 abbrev lent : tie.After-allowed → Inputs
-lent a = let b = (at a).args in inputs_of b.plan.now b.rules.now b.node_table.now b.state_table.now
+lent a = let b = a.args in inputs_of b.plan.now b.rules.now b.node_table.now b.state_table.now
 
 may : (a : tie.After-allowed) → a.allowed.result ≡ (valid (of a) && is_running (phase_of (of a).head.phase))
-may a = allowed-by is_running (of a) _ _ a.before.may_advance-may.ensures a.allowed.ensures
+may a = allowed-by is_running (of a) _ _ a.may_advance-may.ensures a.allowed.ensures
 
 returns : tie.Need-returns-then-not-allowed
 returns c =
-    let i = c.before in
-    let m = i.before in
-    refused-found (of m) (advance (lent m)) 1 _ c.refused_step.ensures
-    (advance-1 (of m) (at m).requires (lent m) _ (may m) i.if-not-allowed.true-raw)
+    refused-found (of c.before.before) (advance (lent c.before.before)) 1 _ c.refused_step.ensures
+    (advance-1 (of c.before.before) c.requires (lent c.before.before) _ (may c.before.before) c.if-not-allowed.true-raw)
 
 rule-buffers-fit-requires : tie.Need-rule_buffers_fit-requires
 rule-buffers-fit-requires c κs =
-    let e = c.before.before.before in
-    let m = e.before in
-    advance-limits (of m) (at m).requires (lent m) _ (may m) e.if-not-allowed.false-raw
+    advance-limits (of c.before.before.before.before) c.requires (lent c.before.before.before.before) _ (may c.before.before.before.before) c.if-not-allowed.false-raw
 
 returns-2 : tie.Need-returns-then-not-rule_buffers_fit
 returns-2 c =
-    let i = c.before in
-    let k = i.before in
-    let e = k.before.before.before.before in
-    let m = e.before in
-    refused-found (of m) (advance (lent m)) 17 _ c.refused_step-then-not-rule_buffers_fit.ensures
-    (advance-17 (of m) (at m).requires (lent m) _ (may m) e.if-not-allowed.false-raw _ k.rule_buffers_fit.ensures i.if-not-rule_buffers_fit.true-raw)
+    refused-found (of c.before.before.before.before.before.before.before) (advance (lent c.before.before.before.before.before.before.before)) 17 _ c.refused_step-then-not-rule_buffers_fit.ensures
+    (advance-17 (of c.before.before.before.before.before.before.before) c.requires (lent c.before.before.before.before.before.before.before) _ (may c.before.before.before.before.before.before.before) c.if-not-allowed.false-raw _ c.rule_buffers_fit.ensures c.if-not-rule_buffers_fit.true-raw)
 
 next-part-requires : tie.Need-next_part-requires
 next-part-requires c κs =
-    let k = c.before.before.before.before.before in
-    let e = k.before.before.before.before in
-    let m = e.before in
-    next-args (of m) (at m).requires (lent m) _ (may m) e.if-not-allowed.false-raw
+    next-args (of c.before.before.before.before.before.before.before.before.before.before) c.requires (lent c.before.before.before.before.before.before.before.before.before.before) _ (may c.before.before.before.before.before.before.before.before.before.before) c.if-not-allowed.false-raw
 
 handled-requires : tie.Need-handled-requires
 handled-requires c κs =
-    let f = c.before in
-    let p = f.before.before in
-    let t = p.before.before.before.before.before in
-    let k = t.before in
-    let e = k.before.before.before.before in
-    let m = e.before in
-    handle-args (of m) (at m).requires (lent m) _ (may m) e.if-not-allowed.false-raw _ k.rule_buffers_fit.ensures t.if-not-rule_buffers_fit.false-raw _
-    p.next_part.ensures.0 p.next_part.ensures.1 f.found-1.given.0.0.state f.found-1.given.0.0.links
-    f.found-1.given.0.0.passed f.found-1.given.1
+    handle-args (of c.before.before.before.before.before.before.before.before.before.before.before.before) c.requires (lent c.before.before.before.before.before.before.before.before.before.before.before.before) _ (may c.before.before.before.before.before.before.before.before.before.before.before.before) c.if-not-allowed.false-raw _ c.rule_buffers_fit.ensures c.if-not-rule_buffers_fit.false-raw _
+    c.next_part.ensures.0 c.next_part.ensures.1 c.in-Reached.found.state c.in-Reached.found.links
+    c.in-Reached.found.passed c.in-Reached.is
 
 returns-3 : tie.Need-returns-in-Reached
 returns-3 c =
-    let f = c.before.before in
-    let p = f.before.before in
-    let t = p.before.before.before.before.before in
-    let k = t.before in
-    let e = k.before.before.before.before in
-    let m = e.before in
-    step-found (of m) (at m).requires (lent m) _ (may m) e.if-not-allowed.false-raw _ k.rule_buffers_fit.ensures t.if-not-rule_buffers_fit.false-raw _
-    p.next_part.ensures.0 p.next_part.ensures.1 f.found-1.given.0.0.state f.found-1.given.0.0.links
-    f.found-1.given.0.0.passed f.found-1.given.1 _ c.handled.ensures
+    step-found (of c.before.before.before.before.before.before.before.before.before.before.before.before.before) c.requires (lent c.before.before.before.before.before.before.before.before.before.before.before.before.before) _ (may c.before.before.before.before.before.before.before.before.before.before.before.before.before) c.if-not-allowed.false-raw _ c.rule_buffers_fit.ensures c.if-not-rule_buffers_fit.false-raw _
+    c.next_part.ensures.0 c.next_part.ensures.1 c.in-Reached.found.state c.in-Reached.found.links
+    c.in-Reached.found.passed c.in-Reached.is _ c.handled.ensures
 
 returns-4 : tie.Need-returns-in-OutOfRange
 returns-4 c =
-    let i = c.before in
-    let p = i.before.before in
-    let t = p.before.before.before.before.before in
-    let k = t.before in
-    let e = k.before.before.before.before in
-    let m = e.before in
-    refused-found (of m) (advance (lent m)) 18 _ c.refused_step-in-OutOfRange.ensures
-    (advance-18 (of m) (at m).requires (lent m) _ (may m) e.if-not-allowed.false-raw _ k.rule_buffers_fit.ensures t.if-not-rule_buffers_fit.false-raw _
-    p.next_part.ensures.0 p.next_part.ensures.1 i.enum_told-1.given.1)
+    refused-found (of c.before.before.before.before.before.before.before.before.before.before.before.before.before) (advance (lent c.before.before.before.before.before.before.before.before.before.before.before.before.before)) 18 _ c.refused_step-in-OutOfRange.ensures
+    (advance-18 (of c.before.before.before.before.before.before.before.before.before.before.before.before.before) c.requires (lent c.before.before.before.before.before.before.before.before.before.before.before.before.before) _ (may c.before.before.before.before.before.before.before.before.before.before.before.before.before) c.if-not-allowed.false-raw _ c.rule_buffers_fit.ensures c.if-not-rule_buffers_fit.false-raw _
+    c.next_part.ensures.0 c.next_part.ensures.1 c.in-OutOfRange.is)
 
 pub next_step_spec : {M : Type 1} → statement M
 next_step_spec =

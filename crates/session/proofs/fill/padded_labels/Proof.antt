@@ -24,20 +24,20 @@ array-write-out c = omega arith
 
 loop-again : tie.Need-loop-i-preserved invariant-loop decreases-loop
 loop-again c =
-    let l = c.before.before.loop-i in
-    let a = c.before.before.before.args in (
+    let l = c.loop-i in
+    let a = c.args in (
       omega arith,
       (
         simp length-set l.invariant.1.0,
-        copy-iteration a.labels.now (replicate 64 0) l.out l.i c.before.loop-i-test.true (omega arith)
+        copy-iteration a.labels.now (replicate 64 0) l.out l.i c.loop-i-test.true (omega arith)
             l.invariant.1.1,
       ),
     )
 
 returns : tie.Need-returns invariant-loop decreases-loop
 returns c =
-    let l = c.before.loop-i in
-    copy-end c.before.before.args.labels.now l.out 64 l.i l.invariant.0 c.loop-i-test.false l.invariant.1.1
+    let l = c.loop-i in
+    copy-end c.args.labels.now l.out 64 l.i l.invariant.0 c.loop-i-test.false l.invariant.1.1
 
 pub padded_labels_spec : {M : Type 1} → statement M
 padded_labels_spec =

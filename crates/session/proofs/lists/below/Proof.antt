@@ -22,12 +22,12 @@ loop-holds c = (omega arith, refl)
 
 loop-again : tie.Need-loop-i-preserved invariant-loop decreases-loop
 loop-again c =
-    let l = c.before.before.loop-i in
-    let a = c.before.before.before.args in
-    (omega arith, below-iteration a.xs.now l.i a.bound l.ok c.before.loop-i-test.true ∙ l.invariant.1)
+    let l = c.loop-i in
+    let a = c.args in
+    (omega arith, below-iteration a.xs.now l.i a.bound l.ok c.loop-i-test.true ∙ l.invariant.1)
 
 returns : tie.Need-returns invariant-loop decreases-loop
-returns c = sym (below_end _ _ _ _ c.loop-i-test.false) ∙ c.before.loop-i.invariant.1
+returns c = sym (below_end _ _ _ _ c.loop-i-test.false) ∙ c.loop-i.invariant.1
 
 pub below_spec : {M : Type 1} → statement M
 below_spec =

@@ -26,21 +26,21 @@ loop-holds c = (omega arith, (omega arith, refl))
 
 loop-again : tie.Need-loop-i-preserved invariant-loop decreases-loop
 loop-again c =
-    let l = c.before.before.before.loop-i in
-    let a = c.before.before.before.before.before.args in
+    let l = c.loop-i in
+    let a = c.args in
     let e : l.i + 1 - 1 ≡ l.i = omega arith in (
       omega arith,
       (
         omega arith,
-        rw e (rises-iteration a.last a.xs.now l.i (l.i - 1) (omega arith) l.ok c.before.before.loop-i-test.true ∙ l.invariant.1.1),
+        rw e (rises-iteration a.last a.xs.now l.i (l.i - 1) (omega arith) l.ok c.loop-i-test.true ∙ l.invariant.1.1),
       ),
     )
 
 returns-2 : tie.Need-returns invariant-loop decreases-loop
 returns-2 c =
-    let l = c.before.before.loop-i in
-    let a = c.before.before.before.before.args in
-    sym (rises-end a.last a.xs.now l.i (l.i - 1) (omega arith) l.ok (omega arith) c.before.loop-i-test.false)
+    let l = c.loop-i in
+    let a = c.args in
+    sym (rises-end a.last a.xs.now l.i (l.i - 1) (omega arith) l.ok (omega arith) c.loop-i-test.false)
     ∙ l.invariant.1.1
 
 pub rises_to_spec : {M : Type 1} → statement M

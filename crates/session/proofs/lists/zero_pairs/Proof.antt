@@ -23,11 +23,11 @@ loop-holds : tie.Need-loop-i-init invariant-loop decreases-loop
 loop-holds c = (omega arith, refl)
 
 cast-all : tie.Need-overflow_cast-all invariant-loop decreases-loop
-cast-all c = omega (arith, c.shared_slice_known-in-loop-i-1.given c.before.before.before.loop-i.i)
+cast-all c = omega (arith, c.shared_slice_known-in-loop-i-1.given c.loop-i.i)
 
 loop-again : tie.Need-loop-i-preserved invariant-loop decreases-loop
 loop-again c =
-    let l = c.before.before.before.loop-i in
+    let l = c.loop-i in
     let a = c.before.before.before.before in (
       omega arith,
       pairs-iteration a.args.xs.now a.args.ys.now l.i l.all (omega arith) (omega arith) ∙ l.invariant.1,
@@ -35,8 +35,7 @@ loop-again c =
 
 returns : tie.Need-returns invariant-loop decreases-loop
 returns c =
-    let a = c.before.before in
-    sym (pairs_end a.args.xs.now a.args.ys.now c.before.loop-i.i c.before.loop-i.all (omega arith) (omega arith)) ∙ c.before.loop-i.invariant.1
+    sym (pairs_end c.args.xs.now c.args.ys.now c.loop-i.i c.loop-i.all (omega arith) (omega arith)) ∙ c.loop-i.invariant.1
 
 pub zero_pairs_spec : {M : Type 1} → statement M
 zero_pairs_spec =

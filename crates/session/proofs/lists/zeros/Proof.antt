@@ -23,12 +23,12 @@ loop-holds c = (omega arith, refl)
 
 loop-again : tie.Need-loop-i-preserved invariant-loop decreases-loop
 loop-again c =
-    let l = c.before.before.loop-i in
-    let a = c.before.before.before.args in
-    (omega arith, zero-iteration a.xs.now l.i l.all c.before.loop-i-test.true ∙ l.invariant.1)
+    let l = c.loop-i in
+    let a = c.args in
+    (omega arith, zero-iteration a.xs.now l.i l.all c.loop-i-test.true ∙ l.invariant.1)
 
 returns : tie.Need-returns invariant-loop decreases-loop
-returns c = sym (zero-end c.before.before.args.xs.now c.before.loop-i.i c.before.loop-i.all c.loop-i-test.false) ∙ c.before.loop-i.invariant.1
+returns c = sym (zero-end c.args.xs.now c.loop-i.i c.loop-i.all c.loop-i-test.false) ∙ c.loop-i.invariant.1
 
 pub zeros_spec : {M : Type 1} → statement M
 zeros_spec =

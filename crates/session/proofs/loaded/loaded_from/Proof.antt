@@ -6,11 +6,8 @@ use Rattle.session.proofs.loaded.loaded_from.Tie as tie
 
 returns : tie.Need-returns
 returns c =
-    let o = c.before in
-    let k = o.before in
-    let a = k.before.before.before.before.before in
-    loaded-same a.args.plan.now a.args.rules.now _ _ _ _ _
-    c.loaded.ensures o.no_last-last.ensures k.before.before.read32-n.ensures k.before.read32-s.ensures k.read32-k.ensures
+    loaded-same c.args.plan.now c.args.rules.now _ _ _ _ _
+    c.loaded.ensures c.no_last-last.ensures c.read32-n.ensures c.read32-s.ensures c.read32-k.ensures
 
 pub loaded_from_spec : {M : Type 1} → statement M
 loaded_from_spec =

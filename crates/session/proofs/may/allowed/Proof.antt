@@ -13,7 +13,7 @@ returns : tie.Need-returns-then-not-may
 returns c = allowed-no (valid (of c.before)) _ c.if-not-may.true-raw
 
 returns-2 : tie.Need-returns
-returns-2 c = allowed-yes _ _ _ c.before.if-not-may.false-raw c.fits2.ensures
+returns-2 c = allowed-yes _ _ _ c.if-not-may.false-raw c.fits.ensures
 
 pub allowed_spec : {M : Type 1} → statement M
 allowed_spec = tie.close (tie.spec returns (λ c κs. search rules) returns-2)

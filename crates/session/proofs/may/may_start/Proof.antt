@@ -9,5 +9,5 @@ use Rattle.session.proofs.may.may_start.Tie as tie
 pub may_start_spec : {M : Type 1} → statement M
 unfolding phase_of may_start
 may_start_spec = tie.close (tie.spec (λ c. search rules) (λ c. search rules) (λ c. search rules) (λ c. search rules)
-    (λ c. by_state may_start _ _ c.enum_told-1.given.1) (λ c. by_state may_start _ _ c.enum_told-in-Loaded-1.given.1)
-    (λ c. by_state may_start _ _ c.enum_told-in-Running-1.given.1) (λ c. by_state may_start _ _ c.enum_told-in-Answered-1.given.1))
+    (λ c. by_state may_start _ _ c.in-Empty.is) (λ c. by_state may_start _ _ c.in-Loaded.is)
+    (λ c. by_state may_start _ _ c.in-Running.is) (λ c. by_state may_start _ _ c.in-Answered.is))

@@ -6,30 +6,19 @@ use Rattle.session.proofs.valid.fits.Tie as tie
 
 returns : tie.Need-returns-in-Empty
 returns c =
-    let n = c.before in
-    let e = n.before.before.before.before in
-    phase-test _ _ _ (empty-test _ _ _ n.is_none.ensures c.no_question.ensures) e.enum_told-1.given.1
+    phase-test _ _ _ (empty-test _ _ _ c.is_none.ensures c.no_question.ensures) c.in-Empty.is
 
 returns-2 : tie.Need-returns-in-Loaded
 returns-2 c =
-    let l = c.before in
-    let z = l.before in
-    let e = z.before in
-    phase-test _ _ _ (loaded-test _ _ _ _ z.sizes_fit.ensures l.last_fits.ensures c.no_question-in-Loaded.ensures) e.enum_told-in-Loaded-1.given.1
+    phase-test _ _ _ (loaded-test _ _ _ _ c.sizes_fit.ensures c.last_fits.ensures c.no_question-in-Loaded.ensures) c.in-Loaded.is
 
 returns-3 : tie.Need-returns-in-Running
 returns-3 c =
-    let l = c.before.before in
-    let q = l.before in
-    let e = q.before in
-    phase-test _ _ _ (running-test _ _ _ q.question_fits.ensures l.last_fits-in-Running.ensures) e.enum_told-in-Running-1.given.1
+    phase-test _ _ _ (running-test _ _ _ c.question_fits.ensures c.last_fits-in-Running.ensures) c.in-Running.is
 
 returns-4 : tie.Need-returns-in-Answered
 returns-4 c =
-    let o = c.before in
-    let q = o.before.before in
-    let e = q.before in
-    phase-test _ _ _ (answered_test _ _ _ q.question_fits-in-Answered.ensures (o.last_is_own.ensures _ _ _)) e.enum_told-in-Answered-1.given.1
+    phase-test _ _ _ (answered_test _ _ _ c.question_fits-in-Answered.ensures (c.last_is_own.ensures _ _ _)) c.in-Answered.is
 
 pub fits_spec : {M : Type 1} → statement M
 fits_spec =

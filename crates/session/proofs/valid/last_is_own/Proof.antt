@@ -13,8 +13,7 @@ returns-2 c = λ vs bs rs. own-many _ c.if-h-gt-MOST_PARTS.true
 
 returns-3 : tie.Need-returns
 returns-3 c =
-    let f = c.before.before.before.before.before.before.before.before.before in
-    λ vs bs rs. own-test _ (omega arith) (omega arith) _ f.same_flag-alike.ensures
+    λ vs bs rs. own-test _ (omega arith) (omega arith) _ c.same_flag-alike.ensures
 
 pub last_is_own_spec : {M : Type 1} → statement M
 last_is_own_spec =

@@ -10,9 +10,6 @@ use borrow.Author.Rules.{rules}
 use Rattle.session.proofs.valid.list_fits.Statement.{statement}
 use Rattle.session.proofs.valid.list_fits.Tie as tie
 
-abbrev at : tie.Else-m-gt-CHANGE_LIMIT → tie.Start
-at a = a.before.before.before.before
-
 abbrev of : tie.Start → List ℕ → List ℕ → Session
 of a rs qs = whole a.args.h a.args.nodes.now a.args.labels.now rs qs
 
@@ -21,26 +18,19 @@ returns c = λ rs qs. list-long (of c.before.before.before.before rs qs) c.if-m-
 
 slice-aggregate-below : tie.Need-slice_bounds-below-end
 slice-aggregate-below c =
-    let a = at c.before in
-    take_long 64 a.args.h.m a.args.nodes.now a.requires.nodes (omega arith)
+    take_long 64 c.args.h.m c.args.nodes.now c.requires.nodes (omega arith)
 
 slice-aggregate-all-below : tie.Need-slice_bounds-all_below-end
 slice-aggregate-all-below c =
-    let a = at c.before.before.before in
-    take_long 64 a.args.h.m a.args.labels.now a.requires.labels (omega arith)
+    take_long 64 c.args.h.m c.args.labels.now c.requires.labels (omega arith)
 
 zero-pairs-requires : tie.Need-zero_pairs-requires
 zero-pairs-requires c κs =
-    let a = at c.before.before.before.before.before.before in
-    rests-long a.args.nodes.now a.args.labels.now a.args.h.m (omega arith)
+    rests-long c.args.nodes.now c.args.labels.now c.args.h.m (omega arith)
 
 returns-2 : tie.Need-returns
 returns-2 c =
-    let b = c.before in
-    let a = b.before.before in
-    let l = a.before.before in
-    let e = l.before.before in
-    λ rs qs. list-test (of (at e) rs qs) (omega arith) _ _ _ l.below.ensures a.all_below.ensures c.zero_pairs.ensures
+    λ rs qs. list-test (of c.before.before.before.before.before.before.before.before.before rs qs) (omega arith) _ _ _ c.below.ensures c.all_below.ensures c.zero_pairs.ensures
 
 pub list_fits_spec : {M : Type 1} → statement M
 list_fits_spec =

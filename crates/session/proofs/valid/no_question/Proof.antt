@@ -11,10 +11,7 @@ of a = whole a.args.h a.args.nodes.now a.args.labels.now a.args.roots.now a.args
 
 returns : tie.Need-returns
 returns c =
-    let b = c.before.before in
-    let a = b.before.before in
-    let s = a.before.before.before.before.before.before.before.before.before in
-    question-test (of s) _ _ _ a.zero_pairs.ensures b.zeros.ensures c.zero_bytes.ensures
+    question-test (of c.before.before.before.before.before.before.before.before.before.before.before.before.before) _ _ _ c.zero_pairs.ensures c.zeros.ensures c.zero_bytes.ensures
 
 pub no_question_spec : {M : Type 1} → statement M
 no_question_spec =

@@ -10,9 +10,6 @@ use borrow.Author.Rules.{rules}
 use Rattle.session.proofs.valid.parts_fit.Statement.{statement}
 use Rattle.session.proofs.valid.parts_fit.Tie as tie
 
-abbrev at : tie.Else-p-gt-PART_LIMIT → tie.Start
-at a = a.before.before.before.before.before.before
-
 abbrev of : tie.Start → List ℕ → List ℕ → Session
 of a vs bs = whole a.args.h vs bs a.args.roots.now a.args.states.now
 
@@ -25,24 +22,17 @@ returns-2 c =
 
 slice-aggregate-rises-to : tie.Need-slice_bounds-rises_to-end
 slice-aggregate-rises-to c =
-    let a = at c.before.before in
-    take_long 254 a.args.h.parts a.args.roots.now a.requires.roots (omega arith)
+    take_long 254 c.args.h.parts c.args.roots.now c.requires.roots (omega arith)
 
 slice-aggregate-all-below : tie.Need-slice_bounds-all_below-end
 slice-aggregate-all-below c =
-    let a = at c.before.before.before.before.before.before in
-    take_long 254 a.args.h.handled a.args.states.now a.requires.states (omega arith)
+    take_long 254 c.args.h.handled c.args.states.now c.requires.states (omega arith)
 
 returns-3 : tie.Need-returns
 returns-3 c =
-    let d = c.before.before.before in
-    let a = d.before.before in
-    let b = a.before.before in
-    let r = b.before.before in
-    let e = r.before.before.before in
-    λ vs bs. parts-test (of (at e) vs bs) (omega arith) (omega arith) _ _ _ _ r.rises_to.ensures
-    b.zeros.ensures
-    a.all_below.ensures d.zero_bytes.ensures
+    λ vs bs. parts-test (of c.before.before.before.before.before.before.before.before.before.before.before.before.before.before.before.before vs bs) (omega arith) (omega arith) _ _ _ _ c.rises_to.ensures
+    c.zeros.ensures
+    c.all_below.ensures c.zero_bytes.ensures
 
 pub parts_fit_spec : {M : Type 1} → statement M
 parts_fit_spec =

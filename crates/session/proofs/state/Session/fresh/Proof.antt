@@ -9,7 +9,7 @@ use Rattle.session.proofs.state.Session.fresh.Tie as tie
 
 returns : tie.Need-returns
 returns c = (
-  c.idle.ensures ∙ ap (λ (l : Last). idle_session Empty (record { n = 0; s = 0; k = 0 }) l) c.before.no_last-last.ensures,
+  c.idle.ensures ∙ ap (λ (l : Last). idle_session Empty (record { n = 0; s = 0; k = 0 }) l) c.no_last-last.ensures,
   record { nodes = refl; states = refl; labels = refl; changes = refl },
 )
 
