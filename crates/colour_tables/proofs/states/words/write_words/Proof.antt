@@ -10,11 +10,6 @@ use native.Mathlib.Omega.{arith}
 use borrow.Author.Rules.{rules}
 use Rattle.colour_tables.proofs.states.words.write_words.Statement.{statement}
 use Rattle.colour_tables.proofs.states.words.write_words.Tie as tie
-use Rattle.colour_tables.proofs.states.words.write_words.Reads as reads
-use Rattle.colour_tables.proofs.states.words.write_words.Lts as lts
-use Rattle.colour_tables.proofs.states.copies.put_copy.Reads as put-copy-reads
-use Rattle.colour_tables.proofs.states.copies.row_above.Reads as row-above-reads
-use Rattle.colour_tables.proofs.states.words.successors_by_word.Reads as successors-by-word-reads
 
 abbrev invariant-loop : tie.invariant-loop-v
 invariant-loop labels steps s k numbers₀ bytes₀ n v₀ numbers bytes v =
