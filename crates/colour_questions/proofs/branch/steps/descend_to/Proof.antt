@@ -13,19 +13,17 @@ use Rattle.colour_questions.proofs.path_drops.descend.descend_from.Reads as desc
 
 returns : tie.Need-returns-then-z-n
 returns c =
-    let i = c.before in
-    let g = i.before.before.args in
+    let g = c.args in
     c.descend_from.ensures
     ∙ ap (λ (z : Place). descended_of (descend (cell_table g.n g.numbers.now) g.c z g.l g.c))
-    (place-top g.n g.z i.if-z-n.true)
+    (place-top g.n g.z c.if-z-n.true)
 
 returns-2 : tie.Need-returns
 returns-2 c =
-    let i = c.before in
-    let g = i.before.before.args in
+    let g = c.args in
     c.descend_from-2.ensures
     ∙ ap (λ (z : Place). descended_of (descend (cell_table g.n g.numbers.now) g.c z g.l g.c))
-    (place-node g.n g.z i.if-z-n.false)
+    (place-node g.n g.z c.if-z-n.false)
 
 pub descend_to_spec : {M : Type 1} → statement M
 descend_to_spec =

@@ -12,13 +12,11 @@ returns c = place-root _ _ _ c.if-u-n.true
 
 returns-2 : tie.Need-returns-then-n-p
 returns-2 c =
-    let m = c.before in
-    place-outside _ _ _ _ m.parent_at-p.ensures m.before.if-u-n.false c.if-n-p.true
+    place-outside _ _ _ _ c.parent_at-p.ensures c.if-u-n.false c.if-n-p.true
 
 returns-3 : tie.Need-returns
 returns-3 c =
-    let m = c.before in
-    place-parent _ _ _ _ m.parent_at-p.ensures m.before.if-u-n.false c.if-n-p.false
+    place-parent _ _ _ _ c.parent_at-p.ensures c.if-u-n.false c.if-n-p.false
 
 pub place_above_spec : {M : Type 1} → statement M
 place_above_spec =

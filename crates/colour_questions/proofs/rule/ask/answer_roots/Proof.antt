@@ -171,9 +171,7 @@ part-all-by-colours-end-5 c =
 
 all-by-colours-requires : tie.Need-all_by_colours-t-requires
 all-by-colours-requires c κs =
-    let a = c.before.before.before.before.before.before.before in
-    let s = a.before.before.before.before.before.before.before.before.before.before in
-    all-args _ _ _ _ _ _ _ _ _ _ _ _ s.requires _ a.set_count-m.ensures.0 a.set_count-m.ensures.1
+    all-args _ _ _ _ _ _ _ _ _ _ _ _ c.requires _ c.set_count-m.ensures.0 c.set_count-m.ensures.1
 
 -- where there is a state
 abbrev start : tie.In-State → tie.Start
@@ -182,13 +180,11 @@ start c =
     t.before.before.before.before.before.before.before.before.before.before.before.before.before.before.before.before.before.before
 
 few : (c : tie.In-State) → let g = (start c).args in
-    let w = c.before.t-1.given in
-    Few g.s (length g.roots.now * 60) w.0.0 w.0.1.0 w.0.1.1.0
+    Few g.s (length g.roots.now * 60) c.in-State.q c.in-State.drops c.in-State.links
 few c =
-    let w = c.before.t-1.given in
     let s = start c in
     roots_few _ _ _ _ _ _ _ _ _ _ _ _ s.requires
-    _ c.before.before.before.all_by_colours-t.ensures w.0.0 w.0.1.0 w.0.1.1.0 w.1
+    _ c.all_by_colours-t.ensures c.in-State.q c.in-State.drops c.in-State.links c.in-State.is
 
 add-yes : tie.Need-overflow_add-yes
 add-yes c = omega (arith, runs (start c))
@@ -217,21 +213,18 @@ cast-t65 : tie.Need-overflow_cast-result
 cast-t65 c = omega (arith, (start c.before).requires.few)
 
 returns : tie.Need-returns-in-NoState
-returns c =
-    let t = c.before.before in
-    let s = t.before.before.before.before.before.before.before.before.before.before.before.before.before.before.before.before.before.before in (
-      roots-lost _ _ _ _ _ _ _ _ _ _ _ _ s.requires
-          _ t.all_by_colours-t.ensures c.enum_told-1.given.1,
+returns c = (
+      roots-lost _ _ _ _ _ _ _ _ _ _ _ _ c.requires
+          _ c.all_by_colours-t.ensures c.in-NoState.is,
       tt,
     )
 
 returns-2 : tie.Need-returns-in-State
 returns-2 c =
     let e = c.before in
-    let w = e.before.t-1.given in
     let s = start e in (
       roots-answer _ _ _ _ _ _ _ _ _ _ _ _ s.requires
-          _ e.before.before.before.all_by_colours-t.ensures w.0.0 w.0.1.0 w.0.1.1.0 w.1,
+          _ c.all_by_colours-t.ensures c.in-State.q c.in-State.drops c.in-State.links c.in-State.is,
       ((few e).falls, (few e).few),
     )
 
