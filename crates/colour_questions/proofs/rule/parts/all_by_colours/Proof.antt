@@ -77,11 +77,7 @@ returns c =
     g.roots.now o.states o.last o.drops o.links o.i o.invariant c.loop-i-test.true
     _ c.part_by_colours-t.ensures c.in-NoState.is
 
--- where the part has a state
-abbrev iteration : tie.In-State invariant-loop decreases-loop → tie.In-loop-i invariant-loop decreases-loop
-iteration c = c.before.before.before.before.before.before.before
-
-falls : (c : tie.In-State invariant-loop decreases-loop) → let o = (iteration c).before.loop-i in
+falls : (c : tie.In-State invariant-loop decreases-loop) → let o = c.loop-i in
     o.drops + c.in-State.d ≤ (o.i + 1) * 60
 falls c =
     let o = c.loop-i in
@@ -93,15 +89,13 @@ falls c =
 
 array-write-states : tie.Need-bounds-states-i invariant-loop decreases-loop
 array-write-states c =
-    let e = iteration c in
-    let h = e.loop-i-test.taken in
-    omega (arith, h, e.before.loop-i.invariant.args.few)
+    let h = c.loop-i-test.true in
+    omega (arith, h, c.loop-i.invariant.args.few)
 
 add-drops : tie.Need-overflow_add-drops invariant-loop decreases-loop
 add-drops c =
-    let e = iteration c in
-    let h = e.loop-i-test.taken in
-    omega (arith, falls c, h, e.before.loop-i.invariant.args.few)
+    let h = c.loop-i-test.true in
+    omega (arith, falls c, h, c.loop-i.invariant.args.few)
 
 add-links : tie.Need-overflow_add-links invariant-loop decreases-loop
 add-links c =
@@ -116,12 +110,11 @@ add-links c =
 
 add-i : tie.Need-overflow_add-i invariant-loop decreases-loop
 add-i c =
-    let e = iteration c in
-    let h = e.loop-i-test.taken in
-    omega (arith, h, e.before.loop-i.invariant.args.few)
+    let h = c.loop-i-test.true in
+    omega (arith, h, c.loop-i.invariant.args.few)
 
 loop-less : tie.Need-loop-i-smaller invariant-loop decreases-loop
-loop-less c = omega (arith, (iteration c).loop-i-test.true)
+loop-less c = omega (arith, c.loop-i-test.true)
 
 loop-again : tie.Need-loop-i-preserved invariant-loop decreases-loop
 loop-again c =

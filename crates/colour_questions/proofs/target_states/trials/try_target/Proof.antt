@@ -74,7 +74,7 @@ returns-2 c =
 
 -- where the descent has an end
 abbrev start : tie.In-Reached → tie.Start
-start c = c.before.before.before.before.before.before.before.before.before.before
+start c = c.before.before.before.before.before.before.before.before
 
 low : (c : tie.In-Reached) → c.in-Reached.colour < (start c).args.m
 low c =
