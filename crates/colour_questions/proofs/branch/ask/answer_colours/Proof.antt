@@ -5,7 +5,6 @@ use native.Mathlib.Nat.{mul-le-mul}
 use lib.ListN.{length, length-drop}
 use Rattle.list_laws.proofs.RowLaws.{stride}
 use Rattle.list_laws.proofs.SliceLaws.{rest_part}
-use Rattle.formats.specs.Plan.{node_count}
 use Rattle.formats.proofs.BranchLaws.{branch-marks-part-exact}
 use Rattle.colour_questions.proofs.branch.FitLaws.{Fits, fits-are, numbers_fit, bytes_fit, table-fit}
 use Rattle.colour_questions.proofs.branch.AnswerLaws.{answer-outside, answer-no-start, answer-lost, end_low, answer-end}
@@ -13,13 +12,6 @@ use native.Mathlib.Omega.{arith}
 use borrow.Author.Rules.{rules}
 use Rattle.colour_questions.proofs.branch.ask.answer_colours.Statement.{statement}
 use Rattle.colour_questions.proofs.branch.ask.answer_colours.Tie as tie
-use Rattle.colour_questions.proofs.branch.ask.answer_colours.Reads as reads
-use Rattle.colour_questions.proofs.branch.ask.answer_colours.Lts as lts
-use Rattle.colour_questions.proofs.branch.steps.descend_to.Reads as descend-to-reads
-use Rattle.colour_questions.proofs.branch.steps.finish.Reads as finish-reads
-use Rattle.colour_questions.proofs.branch.steps.start_colour.Reads as start-colour-reads
-use Rattle.colour_questions.proofs.branch.steps.start_place.Reads as start-place-reads
-use Rattle.formats.proofs.bytes.read32.Reads as read32-reads
 
 -- what the given headers and lengths say
 lent : (m : tie.After-read32-k) → let g = m.args in

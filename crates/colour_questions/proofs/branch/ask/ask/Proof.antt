@@ -11,12 +11,8 @@ use Rattle.colour_questions.proofs.branch.FitLaws.{fits-are}
 use Rattle.colour_questions.proofs.branch.AskChecks.{ask-17, ask-13-upper, ask-13-lower, ask-16, ask-on}
 use Rattle.colour_questions.proofs.branch.AskTheorem.{ask-done}
 use borrow.Author.Rules.{rules}
-use Rattle.formats.proofs.bytes.read32.Reads as read32-reads
 use Rattle.colour_questions.proofs.branch.ask.ask.Statement.{statement}
 use Rattle.colour_questions.proofs.branch.ask.ask.Tie as tie
-use Rattle.colour_questions.proofs.branch.ask.ask.Reads as reads
-use Rattle.colour_questions.proofs.branch.ask.ask.Lts as lts
-use Rattle.colour_questions.proofs.branch.ask.answer_colours.Reads as answer-colours-reads
 
 -- 17 passes
 fits : (c : tie.Else-not-colour_buffers_fit) → let g = c.args in

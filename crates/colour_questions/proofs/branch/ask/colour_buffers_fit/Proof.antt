@@ -11,11 +11,6 @@ use native.Mathlib.Omega.{arith}
 use borrow.Author.Rules.{rules}
 use Rattle.colour_questions.proofs.branch.ask.colour_buffers_fit.Statement.{statement}
 use Rattle.colour_questions.proofs.branch.ask.colour_buffers_fit.Tie as tie
-use Rattle.colour_questions.proofs.branch.ask.colour_buffers_fit.Reads as reads
-use Rattle.colour_questions.proofs.branch.ask.colour_buffers_fit.Lts as lts
-use Rattle.colour_tables.proofs.branch.build.colours_fit.Reads as colours-fit-reads
-use Rattle.formats.proofs.buffers.headers_fit.Reads as headers-fit-reads
-use Rattle.formats.proofs.bytes.read32.Reads as read32-reads
 
 -- the headers are whole, with N, S and K in their limits
 head : (c : tie.Else-not-headers_fit) → let g = c.args in

@@ -7,9 +7,6 @@ use Rattle.colour_questions.proofs.branch.StepLaws.{place-top, place-node}
 use borrow.Author.Rules.{rules}
 use Rattle.colour_questions.proofs.branch.steps.descend_to.Statement.{statement}
 use Rattle.colour_questions.proofs.branch.steps.descend_to.Tie as tie
-use Rattle.colour_questions.proofs.branch.steps.descend_to.Reads as reads
-use Rattle.colour_questions.proofs.branch.steps.descend_to.Lts as lts
-use Rattle.colour_questions.proofs.path_drops.descend.descend_from.Reads as descend-from-reads
 
 returns : tie.Need-returns-then-z-n
 returns c =

@@ -5,8 +5,6 @@ use native.Mathlib.Omega.{arith}
 use borrow.Author.Rules.{rules}
 use Rattle.colour_questions.proofs.branch.steps.finish.Statement.{statement}
 use Rattle.colour_questions.proofs.branch.steps.finish.Tie as tie
-use Rattle.colour_questions.proofs.branch.steps.finish.Reads as reads
-use Rattle.colour_questions.proofs.branch.steps.finish.Lts as lts
 
 cast-if1 : tie.Need-overflow_cast-q
 cast-if1 c =

@@ -3,9 +3,6 @@ use Rattle.colour_questions.proofs.branch.StepLaws.{place-root, place-outside, p
 use borrow.Author.Rules.{rules}
 use Rattle.colour_questions.proofs.branch.steps.place_above.Statement.{statement}
 use Rattle.colour_questions.proofs.branch.steps.place_above.Tie as tie
-use Rattle.colour_questions.proofs.branch.steps.place_above.Reads as reads
-use Rattle.colour_questions.proofs.branch.steps.place_above.Lts as lts
-use Rattle.tables.proofs.node_tables.moves.parent_at.Reads as parent-at-reads
 
 returns : tie.Need-returns-then-u-n
 returns c = place-root _ _ _ c.if-u-n.true

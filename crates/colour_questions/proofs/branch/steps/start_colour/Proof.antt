@@ -6,9 +6,6 @@ use native.Mathlib.Omega.{arith}
 use borrow.Author.Rules.{rules}
 use Rattle.colour_questions.proofs.branch.steps.start_colour.Statement.{statement}
 use Rattle.colour_questions.proofs.branch.steps.start_colour.Tie as tie
-use Rattle.colour_questions.proofs.branch.steps.start_colour.Reads as reads
-use Rattle.colour_questions.proofs.branch.steps.start_colour.Lts as lts
-use Rattle.colour_tables.proofs.rows.places.place_of.Reads as place-of-reads
 
 inside : (c : tie.Else-z-n) → let g = c.args in g.z * g.s + g.s ≤ length g.bytes.now
 inside c =

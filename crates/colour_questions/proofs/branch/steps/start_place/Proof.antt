@@ -3,9 +3,6 @@ use Rattle.colour_questions.proofs.branch.StepLaws.{place_here}
 use borrow.Author.Rules.{rules}
 use Rattle.colour_questions.proofs.branch.steps.start_place.Statement.{statement}
 use Rattle.colour_questions.proofs.branch.steps.start_place.Tie as tie
-use Rattle.colour_questions.proofs.branch.steps.start_place.Reads as reads
-use Rattle.colour_questions.proofs.branch.steps.start_place.Lts as lts
-use Rattle.colour_questions.proofs.branch.steps.place_above.Reads as place-above-reads
 
 returns : tie.Need-returns-in-WithUpper
 returns c = rw c.in-WithUpper.is c.place_above.ensures

@@ -9,11 +9,6 @@ use native.Mathlib.Omega.{arith}
 use borrow.Author.Rules.{rules}
 use Rattle.colour_questions.proofs.parts.part.fork_by_colours.Statement.{statement}
 use Rattle.colour_questions.proofs.parts.part.fork_by_colours.Tie as tie
-use Rattle.colour_questions.proofs.parts.part.fork_by_colours.Reads as reads
-use Rattle.colour_questions.proofs.parts.part.fork_by_colours.Lts as lts
-use Rattle.colour_questions.proofs.parts.part.side_by_colours.Reads as side-by-colours-reads
-use Rattle.questions.proofs.part.last_below.Reads as last-below-reads
-use Rattle.tables.proofs.lookups.rule_on.Reads as rule-on-reads
 
 side-by-colours-requires : tie.Need-side_by_colours-left-requires
 side-by-colours-requires c κs =

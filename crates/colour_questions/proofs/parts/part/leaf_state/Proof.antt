@@ -5,9 +5,6 @@ use native.Mathlib.Omega.{arith}
 use borrow.Author.Rules.{rules}
 use Rattle.colour_questions.proofs.parts.part.leaf_state.Statement.{statement}
 use Rattle.colour_questions.proofs.parts.part.leaf_state.Tie as tie
-use Rattle.colour_questions.proofs.parts.part.leaf_state.Reads as reads
-use Rattle.colour_questions.proofs.parts.part.leaf_state.Lts as lts
-use Rattle.colour_questions.proofs.parts.part.untried_state.Reads as untried-state-reads
 
 returns : tie.Need-returns-then-k-a
 returns c =

@@ -1,18 +1,10 @@
 -- `part_by_colours` meets its contract.
-use Prim.Native.Nat.{◌-◌}
-use Rattle.colour_questions.specs.parts.inner.Args.{colour_view}
 use Rattle.colour_questions.proofs.parts.TrialLaws.{leaf-few}
 use Rattle.colour_questions.proofs.parts.ForkCases.{part-leaf, part-first, part-outside, part-fork}
 use native.Mathlib.Omega.{arith}
 use borrow.Author.Rules.{rules}
 use Rattle.colour_questions.proofs.parts.part.part_by_colours.Statement.{statement}
 use Rattle.colour_questions.proofs.parts.part.part_by_colours.Tie as tie
-use Rattle.colour_questions.proofs.parts.part.part_by_colours.Reads as reads
-use Rattle.colour_questions.proofs.parts.part.part_by_colours.Lts as lts
-use Rattle.tables.proofs.node_tables.moves.size_at.Reads as size-at-reads
-use Rattle.colour_questions.proofs.parts.part.fork_by_colours.Reads as fork-by-colours-reads
-use Rattle.colour_questions.proofs.parts.part.leaf_state.Reads as leaf-state-reads
-use Rattle.questions.proofs.part.label_on.Reads as label-on-reads
 
 returns : tie.Need-returns-then-kinds-v-eq0
 returns c =

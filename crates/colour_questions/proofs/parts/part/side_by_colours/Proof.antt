@@ -1,19 +1,13 @@
 -- `side_by_colours` meets its contract.
 use Prim.Native.Nat.{◌+◌, ◌-◌, ◌<◌}
 use mathlib.Core.Path.{◌≡◌}
-use lib.ListN.{length, get_or}
+use lib.ListN.{get_or}
 use Rattle.tables.proofs.LookupLaws.{state-place}
-use Rattle.colour_questions.specs.parts.Part.{sides_of}
 use Rattle.colour_questions.proofs.parts.SideCases.{side-run, side-own, side-outside, side-found}
 use native.Mathlib.Omega.{arith}
 use borrow.Author.Rules.{rules}
 use Rattle.colour_questions.proofs.parts.part.side_by_colours.Statement.{statement}
 use Rattle.colour_questions.proofs.parts.part.side_by_colours.Tie as tie
-use Rattle.colour_questions.proofs.parts.part.side_by_colours.Reads as reads
-use Rattle.colour_questions.proofs.parts.part.side_by_colours.Lts as lts
-use Rattle.colour_questions.proofs.parts.part.untried_state.Reads as untried-state-reads
-use Rattle.tables.proofs.lookups.run_on.Reads as run-on-reads
-use Rattle.colour_questions.proofs.target_states.trials.try_targets.Reads as try-targets-reads
 
 run-on-requires : tie.Need-run_on-requires
 run-on-requires c κs =

@@ -3,8 +3,6 @@ use Rattle.colour_questions.proofs.parts.TrialLaws.{untried-no, untried-yes}
 use borrow.Author.Rules.{rules}
 use Rattle.colour_questions.proofs.parts.part.untried_state.Statement.{statement}
 use Rattle.colour_questions.proofs.parts.part.untried_state.Tie as tie
-use Rattle.colour_questions.proofs.parts.part.untried_state.Reads as reads
-use Rattle.colour_questions.proofs.parts.part.untried_state.Lts as lts
 
 returns : tie.Need-returns-then-s-q
 returns c =

@@ -10,9 +10,6 @@ use Rattle.colour_questions.proofs.path_drops.DescendLoop.{descends-done, descen
 use borrow.Author.Rules.{rules}
 use Rattle.colour_questions.proofs.path_drops.descend.descend_from.Statement.{statement}
 use Rattle.colour_questions.proofs.path_drops.descend.descend_from.Tie as tie
-use Rattle.colour_questions.proofs.path_drops.descend.descend_from.Reads as reads
-use Rattle.colour_questions.proofs.path_drops.descend.descend_from.Lts as lts
-use Rattle.colour_questions.proofs.path_drops.descend.drop_in.Reads as drop-in-reads
 
 abbrev invariant-loop : tie.invariant-loop-colour
 invariant-loop nums n top z l c colour₀ above₀ at₀ drops₀ links₀ colour above at drops links =

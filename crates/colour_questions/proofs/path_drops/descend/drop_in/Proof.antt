@@ -15,10 +15,6 @@ use Rattle.colour_questions.proofs.path_drops.DescendLoop.{part_gives}
 use borrow.Author.Rules.{rules}
 use Rattle.colour_questions.proofs.path_drops.descend.drop_in.Statement.{statement}
 use Rattle.colour_questions.proofs.path_drops.descend.drop_in.Tie as tie
-use Rattle.colour_questions.proofs.path_drops.descend.drop_in.Reads as reads
-use Rattle.colour_questions.proofs.path_drops.descend.drop_in.Lts as lts
-use Rattle.colour_questions.proofs.path_drops.drops.next_drop.Reads as next-drop-reads
-use Rattle.colour_questions.proofs.path_drops.drops.seen_at.Reads as seen-at-reads
 
 -- the part handed on
 abbrev part : tie.Start → List ℕ

@@ -4,10 +4,6 @@ use Rattle.colour_questions.proofs.path_drops.DropCases.{lowest-fell, lowest-kep
 use borrow.Author.Rules.{rules}
 use Rattle.colour_questions.proofs.path_drops.drops.lowest_at.Statement.{statement}
 use Rattle.colour_questions.proofs.path_drops.drops.lowest_at.Tie as tie
-use Rattle.colour_questions.proofs.path_drops.drops.lowest_at.Reads as reads
-use Rattle.colour_questions.proofs.path_drops.drops.lowest_at.Lts as lts
-use Rattle.tables.proofs.node_tables.moves.parent_at.Reads as parent-at-reads
-use Rattle.tables.proofs.node_tables.moves.size_at.Reads as size-at-reads
 
 returns : tie.Need-returns-then-size_at-c
 returns c =

@@ -5,12 +5,6 @@ use Rattle.colour_questions.proofs.path_drops.DropCases.{gives-done, gives-outsi
 use borrow.Author.Rules.{rules}
 use Rattle.colour_questions.proofs.path_drops.drops.next_drop.Statement.{statement}
 use Rattle.colour_questions.proofs.path_drops.drops.next_drop.Tie as tie
-use Rattle.colour_questions.proofs.path_drops.drops.next_drop.Reads as reads
-use Rattle.colour_questions.proofs.path_drops.drops.next_drop.Lts as lts
-use Rattle.colour_questions.proofs.path_drops.drops.lowest_at.Reads as lowest-at-reads
-use Rattle.colour_questions.proofs.path_drops.drops.seen_at.Reads as seen-at-reads
-use Rattle.colour_questions.proofs.path_drops.search.search.Reads as search-reads
-use Rattle.tables.proofs.node_tables.moves.size_at.Reads as size-at-reads
 
 returns : tie.Need-returns-then-seen_at-to
 returns c =

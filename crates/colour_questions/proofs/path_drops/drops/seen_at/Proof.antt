@@ -6,10 +6,6 @@ use Rattle.colour_questions.proofs.path_drops.DropCases.{seen-fell, seen-kept}
 use borrow.Author.Rules.{rules}
 use Rattle.colour_questions.proofs.path_drops.drops.seen_at.Statement.{statement}
 use Rattle.colour_questions.proofs.path_drops.drops.seen_at.Tie as tie
-use Rattle.colour_questions.proofs.path_drops.drops.seen_at.Reads as reads
-use Rattle.colour_questions.proofs.path_drops.drops.seen_at.Lts as lts
-use Rattle.tables.proofs.node_tables.moves.depth_at.Reads as depth-at-reads
-use Rattle.tables.proofs.node_tables.moves.size_at.Reads as size-at-reads
 
 -- a depth is a 16-bit number
 bound : (c : tie.After-depth_at-d) → c.depth_at-d.result ≤ 65535

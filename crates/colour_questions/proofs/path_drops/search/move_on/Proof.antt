@@ -1,7 +1,7 @@
 -- `move_on` meets its contract, by the move that `next_move` returns.
 use mathlib.Core.Path.{sym, ◌∙◌}
 use borrow.Author.Rules.{rules}
-use Rattle.trees.specs.Climb.{Forest, next_move}
+use Rattle.trees.specs.Climb.{Forest}
 use Rattle.tables.specs.node_tables.Cells.{cell_forest}
 use Rattle.colour_questions.proofs.path_drops.SearchLoop.{gives-jump, gives-parent, gives-stuck}
 use Rattle.colour_questions.proofs.path_drops.search.move_on.Statement.{statement}

@@ -8,11 +8,6 @@ use Rattle.colour_questions.proofs.rule.AnswerLaws.{lent-passed, lent-lost, root
 use native.Mathlib.Omega.{arith}
 use Rattle.colour_questions.proofs.rule.ask.answer_lent.Statement.{statement}
 use Rattle.colour_questions.proofs.rule.ask.answer_lent.Tie as tie
-use Rattle.colour_questions.proofs.rule.ask.answer_lent.Reads as reads
-use Rattle.colour_questions.proofs.rule.ask.answer_lent.Lts as lts
-use Rattle.formats.proofs.bytes.read32.Reads as read32-reads
-use Rattle.colour_questions.proofs.rule.ask.answer_roots.Reads as answer-roots-reads
-use Rattle.questions.proofs.changed_roots.roots_left.Reads as roots-left-reads
 
 heads : (s : tie.Start) → let g = s.args in Headers 20 g.plan.now g.rules.now
 heads s = (passed_are _ _ _ _ _ _ _ _ s.requires.passed).fits.headed.headers
@@ -43,9 +38,9 @@ roots-left-requires c κs =
 
 returns : tie.Need-returns-then-not-found
 returns c = (
-      lent-lost _ _ _ _ _ _ _ _ c.requires c.read32-n.result _ _ c.read32-n.ensures c.read32-s.ensures c.read32-k.ensures _ c.roots_left-found.ensures (not-true _ c.if-not-found.true),
-      tt,
-    )
+  lent-lost _ _ _ _ _ _ _ _ c.requires c.read32-n.result _ _ c.read32-n.ensures c.read32-s.ensures c.read32-k.ensures _ c.roots_left-found.ensures (not-true _ c.if-not-found.true),
+  tt,
+)
 
 array-share-prefix-list : tie.Need-slice_bounds-list-end
 array-share-prefix-list c =
@@ -61,10 +56,10 @@ answer-roots-requires c κs =
 
 returns-2 : tie.Need-returns
 returns-2 c = (
-      lent-answer _ _ _ _ _ _ _ _ c.requires c.read32-n.result _ _ c.read32-n.ensures c.read32-s.ensures c.read32-k.ensures _ c.roots_left-found.ensures (not-false _ c.if-not-found.false)
-          _ c.answer_roots.ensures.0,
-      c.answer_roots.ensures.1,
-    )
+  lent-answer _ _ _ _ _ _ _ _ c.requires c.read32-n.result _ _ c.read32-n.ensures c.read32-s.ensures c.read32-k.ensures _ c.roots_left-found.ensures (not-false _ c.if-not-found.false)
+      _ c.answer_roots.ensures.0,
+  c.answer_roots.ensures.1,
+)
 
 pub answer_lent_spec : {M : Type 1} → statement M
 answer_lent_spec =

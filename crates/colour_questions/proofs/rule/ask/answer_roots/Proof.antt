@@ -4,15 +4,11 @@ use Prim.Native.Nat.{◌*◌}
 use lib.ListN.{length}
 use lib.Seq.{length-take-le}
 use Rattle.colour_questions.specs.target_states.Trials.{Few}
-use Rattle.colour_questions.proofs.rule.AnswerLaws.{Runs, runs_by, all-args, roots-lost, roots_few, roots-answer}
+use Rattle.colour_questions.proofs.rule.AnswerLaws.{runs_by, all-args, roots-lost, roots_few, roots-answer}
 use native.Mathlib.Omega.{arith}
 use borrow.Author.Rules.{rules}
 use Rattle.colour_questions.proofs.rule.ask.answer_roots.Statement.{statement}
 use Rattle.colour_questions.proofs.rule.ask.answer_roots.Tie as tie
-use Rattle.colour_questions.proofs.rule.ask.answer_roots.Reads as reads
-use Rattle.colour_questions.proofs.rule.ask.answer_roots.Lts as lts
-use Rattle.colour_questions.proofs.rule.parts.all_by_colours.Reads as all-by-colours-reads
-use Rattle.colour_tables.proofs.set_states.sets.set_count.Reads as set-count-reads
 
 add-all-by-colours : tie.Need-overflow_add-n
 add-all-by-colours c =
@@ -173,10 +169,10 @@ cast-t65 c = omega (arith, c.requires.few)
 
 returns : tie.Need-returns-in-NoState
 returns c = (
-      roots-lost _ _ _ _ _ _ _ _ _ _ _ _ c.requires
-          _ c.all_by_colours-t.ensures c.in-NoState.is,
-      tt,
-    )
+  roots-lost _ _ _ _ _ _ _ _ _ _ _ _ c.requires
+      _ c.all_by_colours-t.ensures c.in-NoState.is,
+  tt,
+)
 
 returns-2 : tie.Need-returns-in-State
 returns-2 c =

@@ -5,10 +5,6 @@ use Rattle.colour_questions.proofs.rule.AskTheorem.{ask-done}
 use borrow.Author.Rules.{rules}
 use Rattle.colour_questions.proofs.rule.ask.ask_rule_colours.Statement.{statement}
 use Rattle.colour_questions.proofs.rule.ask.ask_rule_colours.Tie as tie
-use Rattle.colour_questions.proofs.rule.ask.ask_rule_colours.Reads as reads
-use Rattle.colour_questions.proofs.rule.ask.ask_rule_colours.Lts as lts
-use Rattle.colour_questions.proofs.rule.ask.answer_lent.Reads as answer-lent-reads
-use Rattle.colour_questions.proofs.rule.checks.check_asked.Reads as check-asked-reads
 
 returns : tie.Need-returns-then-no-ne0
 returns c =

@@ -9,11 +9,6 @@ use native.Mathlib.Omega.{arith}
 use borrow.Author.Rules.{rules}
 use Rattle.colour_questions.proofs.rule.checks.check_asked.Statement.{statement}
 use Rattle.colour_questions.proofs.rule.checks.check_asked.Tie as tie
-use Rattle.colour_questions.proofs.rule.checks.check_asked.Reads as reads
-use Rattle.colour_questions.proofs.rule.checks.check_asked.Lts as lts
-use Rattle.formats.proofs.bytes.read32.Reads as read32-reads
-use Rattle.formats.proofs.lists.check_list.Reads as check-list-reads
-use Rattle.colour_questions.proofs.rule.checks.tables_fit.Reads as tables-fit-reads
 
 fits : (c : tie.Else-not-tables_fit) → let g = c.args in
     rule_colours_fit g.plan.now g.rules.now g.node_table g.state_table g.numbers g.bytes ≡ true

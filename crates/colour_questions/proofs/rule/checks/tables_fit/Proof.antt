@@ -9,12 +9,6 @@ use native.Mathlib.Omega.{arith}
 use borrow.Author.Rules.{rules}
 use Rattle.colour_questions.proofs.rule.checks.tables_fit.Statement.{statement}
 use Rattle.colour_questions.proofs.rule.checks.tables_fit.Tie as tie
-use Rattle.colour_questions.proofs.rule.checks.tables_fit.Reads as reads
-use Rattle.colour_questions.proofs.rule.checks.tables_fit.Lts as lts
-use Rattle.formats.proofs.buffers.headers_fit.Reads as headers-fit-reads
-use Rattle.formats.proofs.buffers.rule_buffers_fit.Reads as rule-buffers-fit-reads
-use Rattle.formats.proofs.bytes.read32.Reads as read32-reads
-use Rattle.colour_tables.proofs.rule.build.set_colours_fit.Reads as set-colours-fit-reads
 
 fits : (c : tie.Else-not-headers_fit) → let g = c.args in
     headers_fit 20 g.plan.now g.rules.now ≡ true

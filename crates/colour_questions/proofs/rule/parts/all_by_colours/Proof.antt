@@ -8,9 +8,6 @@ use native.Mathlib.Omega.{arith}
 use borrow.Author.Rules.{rules}
 use Rattle.colour_questions.proofs.rule.parts.all_by_colours.Statement.{statement}
 use Rattle.colour_questions.proofs.rule.parts.all_by_colours.Tie as tie
-use Rattle.colour_questions.proofs.rule.parts.all_by_colours.Reads as reads
-use Rattle.colour_questions.proofs.rule.parts.all_by_colours.Lts as lts
-use Rattle.colour_questions.proofs.parts.part.part_by_colours.Reads as part-by-colours-reads
 
 abbrev invariant-loop : tie.invariant-loop-i
 invariant-loop ls ks lv inn nt st nums cps n s k m rs vs bs t₀ q₀ d₀ l₀ i₀ t q d l i =

@@ -8,12 +8,6 @@ use native.Mathlib.Omega.{arith}
 use borrow.Author.Rules.{rules}
 use Rattle.colour_questions.proofs.target_states.trials.try_target.Statement.{statement}
 use Rattle.colour_questions.proofs.target_states.trials.try_target.Tie as tie
-use Rattle.colour_questions.proofs.target_states.trials.try_target.Reads as reads
-use Rattle.colour_questions.proofs.target_states.trials.try_target.Lts as lts
-use Rattle.colour_tables.proofs.rows.places.place_of.Reads as place-of-reads
-use Rattle.colour_questions.proofs.path_drops.descend.descend_from.Reads as descend-from-reads
-use Rattle.colour_tables.proofs.sets.bits.bit_of.Reads as bit-of-reads
-use Rattle.colour_questions.proofs.target_states.trials.single.Reads as single-Reads
 
 -- products of a node and the number of sets
 product : (s : tie.Start) (v : ℕ) → v < s.args.n → v * s.args.m ≤ 1048560

@@ -7,9 +7,6 @@ use native.Mathlib.Omega.{arith}
 use borrow.Author.Rules.{rules}
 use Rattle.colour_questions.proofs.target_states.trials.try_targets.Statement.{statement}
 use Rattle.colour_questions.proofs.target_states.trials.try_targets.Tie as tie
-use Rattle.colour_questions.proofs.target_states.trials.try_targets.Reads as reads
-use Rattle.colour_questions.proofs.target_states.trials.try_targets.Lts as lts
-use Rattle.colour_questions.proofs.target_states.trials.try_target.Reads as try-target-reads
 
 abbrev invariant-loop : tie.invariant-loop-x
 invariant-loop numbers copies n s m c w q drops₀ links₀ x₀ drops links x =
