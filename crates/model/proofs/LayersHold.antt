@@ -1,6 +1,6 @@
 -- The facts that the model takes from the questions layer hold: proved from that layer's theorems roots-built, roots_on-are, part-built.
 --     layers              the facts
-use Prim.Native.Nat.{ℕ, suc, ◌+◌, ◌<◌}
+use Prim.Native.Nat.{ℕ, suc, ◌<◌}
 use mathlib.Core.Path.{◌≡◌, sym, ap, ap₂, ◌∙◌}
 use mathlib.Core.Bool.{true}
 use mathlib.Core.List.{List, ◌∷◌, ◌++◌}

@@ -16,3 +16,5 @@ module _ {A B Call Answer : Type 0} (StepA : A → Call → Answer → A → Typ
   refines f a b [] [] i done = done
   refines f a b (c ∷ cs) (x ∷ xs) i (call {r' = a'} e h) =
       let j = f a a' b c x i e in call j.1 (refines f a' j.0 cs xs j.2 h)
+  refines f a b [] (x ∷ xs) i h = elim h [ ]
+  refines f a b (c ∷ cs) [] i h = elim h [ ]

@@ -2,9 +2,9 @@
 --     sound-yes, yes-sound, not_sound, sound-is    the test says what the statement says
 --     start-18                          Start answers 18 exactly where no check before it fails and the inputs are not sound
 use Prim.Native.Nat.{ℕ, zero, suc}
-use mathlib.Core.Path.{◌≡◌, refl, sym, ap, ap₂, ◌∙◌, subst}
+use mathlib.Core.Path.{◌≡◌, refl, sym, ap, ap₂, ◌∙◌}
 use mathlib.Core.Bool.{Bool, true, false}
-use mathlib.Core.List.{List, [], ◌∷◌, ◌++◌}
+use mathlib.Core.List.{List, [], ◌∷◌}
 use mathlib.Core.Logic.{◌↔◌}
 use native.Mathlib.Omega.{arith}
 use lib.ListN.{take}
@@ -12,14 +12,14 @@ use Rattle.list_laws.proofs.BoolLaws.{and_both, and_left, and_right, true-false}
 use Rattle.list_laws.proofs.TestLaws.{same_list-true, same_list-is}
 use Rattle.formats.specs.Checks.{check, first_no, list_checks, node_table_length, state_table_length}
 use Rattle.formats.specs.Built.{built_state_table}
-use Rattle.formats.specs.Inputs.{Inputs, Sizes, fits, used_node_table, used_state_table, node_table_built, state_table_built, sound}
+use Rattle.formats.specs.Inputs.{Inputs, Sizes, used_state_table, node_table_built, state_table_built, sound}
 use Rattle.formats.proofs.CheckLaws.{first_no-yes, first_no-no, first_no-append-zero, first_no-append-no}
 use Rattle.formats.proofs.InputsLaws.{node-table-built, built-node-table}
 use Rattle.formats.specs.Passing.{Built}
-use Rattle.model.specs.Calls.{start, refused, parts, is_refused, may_start}
-use Rattle.model.specs.Refusals.{stage, checks_before18, refusal}
+use Rattle.model.specs.Calls.{start, refused, is_refused}
+use Rattle.model.specs.Refusals.{checks_before18, refusal}
 use Rattle.model.specs.Sound.{Sound}
-use Rattle.model.specs.Model.{Record, stage_of, roots_in, proceeds, unless, act}
+use Rattle.model.specs.Model.{Record, stage_of, proceeds, unless, act}
 use Rattle.model.proofs.ModelLaws.{before-numbered}
 
 module _ (z : Sizes) (x : Inputs) where

@@ -11,7 +11,7 @@
 -- Does r c a r' == the same as a relation
 --
 -- What an advance leaves to the program is defined in the questions layer: part_on; 18 where it gives none.
-use Rattle.std.specs.Prelude.{ℕ, zero, suc, ◌+◌, ◌*◌, ◌≡◌, Bool, true, false, cond, List, [], ◌∷◌, ◌++◌, eqb, length, get_or, take, drop}
+use Rattle.std.specs.Prelude.{ℕ, zero, suc, ◌+◌, ◌*◌, ◌≡◌, Bool, false, cond, List, [], ◌∷◌, ◌++◌, eqb, length, get_or, take, drop}
 use Rattle.std.proofs.Math.Option.{Option, none, some}
 use Rattle.formats.specs.Layout.{rules_head}
 use Rattle.formats.specs.Plan.{plan_tree, labels_within}

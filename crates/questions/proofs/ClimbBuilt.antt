@@ -1,25 +1,20 @@
 -- On numbers as built and bytes below S: what one move and one climb read is in range, and they give what the rule gives.
 --     move-built     a move from a node below the root
 --     climb-built    a climb to the depth of a node above: its state, its links, and the difference of the depths passed over
-use Rattle.std.proofs.Common.{◌≡◌, ℕ, zero, suc, ◌+◌, ◌-◌, ◌*◌, ◌<◌, ◌≤◌, Bool, true, false, cond, eqb, ltb, leb, List, [], ◌∷◌, length, get_or, sym, refl, ap, ◌∙◌, subst, ap₂, arith, lt-ltb, eq-eqb, ne_eqb, le-leb}
-use mathlib.Core.Option.{Option, none, some}
+use Rattle.std.proofs.Common.{◌≡◌, ℕ, ◌+◌, ◌-◌, ◌<◌, ◌≤◌, Bool, true, false, cond, eqb, List, [], ◌∷◌, length, get_or, refl, ap, ◌∙◌, arith, lt-ltb, eq-eqb, ne_eqb, le-leb}
+use mathlib.Core.Option.{Option, some}
 use native.Mathlib.Decide.{ℕ_discrete}
-use Rattle.trees.specs.Tree.{Tree, size, kinds_of, labels_of, label_at}
-use Rattle.trees.specs.Automaton.{Automaton}
+use Rattle.trees.specs.Tree.{size, label_at}
 use Rattle.trees.specs.Numbering.{sub, parent, depth}
-use Rattle.trees.specs.Climb.{Move, via_jump, to_parent, forest_of, and_then, climb, carry}
-use Rattle.trees.proofs.NodeLaws.{up}
+use Rattle.trees.specs.Climb.{Move, via_jump, to_parent, and_then, climb, carry}
 use Rattle.trees.proofs.MoveLaws.{start}
 use Rattle.trees.proofs.ClimbLaws.{Tells, same-climb}
 use Rattle.trees.proofs.TreeClimbs.{climb-tree, climb-proper, Proper}
 use Rattle.trees.proofs.PassedLaws.{same-passed}
 use Rattle.trees.proofs.MapLaws.{right-child-size, left-sibling-in, right-sibling-in, parent-pos}
-use Rattle.tables.specs.node_tables.Cells.{parent_cell, size_cell, cell_forest}
-use Rattle.tables.specs.node_tables.NodeCells.{NodeCells}
-use Rattle.tables.specs.StateCells.{state_cell, map_cell}
-use Rattle.tables.specs.declared.answers.Reached.{Reached}
+use Rattle.tables.specs.node_tables.Cells.{size_cell, cell_forest}
 use Rattle.tables.specs.Climbs.{View, below, run_on, rule_on, sibling_on, parent_on, move_on, reached, climb_on}
-use Rattle.questions.specs.ready.Parts.{Given, move_state, move_states, moves_of, climb_moves}
+use Rattle.questions.specs.ready.Parts.{Given, move_state, move_states, climb_moves}
 use Rattle.questions.specs.Promises.{Reads}
 
 pub is_below : (s q : ℕ) → q < s → below s q ≡ some q

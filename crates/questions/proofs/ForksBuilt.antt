@@ -2,13 +2,13 @@
 --     Added t a bs l k     k is l with the nodes bs and, for neighbours whose lowest common ancestor is not the second, that ancestor
 --                          and its two children; nothing else
 --     forks-built          forks_on gives such a list
-use Rattle.std.proofs.Common.{◌≡◌, ℕ, zero, suc, ◌+◌, ◌-◌, ◌<◌, ◌≤◌, Bool, true, false, cond, ◌&&◌, eqb, ltb, leb, ◌⊎◌, List, [], ◌∷◌, sym, refl, ap, ◌∙◌, subst, inl, inr, arith, lt-ltb, eq-eqb, ne_eqb, le-leb}
+use Rattle.std.proofs.Common.{◌≡◌, ℕ, suc, ◌+◌, ◌-◌, ◌<◌, cond, eqb, ◌⊎◌, List, [], ◌∷◌, sym, refl, subst, inl, inr, arith, lt-ltb, eq-eqb, ne_eqb, le-leb}
 use mathlib.Core.List.Memᴰ
 use mathlib.Core.List.{Memᴰ}
-use mathlib.Core.Option.{Option, none, some}
+use mathlib.Core.Option.{some}
 use native.Mathlib.Decide.{ℕ_discrete}
 use Rattle.trees.specs.Tree.{Tree, size, kind_at}
-use Rattle.trees.specs.Numbering.{sub, InSubtree}
+use Rattle.trees.specs.Numbering.{sub}
 use Rattle.trees.specs.Climb.{and_then}
 use Rattle.trees.proofs.NodeLaws.{Inner, inner}
 use Rattle.tables.specs.node_tables.Cells.{size_cell}

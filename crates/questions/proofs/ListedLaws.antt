@@ -2,7 +2,7 @@
 --     fork-keeps, meet-keeps    what a fork and a meeting are added to stays
 --     forks-keep                all iterations keep what is there, and add every wanted node
 --     given-listed              so the roots that are given have every listed node
-use Rattle.std.proofs.Common.{◌≡◌, ℕ, ◌-◌, ◌<◌, Bool, true, false, cond, ◌&&◌, eqb, ltb, leb, ◌⊎◌, List, [], ◌∷◌, length, sym, refl, ◌∙◌, subst, inl, inr, arith}
+use Rattle.std.proofs.Common.{◌≡◌, ℕ, ◌-◌, Bool, true, false, cond, ◌&&◌, eqb, ltb, leb, ◌⊎◌, List, [], ◌∷◌, sym, ◌∙◌, subst, inl, inr, arith}
 use mathlib.Core.List.Memᴰ
 use mathlib.Core.List.{Memᴰ}
 use mathlib.Core.Option.{Option, some, some-injective}
@@ -16,7 +16,7 @@ use Rattle.questions.specs.Rising.{RisesTo}
 use Rattle.questions.proofs.InsertLaws.{insert-old, insert-new, rising-new}
 use Rattle.questions.proofs.PlaceLaws.{to_below, wanted-to}
 use Rattle.questions.proofs.RootsLaws.{and-then-some, forked, forks-end, forks-root, forks-onward}
-use Rattle.questions.proofs.FitLaws.{Fit, given-fits}
+use Rattle.questions.proofs.FitLaws.{given-fits}
 
 module _ (n : ℕ) (node_table : List ℕ) (v : ℕ) where
   fork-keeps : (x : ℕ) (l k : List ℕ) → with_fork node_table x l ≡ some k → Memᴰ v l → Memᴰ v k

@@ -3,20 +3,20 @@
 --     meet-past     the lowest common ancestor is that of a node further up which does not have u below it
 --     meet-built    what meet_on returns on numbers as built
 --     meet-unique   two nodes have one lowest common ancestor
-use Rattle.std.proofs.Common.{◌≡◌, ℕ, zero, suc, ◌+◌, ◌-◌, ◌<◌, ◌≤◌, Bool, true, false, cond, ◌&&◌, ltb, leb, ◌⊎◌, List, sym, refl, ap, ◌∙◌, subst, inl, inr, arith, ltb-false, ltb-true, lt-ltb, leb-false, leb-true}
-use mathlib.Core.Option.{Option, none, some}
+use Rattle.std.proofs.Common.{◌≡◌, ℕ, zero, suc, ◌+◌, ◌<◌, ◌≤◌, Bool, true, false, ◌&&◌, ltb, leb, List, sym, refl, ap, ◌∙◌, inl, inr, arith, lt-ltb}
+use mathlib.Core.Option.{some}
 use native.Mathlib.Decide.{ℕ_discrete}
 use Rattle.trees.specs.Tree.{Tree, size}
-use Rattle.trees.specs.Numbering.{sub, parent, depth, ancestor, InSubtree, is_in_subtree}
+use Rattle.trees.specs.Numbering.{sub, parent, depth, InSubtree, is_in_subtree}
 use Rattle.trees.specs.Jumps.{jump}
-use Rattle.trees.specs.Climb.{Forest, Move, via_jump, to_parent, target, rising}
+use Rattle.trees.specs.Climb.{Forest, Move, via_jump, to_parent, target}
 use Rattle.trees.specs.Tables.{jump_length}
 use Rattle.trees.proofs.NodeLaws.{up}
 use Rattle.trees.proofs.JumpLaws.{jump_in, depth-jump}
 use Rattle.trees.proofs.MapLaws.{jump-ancestor}
 use Rattle.trees.proofs.SkewBinary.{jump_depth-lt}
 use Rattle.trees.proofs.IntervalLaws.{ancestor-interval}
-use Rattle.tables.specs.node_tables.Cells.{size_cell, cell_forest}
+use Rattle.tables.specs.node_tables.Cells.{cell_forest}
 use Rattle.tables.specs.node_tables.NodeCells.{NodeCells}
 use Rattle.tables.specs.node_tables.Cells.{is_in_subtree_on}
 use Rattle.questions.specs.ready.Ready.{Meet}

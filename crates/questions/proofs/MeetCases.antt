@@ -2,12 +2,10 @@
 --     rising-outside, rising-flat, rising-up   if_rising
 --     jump_outside, parent-taken, jump-taken   next_unless, by what the code has read: j the jump, p the parent
 --     Searching, searching-iteration, ..     the loop of meet: node x has still what is looked for from node v on
-use Rattle.std.proofs.Common.{◌≡◌, ℕ, ◌+◌, ◌-◌, ◌<◌, ◌≤◌, Bool, true, false, cond, ◌&&◌, ltb, List, sym, refl, ap, ◌∙◌, arith, le-ltb, lt-ltb, le-leb}
+use Rattle.std.proofs.Common.{◌≡◌, ℕ, ◌<◌, ◌≤◌, Bool, true, false, cond, ◌&&◌, ltb, List, sym, refl, ap, ◌∙◌, arith, le-ltb, lt-ltb}
 use mathlib.Core.Option.{Option, none, some}
-use borrow.Author.Tests.{lt-leb}
 use Rattle.trees.specs.Climb.{Forest, Move, via_jump, to_parent, target, rising}
-use Rattle.list_laws.proofs.Choice.{le-or}
-use Rattle.tables.specs.node_tables.Cells.{size_cell, depth_cell, cell_forest}
+use Rattle.tables.specs.node_tables.Cells.{depth_cell, cell_forest}
 use Rattle.tables.specs.node_tables.Cells.{is_in_subtree_on}
 use Rattle.questions.specs.declared.search.Meeting.TheVariants.{At, Outside}
 use Rattle.questions.specs.Search.{next_unless, meet_on}

@@ -1,29 +1,28 @@
 -- On numbers as built and bytes below S a part is what the rule of "Parts of a question" gives on those bytes.
 --     found-built           the root found below a child is the highest member below it
 --     part-built            part_on gives the rule's state and links and the nodes passed over, and never 18
-use Rattle.std.proofs.Common.{◌≡◌, ℕ, zero, suc, ◌+◌, ◌-◌, ◌<◌, ◌≤◌, Bool, true, false, cond, ◌&&◌, ◌||◌, eqb, ltb, leb, ◌⊎◌, List, [], ◌∷◌, ◌++◌, length, get_or, sym, refl, ap, ◌∙◌, subst, ap₂, inl, inr, arith, lt-ltb, eq-eqb, ne_eqb, le-leb}
+use Rattle.std.proofs.Common.{◌≡◌, ℕ, suc, ◌+◌, ◌-◌, ◌<◌, ◌≤◌, Bool, true, false, cond, ◌||◌, ◌⊎◌, List, [], ◌∷◌, ◌++◌, get_or, sym, refl, ap, ◌∙◌, subst, ap₂, inl, inr, arith, lt-ltb, eq-eqb, ne_eqb, le-leb}
 use mathlib.Core.List.{Memᴰ}
 use mathlib.Core.Option.{Option, none, some}
 use native.Mathlib.Decide.{ℕ_discrete}
 use borrow.Author.Tests.{lt-leb}
 use Rattle.trees.specs.Tree.{Tree, size, kind_at, labels_of}
 use Rattle.trees.specs.Changes.{changed}
-use Rattle.trees.specs.Climb.{and_then}
-use Rattle.trees.specs.Numbering.{sub, depth, InSubtree, is_in_subtree}
+use Rattle.trees.specs.Numbering.{sub, depth, is_in_subtree}
 use Rattle.trees.proofs.NodeLaws.{Inner, inner, up}
 use Rattle.trees.proofs.IntervalLaws.{interval-ancestor, above_at}
 use Rattle.tables.specs.node_tables.Cells.{depth_cell, size_cell}
 use Rattle.tables.specs.node_tables.Cells.{is_in_subtree_on}
 use Rattle.tables.specs.declared.answers.Reached.{Reached}
-use Rattle.tables.specs.Climbs.{View, below, run_on, rule_on, reached, climb_on}
+use Rattle.tables.specs.Climbs.{View, reached}
 use Rattle.questions.specs.ready.Ready.{left_child, right_child}
 use Rattle.questions.specs.ready.Members.{Rising}
-use Rattle.questions.specs.ready.Parts.{Given, any_below, last_below, highest_below, move_states, climb_moves, climbed_links, inner_links}
+use Rattle.questions.specs.ready.Parts.{Given, any_below, last_below, highest_below, climbed_links, inner_links}
 use Rattle.questions.specs.ready.Parts.{climbed_passed, inner_passed, part_passed}
 use Rattle.questions.specs.ready.Parts.{part_links, Part, nodes_of, states_of, state_of, climbed_state, inner_state, part_state}
-use Rattle.questions.proofs.ready.BelowLaws.{none_below, some_below, under-no, true-false, rising-above}
+use Rattle.questions.proofs.ready.BelowLaws.{some_below, true-false, rising-above}
 use Rattle.questions.proofs.ready.ClosedForm.{kind-one}
-use Rattle.questions.proofs.ready.HighestLaws.{Highest, is_false}
+use Rattle.questions.proofs.ready.HighestLaws.{Highest}
 use Rattle.questions.proofs.ready.PartsRun.{Members}
 use Rattle.questions.proofs.ready.UnderLaws.{under-self, left_in, right_in, left-parent, right-parent}
 use Rattle.questions.specs.Part.{Found, found, last_found, found_below, label_on, climb_from, run_reached, own_reached}

@@ -2,7 +2,7 @@
 --     all_small      numbers below n, one by one
 --     roots-done     roots
 --     part-done      part
-use Rattle.std.proofs.Common.{◌≡◌, ℕ, suc, ◌<◌, ◌≤◌, Bool, true, false, ◌&&◌, ltb, ◌⊎◌, List, [], ◌∷◌, ◌++◌, length, get_or, take, drop, sym, refl, ap, ◌∙◌, ap₂, inl, inr, arith, take-append-drop, drop-cons, ltb-true}
+use Rattle.std.proofs.Common.{◌≡◌, ℕ, suc, ◌<◌, ◌≤◌, Bool, true, false, ◌&&◌, ltb, List, [], ◌∷◌, ◌++◌, length, get_or, take, drop, sym, refl, ap, ◌∙◌, ap₂, inl, inr, arith, take-append-drop, drop-cons, ltb-true}
 use mathlib.Core.List.Memᴰ
 use mathlib.Core.List.{Memᴰ}
 use mathlib.Core.Option.{Option, none, some}
@@ -17,7 +17,7 @@ use Rattle.tables.specs.declared.answers.Climbed.{Climbed}
 use Rattle.tables.specs.declared.answers.Reached.{Reached}
 use Rattle.tables.specs.Climbs.{reached, climbed_of, climbed_number}
 use Rattle.questions.specs.ready.Members as members
-use Rattle.questions.specs.ready.Parts.{Given, Part, nodes_of, states_of, part_state, part_links, part_passed}
+use Rattle.questions.specs.ready.Parts.{Given, Part, nodes_of, part_state, part_links, part_passed}
 use Rattle.questions.proofs.ready.PartsRun.{Members}
 use Rattle.questions.proofs.ready.ListLaws.{list-members}
 use Rattle.questions.specs.declared.roots.Rooted.{Rooted}
@@ -27,7 +27,7 @@ use Rattle.questions.specs.RootsAnswers.{roots_fit, roots_given, rooted_of}
 use Rattle.questions.specs.PartAnswers.{asked_fits, part_fits, part_given, view_in}
 use Rattle.questions.specs.OutOfRange.{PartOutOfRange}
 use Rattle.questions.specs.Promises.{number_for, rooted_number, RootsDone, Asked, PartDone}
-use Rattle.questions.proofs.FitLaws.{Fit, fit-facts, given_yes, given-are}
+use Rattle.questions.proofs.FitLaws.{fit-facts, given_yes, given-are}
 use Rattle.questions.proofs.ListedLaws.{given-listed}
 use Rattle.questions.proofs.PartBounds.{part_given-below, part-links, part-links-passed, part-passed}
 use Rattle.questions.proofs.PartFits as fits

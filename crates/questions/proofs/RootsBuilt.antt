@@ -1,22 +1,21 @@
 -- On numbers as built the computed roots are exactly the ready set.
 --     holds-yes, yes-holds    the test whether a list holds a number
 --     roots-built             roots_on gives the rising list of the ready set
-use Rattle.std.proofs.Common.{◌≡◌, ℕ, zero, suc, ◌+◌, ◌-◌, ◌<◌, ◌≤◌, Bool, true, false, cond, ◌||◌, eqb, ◌⊎◌, List, [], ◌∷◌, sym, refl, ap, ◌∙◌, subst, inl, inr, arith, eq-eqb, eqb-true}
+use Rattle.std.proofs.Common.{◌≡◌, ℕ, ◌+◌, ◌-◌, ◌<◌, Bool, true, false, ◌||◌, eqb, ◌⊎◌, List, [], ◌∷◌, sym, refl, ap, ◌∙◌, subst, inl, inr, arith, eq-eqb, eqb-true}
 use mathlib.Core.List.{Memᴰ}
-use mathlib.Core.Option.{Option, none, some}
-use native.Mathlib.Decide.{ℕ_discrete}
-use Rattle.trees.specs.Tree.{Tree, size, kind_at}
+use mathlib.Core.Option.{some}
+use Rattle.trees.specs.Tree.{Tree, size}
 use Rattle.trees.specs.Numbering.{sub, InSubtree}
 use Rattle.trees.proofs.NodeLaws.{size-pos, Inner, inner, sub-size}
 use Rattle.list_laws.specs.Tests.{holds}
 use Rattle.tables.specs.node_tables.NodeCells.{NodeCells}
 use Rattle.questions.specs.ready.Ready.{Meet, left_child, right_child}
 use Rattle.questions.specs.ready.Members.{Rising, ready_list, roots}
-use Rattle.questions.proofs.ready.UnderLaws.{left_in, right_in}
-use Rattle.questions.proofs.ready.BelowLaws.{rising-above, true-false}
+use Rattle.questions.proofs.ready.UnderLaws.{left_in}
+use Rattle.questions.proofs.ready.BelowLaws.{true-false}
 use Rattle.questions.proofs.ready.ClosedForm.{Forks, Member, m-listed, m-root, m-forks, m-left, m-right, fork-meet, parted}
 use Rattle.questions.proofs.ready.ListLaws.{list-member, member-list, list-rising, rising-unique}
-use Rattle.questions.specs.Roots.{rising_of, wanted, forks_on, from_first, roots_on}
+use Rattle.questions.specs.Roots.{wanted, from_first, roots_on}
 use Rattle.questions.proofs.InsertLaws.{rising-old, rising-new, member-rising, all-rising, Next, Between, next-first, next-second}
 use Rattle.questions.proofs.InsertLaws.{next-rising, next-between}
 use Rattle.questions.proofs.ForksBuilt.{Of, Added, forks-built}

@@ -7,7 +7,7 @@
 --     last-ind, last-bound, last-covers         the place found is inside the list, and its entry not above c
 --     found-scan                                the last root below c is the one at the place found
 --     label-scan                                the label as changed is the one at the place found
-use Rattle.std.proofs.Common.{◌≡◌, ℕ, suc, ◌+◌, ◌-◌, ◌%◌, ◌^◌, ◌<◌, ◌≤◌, Bool, true, false, cond, ◌&&◌, ◌||◌, ltb, leb, List, [], ◌∷◌, ◌++◌, length, get_or, take, drop, set, sym, refl, ap, ◌∙◌, subst, add-one, arith, length-set, drop_of_length-le, length-take-le, get_or-drop, drop-cons, get_or-set_other, take-suc, get_or-set_same, drop-drop, take-add, ltb-true, le-ltb, lt-ltb, le-leb, leb-true}
+use Rattle.std.proofs.Common.{◌≡◌, ℕ, suc, ◌+◌, ◌-◌, ◌%◌, ◌^◌, ◌<◌, ◌≤◌, Bool, true, false, cond, ◌||◌, ltb, leb, List, [], ◌∷◌, ◌++◌, length, get_or, take, drop, set, sym, refl, ap, ◌∙◌, subst, add-one, arith, length-set, drop_of_length-le, length-take-le, get_or-drop, drop-cons, get_or-set_other, take-suc, get_or-set_same, drop-drop, take-add, ltb-true, le-ltb, lt-ltb, le-leb, leb-true}
 use mathlib.Core.Option.{some}
 use lib.Seq.{take-length}
 use borrow.Author.Tests.{lt-leb}
@@ -17,7 +17,6 @@ use Rattle.list_laws.proofs.Choice.{by-test, le-or}
 use Rattle.trees.proofs.MoveLaws.{both}
 use Rattle.list_laws.proofs.BoolLaws.{true-false, or_assoc, or_no}
 use Rattle.tables.specs.node_tables.Cells.{size_cell}
-use Rattle.tables.specs.node_tables.Cells.{is_in_subtree_on}
 use Rattle.questions.specs.Part.{found, last_found, found_below}
 use Rattle.questions.specs.inner.Scans.{last_from, last_in, any_in, Shortened, found_of, label_of}
 

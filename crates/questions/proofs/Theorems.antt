@@ -9,7 +9,7 @@
 --     roots-in-range, part-in-range   18 only where a value leads outside the plan, the states or the labels, or a link does not rise
 --     rule-in-range     .. and where the rule holds no value does
 -- That answer, parts and links do not depend on the list's order, and each part's links: crate reference (OrderLaws, Ceilings).
-use Rattle.std.proofs.Common.{◌≡◌, ℕ, ◌+◌, ◌-◌, ◌*◌, ◌<◌, ◌≤◌, Bool, true, List, ◌∷◌, ◌++◌, length}
+use Rattle.std.proofs.Common.{◌≡◌, ℕ, ◌*◌, ◌<◌, ◌≤◌, Bool, true, List, ◌∷◌, ◌++◌, length}
 use mathlib.Core.List.{Memᴰ}
 use mathlib.Core.Option.{none, some}
 use Rattle.trees.specs.Tree.{Tree, size, height, labels_of}

@@ -124,7 +124,7 @@ module _ (p r node_table state_table : List ℕ) (accepted : first_no (rule_tabl
     left_few = omega (arith, ap length left_is, last-most (labels_within p) vs bs, listed.most)
 
     left_inside : all_below (node_count p) left ≡ true
-    left_inside = ap (all_below n) left_is ∙ last_below n (labels_within p) vs bs listed.nodes_below
+    left_inside = ap (all_below n) left_is ∙ last_below n (labels_within p) vs bs listed.nodes-below
 
     pub roots-are : roots_given (node_count p) (take (node_table_length (node_count p)) node_table)
         (given_differing (labels_within p) vs bs) ≡ some (roots (plan_tree p) (differing (labels_within p) vs bs))

@@ -7,7 +7,7 @@
 -- inner_on X t l r a == the part of an inner node at depth t - 1 with children l and r and label a
 -- part_on X es qs vs bs v == the part of root v, where the roots es, of states qs, were handled before; none (18) where a value read
 --   leads outside the plan, the states or the labels, or a climb does not rise
-use Rattle.std.specs.Prelude.{ℕ, ◌+◌, ◌-◌, Bool, cond, ◌&&◌, List, [], ◌∷◌, ◌==◌, nat_le, nat_lt, slice_index}
+use Rattle.std.specs.Prelude.{ℕ, ◌+◌, ◌-◌, cond, ◌&&◌, List, [], ◌∷◌, ◌==◌, nat_le, nat_lt, slice_index}
 use Rattle.std.proofs.Math.Option.{Option, none, some}
 use Rattle.trees.specs.Changes.{changed}
 use Rattle.trees.specs.Climb.{and_then}

@@ -8,7 +8,7 @@
 --
 -- Of the earlier roots nothing is asked: one that is found below a child is a node.
 use Rattle.std.specs.Prelude.{ℕ, Bool, cond, ◌&&◌, List, length, take, ◌==◌, nat_le, nat_lt, slice_index}
-use Rattle.std.proofs.Math.Option.{Option, none, some}
+use Rattle.std.proofs.Math.Option.{Option, none}
 use Rattle.formats.specs.Limits.{node_limit}
 use Rattle.formats.specs.Rules.{rule_length}
 use Rattle.formats.specs.Checks.{node_table_length, state_table_length}

@@ -17,7 +17,7 @@ use Rattle.formats.specs.Inputs.{Inputs, Sizes, sizes_in}
 use Rattle.model.specs.Calls.{Call, load, start, advance, cancel, read, Answer, more, finished, Outcome, Phase, is_refused}
 use Rattle.model.specs.Refusals.{refusal}
 use Rattle.model.specs.History.{History, done, call}
-use Rattle.model.specs.Model.{Record, stage_of, Acted, acted, idle, fresh_record, loaded_record, with_last, started, stepped, advance_with}
+use Rattle.model.specs.Model.{Record, stage_of, Acted, acted, fresh_record, loaded_record, with_last, stepped, advance_with}
 use Rattle.model.specs.Model.{marks_by, part_next, proceeds, unless, act, Does}
 use Rattle.model.proofs.Facts.{Layers}
 use Rattle.model.proofs.Refinement.{Refines, refines}
@@ -95,6 +95,10 @@ same-answers r [] [] [] done done = refl
 same-answers r (c ∷ cs) (a ∷ xs) (b ∷ ys) (call {r'} d h) (call {r' = r''} e k) =
     ap₂ (λ (z : Answer) (zs : List Answer). z ∷ zs) (d.tells ∙ sym e.tells)
     (same-answers r'' cs xs ys (subst (λ (t : Record). History Does t cs xs) (d.leaves ∙ sym e.leaves) h) k)
+same-answers r [] [] (b ∷ ys) _ h = elim h [ ]
+same-answers r [] (a ∷ xs) ys h _ = elim h [ ]
+same-answers r (c ∷ cs) [] ys h _ = elim h [ ]
+same-answers r (c ∷ cs) (a ∷ xs) [] _ h = elim h [ ]
 
 pub kept-as-anew : (o : Option Outcome) (r : Record) (cs : List Call) (xs ys : List Answer) → History Does (with_last o r) cs xs
     → History Does r cs ys → SameButReads cs xs ys
@@ -109,6 +113,8 @@ kept-as-anew o r (c ∷ cs) (a ∷ xs) (b ∷ ys) (call {r'} d h) (call {r' = r'
           (subst (λ (t : Record). History Does t cs xs) (d.leaves ∙ B.kept (sym (ap (replaces c) d.tells) ∙ f)) h)
           (subst (λ (t : Record). History Does t cs ys) e.leaves k),
     )
+kept-as-anew o r (c ∷ cs) [] ys h k = elim h [ ]
+kept-as-anew o r (c ∷ cs) (a ∷ xs) [] h k = elim k [ ]
 
 -- ---- after a Cancel, and after a first Load
 

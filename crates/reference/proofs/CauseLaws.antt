@@ -51,31 +51,31 @@ module _ (n : ℕ) (b : List ℕ) where
       (and_both (ltb 0 (depth_cell b v)) (is_flat b v) (lt-ltb 0 (depth_cell b v) d) e)))
 
   -- the tests of a flat link, in their order
-  abbrev jump_flat : ℕ → Bool
-  jump_flat v = leb (depth_cell b v) (depth_cell b (jump_cell b v))
+  abbrev jump_test : ℕ → Bool
+  jump_test v = leb (depth_cell b v) (depth_cell b (jump_cell b v))
 
-  abbrev parent_flat : ℕ → Bool
-  parent_flat v = leb (depth_cell b v) (depth_cell b (parent_cell b v))
+  abbrev parent_test : ℕ → Bool
+  parent_test v = leb (depth_cell b v) (depth_cell b (parent_cell b v))
 
   led : (v x : ℕ) → v < n → 0 < depth_cell b v → (x ≡ parent_cell b v) ⊎ (x ≡ jump_cell b v) → Childless b x
       → node_table_cause n b ≡ true
   unfolding is_flat
   led v x h d (inl e) c =
-      flat-at v h d (or-second (jump_flat v) _ (or-second (parent_flat v) _ (or-first (is_childless b (parent_cell b v)) _
+      flat-at v h d (or-second (jump_test v) _ (or-second (parent_test v) _ (or-first (is_childless b (parent_cell b v)) _
       (subst (λ (y : ℕ). is_childless b y ≡ true) e (bare b x c)))))
   led v x h d (inr e) c =
-      flat-at v h d (or-second (jump_flat v) _ (or-second (parent_flat v) _ (or-second (is_childless b (parent_cell b v)) _
+      flat-at v h d (or-second (jump_test v) _ (or-second (parent_test v) _ (or-second (is_childless b (parent_cell b v)) _
       (subst (λ (y : ℕ). is_childless b y ≡ true) e (bare b x c)))))
 
   pub links-cause : NodeTableOutOfRange n b → node_table_cause n b ≡ true
   unfolding link_faulty is_flat is_apart
   links-cause (link (jump_outside v h o)) = out-of-range-at v h (or-first (leb n (jump_cell b v)) _ (le-leb n (jump_cell b v) o))
   links-cause (link (jump_flat v h d e)) =
-      flat-at v h d (or-first (jump_flat v) _ (le-leb (depth_cell b v) (depth_cell b (jump_cell b v)) e))
+      flat-at v h d (or-first (jump_test v) _ (le-leb (depth_cell b v) (depth_cell b (jump_cell b v)) e))
   links-cause (link (parent_outside v h o)) =
       out-of-range-at v h (or-second (leb n (jump_cell b v)) _ (or-first (leb n (parent_cell b v)) _ (le-leb n (parent_cell b v) o)))
   links-cause (link (parent_flat v h d e)) =
-      flat-at v h d (or-second (jump_flat v) _ (or-first (parent_flat v) _
+      flat-at v h d (or-second (jump_test v) _ (or-first (parent_test v) _
       (le-leb (depth_cell b v) (depth_cell b (parent_cell b v)) e)))
   links-cause (childless v x h d l c) = led v x h d l c
   links-cause (apart v u h i d e) =

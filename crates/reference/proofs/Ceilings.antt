@@ -4,7 +4,7 @@
 --     nodes-passed      the nodes passed over: between the links, and the plan's height for each of its parts
 --     ready-count       at most 4 m - 2 parts for the m nodes of W, and 1 where it has none
 --     parts-never-rise  no more parts than if no listed node were left out
-use Prim.Native.Nat.{ℕ, ◌-◌, ◌*◌, ◌≤◌, ◌<◌}
+use Prim.Native.Nat.{ℕ, ◌*◌, ◌≤◌, ◌<◌}
 use mathlib.Core.Path.{◌≡◌, refl}
 use mathlib.Core.Bool.{Bool, true, false, cond}
 use mathlib.Core.List.{List, [], ◌∷◌, Memᴰ}

@@ -32,6 +32,8 @@ agrees_from : Layers → (r : Record) (b : Reference) (cs : List Call) (xs : Lis
 agrees_from L r b [] [] i done = tt
 agrees_from L r b (c ∷ cs) (a ∷ xs) i (call {r'} e h) =
     let j = simulates L c r r' b a i e in (j.0, agrees_from L r' (after (step b c) a) cs xs j.1 h)
+agrees_from L r b [] (a ∷ xs) i h = elim h [ ]
+agrees_from L r b (c ∷ cs) [] i h = elim h [ ]
 
 pub demand_3 : Layers → Demand3 fresh_record Does
 demand_3 L cs xs h = agrees_from L fresh_record new_reference cs xs at_first h

@@ -4,34 +4,33 @@
 --     to_the_end          of a question that runs: what its advances and its Read answer
 --     questions-finish    so a question's advances and Read answer more .., finished and the fresh run's answer
 --     finish-of           and passes on to every form of the calls
-use Prim.Native.Nat.{ℕ, zero, suc, ◌+◌, ◌-◌, ◌*◌, ◌≤◌, ◌<◌}
+use Prim.Native.Nat.{ℕ, zero, suc, ◌+◌, ◌-◌, ◌<◌}
 use mathlib.Core.Path.{◌≡◌, refl, sym, ap, ap₂, ◌∙◌, subst}
-use mathlib.Core.Bool.{Bool, true, false, cond, ◌&&◌}
+use mathlib.Core.Bool.{Bool, true, false, cond}
 use mathlib.Core.List.{List, [], ◌∷◌, ◌++◌}
 use mathlib.Core.Option.{Option}
 use native.Mathlib.Omega.{arith}
 use lib.Dec.{eqb, leb}
 use lib.ListN.{length, take, replicate, length-take}
-use borrow.Author.Tests.{eq-eqb, eqb-true, le-leb, leb-true}
+use borrow.Author.Tests.{le-leb, leb-true}
 use Rattle.list_laws.proofs.BoolLaws.{true-false, and_left, and_right, and_both}
 use Rattle.questions.specs.ready.Parts.{Part}
 use Rattle.formats.specs.Plan.{plan_length}
 use Rattle.formats.specs.Rules.{rule_length}
 use Rattle.formats.specs.Checks.{check, first_no, list_checks, node_table_length, state_table_length}
-use Rattle.formats.specs.Inputs.{Inputs, Sizes, fits, used_node_table, used_state_table, same_inputs}
+use Rattle.formats.specs.Inputs.{Inputs, Sizes, fits, same_inputs}
 use Rattle.formats.proofs.CheckLaws.{first_no-head, first_no-tail}
 use Rattle.formats.proofs.InputsLaws.{Same, same-node-inputs, same-inputs-nodes, same-state-table}
-use Rattle.model.specs.Calls.{Call, start, advance, read, Answer, refused, parts, more, finished, on_advance, is_running, may_start, Phase}
+use Rattle.model.specs.Calls.{Call, start, advance, read, Answer, parts, more, finished, on_advance, is_running, may_start}
 use Rattle.model.specs.Calls.{is_some}
 use Rattle.model.specs.Refusals.{Stage, stage, refusal}
-use Rattle.model.specs.History.{History}
 use Rattle.model.specs.Model.{fresh_record, Does}
 use Rattle.model.proofs.Facts.{Layers}
 use Rattle.model.proofs.ModelLaws.{start-before}
 use Rattle.model.proofs.Refinement.{Refines, refines}
 use Rattle.reference.specs.Reference.{clean, Question, State, Reference, settled, stage_of, phase, in_state, new_reference, step, decided, proceed}
 use Rattle.reference.specs.Reference.{longer, advanced, goes_further, advancing_by_rule, advancing, reading, reading_last, finished_with, part_count}
-use Rattle.reference.specs.Reference.{fresh_answer, asked, starting}
+use Rattle.reference.specs.Reference.{fresh_answer, asked}
 use Rattle.reference.specs.Demand3.{Conforms, after, Agrees}
 use Rattle.reference.specs.Undisturbed.{reference_at}
 use Rattle.reference.specs.Finished.{advances_of, AllSame, until_the_end, QuestionsFinish}

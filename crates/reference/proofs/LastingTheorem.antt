@@ -19,7 +19,6 @@ use Rattle.questions.specs.ready.Parts.{Part}
 use Rattle.model.specs.Calls.{Call, load, start, advance, cancel, read, Answer, refused, parts, more, finished, outcome}
 use Rattle.model.specs.Calls.{on_advance, on_outcome, is_refused}
 use Rattle.model.specs.Refusals.{refusal}
-use Rattle.model.specs.History.{History}
 use Rattle.model.specs.Model.{fresh_record, Does}
 use Rattle.model.proofs.Facts.{Layers}
 use Rattle.model.proofs.Refinement.{Refines, refines}

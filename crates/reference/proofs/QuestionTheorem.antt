@@ -3,7 +3,7 @@
 --     questions-of        and passes on to every form of the calls
 --     outcome-order       and does not depend on the order of the list
 -- Refused calls may come between; a Cancel may not.
-use Prim.Native.Nat.{ℕ, zero, suc, ◌+◌, ◌*◌, ◌≤◌}
+use Prim.Native.Nat.{ℕ, zero, suc, ◌*◌, ◌≤◌}
 use mathlib.Core.Path.{◌≡◌, refl, sym, ap, ◌∙◌, subst}
 use mathlib.Core.Bool.{true}
 use mathlib.Core.List.{List, [], ◌∷◌, ◌++◌, zip, Permᴰ}

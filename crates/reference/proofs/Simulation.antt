@@ -14,10 +14,9 @@ use lib.ListN.{length}
 use lib.Seq.{take_all}
 use Rattle.trees.specs.Automaton.{state}
 use Rattle.formats.specs.Rules.{rule_automaton}
-use Rattle.formats.specs.Checks.{first_no}
 use Rattle.questions.specs.ready.Parts.{Part, parts_from, parts_of, last_state, all_links, all_passed}
-use Rattle.formats.specs.Inputs.{Inputs, Sizes, sizes_in}
-use Rattle.model.specs.Calls.{Call, load, cancel, read, Answer, refused, Outcome, outcome, outcome_answer, Phase, is_running, is_some}
+use Rattle.formats.specs.Inputs.{Inputs, Sizes}
+use Rattle.model.specs.Calls.{Call, load, cancel, read, Answer, refused, Outcome, outcome, outcome_answer, Phase, is_some}
 use Rattle.model.specs.Refusals.{stage, refusal}
 use Rattle.reference.specs.Reference.{Settlement, clean, by_rule, by_program, Question, State, Reference, Reply}
 use Rattle.reference.specs.Reference.{phase, in_state, stage_of, step, decided, proceed, roots_of, part_count}

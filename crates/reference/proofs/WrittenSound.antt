@@ -4,7 +4,7 @@
 --     loaded x          the inputs after an accepted Load
 --     written-sound, written-fits     they are sound, and long enough
 --     start-written     so a Start on them is accepted with any list that passes 12 to 14
-use Prim.Native.Nat.{ℕ, ◌+◌, ◌≤◌}
+use Prim.Native.Nat.{ℕ, ◌≤◌}
 use mathlib.Core.Path.{◌≡◌, refl, ap, ◌∙◌}
 use mathlib.Core.Bool.{true, ◌&&◌}
 use mathlib.Core.List.{List, [], ◌∷◌, ◌++◌}

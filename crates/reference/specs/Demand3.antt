@@ -5,7 +5,7 @@
 -- Demand3 fresh Step == every history from the fresh record agrees with the new reference model
 --
 -- `Step` is a call's contract: for the session, its calls' own promises (History: crate model).
-use Rattle.std.specs.Prelude.{◌≡◌, Bool, true, List, [], ◌∷◌}
+use Rattle.std.specs.Prelude.{◌≡◌, true, List, [], ◌∷◌}
 use Rattle.model.specs.Calls.{Call, Answer}
 use Rattle.model.specs.History.{History}
 use Rattle.reference.specs.Reference.{Reference, Reply, settled, unsettled, new_reference, step}

@@ -8,7 +8,7 @@
 -- EveryOutcome P xs == the same of all answers xs; OnlyOutcome a xs == every outcome in xs is a
 -- EveryOutcomeAfter P xs, OnlyOutcomeAfter a xs == the same of the answers after the first finished: a Read before it
 --   is about an earlier question
-use Rattle.std.specs.Prelude.{ℕ, suc, ◌≡◌, Bool, true, false, List, [], ◌∷◌}
+use Rattle.std.specs.Prelude.{ℕ, suc, ◌≡◌, true, false, List, [], ◌∷◌}
 use Rattle.std.proofs.Math.Option.{Option, none, some}
 use Rattle.formats.specs.Inputs.{Inputs, Sizes, same_inputs}
 use Rattle.model.specs.Calls.{Call, load, start, advance, cancel, read, Answer, refused, parts, more, finished, Outcome}

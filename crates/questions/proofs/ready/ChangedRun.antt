@@ -2,22 +2,19 @@
 --     unchanged-state    where no listed node is under c, the state at c is the old run's
 --     changed-up         one step up past an unlisted node, beside an unlisted subtree
 --     changed-walk       so a walk from the highest member below c carries the changed run's state to c
-use Rattle.std.proofs.Common.{◌≡◌, ℕ, zero, suc, ◌+◌, ◌-◌, ◌<◌, ◌≤◌, Bool, true, false, ◌⊎◌, sym, refl, ap, ◌∙◌, subst, ap₂, inl, inr, arith}
+use Rattle.std.proofs.Common.{◌≡◌, ℕ, zero, suc, ◌+◌, ◌-◌, ◌<◌, ◌≤◌, Bool, true, false, sym, refl, ap, ◌∙◌, ap₂, inl, inr, arith}
 use native.Mathlib.Decide.{ℕ_discrete}
 use Rattle.trees.specs.Tree.{Tree, size, kinds_of, kind_at, label_at}
 use Rattle.trees.specs.Automaton.{Automaton, state}
 use Rattle.trees.specs.Numbering.{sub, parent, depth, ancestor, InSubtree}
 use Rattle.trees.specs.Climb.{walk}
 use Rattle.trees.specs.Tables.{step_up}
-use Rattle.trees.proofs.NodeLaws.{Up, up, Inner, inner, below_root}
-use Rattle.trees.proofs.JumpLaws.{ancestor-add, ancestor-in, ancestor-depth, ancestor-above}
-use Rattle.trees.proofs.IntervalLaws.{ancestor-interval, interval-ancestor, above_at}
+use Rattle.trees.proofs.NodeLaws.{Up, up, Inner, inner}
 use Rattle.trees.proofs.WalkLaws.{walk-add}
 use Rattle.trees.proofs.MapLaws.{step_up-right, step_up-left}
 use Rattle.trees.proofs.RunLaws.{state-inner}
 use Rattle.questions.specs.ready.Ready.{left_child, right_child, Closed}
-use Rattle.questions.proofs.ready.UnderLaws.{under-trans, left-under, right-under}
-use Rattle.questions.proofs.ready.HighestLaws.{Highest, is_false, path-unlisted, not_left, not_right}
+use Rattle.questions.proofs.ready.HighestLaws.{Highest, is_false}
 use Rattle.questions.proofs.ready.HighestWalk.{far, way-proper, way-free, way-left, way-right}
 use Rattle.questions.proofs.ready.SameTrees.{same_count, same_kind, same_size, same-sub}
 

@@ -3,15 +3,15 @@
 --     Member w t v    v is listed, the root, forks, or is a child of a node that does
 --     member-ready    a member is in the ready set
 --     ready-member    and nothing else is: the ready set is closed (ready-closed) and least (ready-least)
-use Rattle.std.proofs.Common.{◌≡◌, ℕ, zero, suc, ◌+◌, ◌-◌, ◌<◌, ◌≤◌, Bool, true, false, ◌⊎◌, sym, refl, ap, ◌∙◌, subst, inl, inr, arith}
+use Rattle.std.proofs.Common.{◌≡◌, ℕ, ◌+◌, ◌-◌, ◌<◌, ◌≤◌, Bool, true, ◌⊎◌, sym, ap, ◌∙◌, subst, inl, inr, arith}
 use native.Mathlib.Decide.{ℕ_discrete, dec_lt}
 use Rattle.trees.specs.Tree.{Tree, size, kind_at}
-use Rattle.trees.specs.Numbering.{sub, parent, depth, ancestor, AtOrBelow, InSubtree}
+use Rattle.trees.specs.Numbering.{sub, depth, ancestor, AtOrBelow, InSubtree}
 use Rattle.trees.proofs.NodeLaws.{Inner, inner, up, sub-leaf}
 use Rattle.trees.proofs.JumpLaws.{ancestor-add, ancestor-depth}
 use Rattle.trees.proofs.IntervalLaws.{ancestor-interval, interval-ancestor}
 use Rattle.questions.specs.ready.Ready.{left_child, right_child, Meet, Fork, Ready, listed, root, meet, child_left, child_right, Closed}
-use Rattle.questions.proofs.ready.UnderLaws.{under-self, under-trans, under-anti, under-inner, under-root, left_in, right_in, left-under}
+use Rattle.questions.proofs.ready.UnderLaws.{under-self, under-trans, under-inner, left_in, right_in, left-under}
 use Rattle.questions.proofs.ready.UnderLaws.{right-under, children-apart}
 
 -- a listed node under c

@@ -3,9 +3,9 @@
 --     highest-holds       all members under c are under h: it is the highest, and the only one such
 --     path-unlisted       no node from above h up to c is listed
 --     beside-unlisted     no node under the other child of a node on that path is listed
-use Rattle.std.proofs.Common.{◌≡◌, ℕ, ◌+◌, ◌-◌, ◌<◌, ◌≤◌, Bool, true, false, sym, refl, ap, ◌∙◌, subst, arith}
+use Rattle.std.proofs.Common.{◌≡◌, ℕ, ◌<◌, ◌≤◌, Bool, true, false, refl, subst, arith}
 use Rattle.trees.specs.Tree.{Tree, size, kind_at}
-use Rattle.trees.specs.Numbering.{sub, parent, InSubtree}
+use Rattle.trees.specs.Numbering.{InSubtree}
 use Rattle.questions.specs.ready.Ready.{left_child, right_child, Meet, Closed}
 use Rattle.questions.proofs.ready.UnderLaws.{under-trans, meet-exists, children-apart}
 

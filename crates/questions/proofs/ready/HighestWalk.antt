@@ -3,7 +3,7 @@
 --     way-proper             a node on the way is not the root
 --     way-free               its parent is not listed
 --     way-left, way-right    nor is any node under the other child of its parent
-use Rattle.std.proofs.Common.{◌≡◌, ℕ, zero, suc, ◌+◌, ◌-◌, ◌<◌, ◌≤◌, Bool, true, false, ◌⊎◌, sym, refl, ap, ◌∙◌, subst, inl, inr, arith}
+use Rattle.std.proofs.Common.{◌≡◌, ℕ, suc, ◌+◌, ◌-◌, ◌<◌, ◌≤◌, Bool, true, false, sym, refl, ap, ◌∙◌, subst, inl, inr, arith}
 use Rattle.trees.specs.Tree.{Tree, size, kind_at}
 use Rattle.trees.specs.Numbering.{parent, depth, ancestor, InSubtree}
 use Rattle.trees.proofs.NodeLaws.{Up, up, below_root}

@@ -4,14 +4,14 @@
 --     list-last                 and ends at the plan's root
 --     list-members              so it is what the parts are worked out over (PartsRun.Members)
 --     rising-unique             two rising lists with the same members are the same list
-use Rattle.std.proofs.Common.{◌≡◌, ℕ, zero, suc, ◌+◌, ◌-◌, ◌<◌, ◌≤◌, Bool, true, false, cond, ◌&&◌, ◌||◌, eqb, ◌⊎◌, List, [], ◌∷◌, ◌++◌, sym, refl, ap, ◌∙◌, subst, ap₂, inl, inr, append-nil, arith, eq-eqb, eqb-true}
+use Rattle.std.proofs.Common.{◌≡◌, ℕ, zero, suc, ◌+◌, ◌-◌, ◌<◌, ◌≤◌, Bool, true, false, cond, ◌&&◌, eqb, ◌⊎◌, List, [], ◌∷◌, ◌++◌, sym, refl, ap, ◌∙◌, subst, ap₂, inl, inr, append-nil, arith, eq-eqb, eqb-true}
 use mathlib.Core.List.Memᴰ
 use mathlib.Core.List.{Memᴰ}
-use native.Mathlib.Decide.{ℕ_discrete, dec_lt}
+use native.Mathlib.Decide.{ℕ_discrete}
 use Rattle.trees.specs.Tree.{Tree, size, kind_at}
-use Rattle.trees.specs.Numbering.{sub, parent, InSubtree}
+use Rattle.trees.specs.Numbering.{sub, parent}
 use Rattle.trees.proofs.MoveLaws.{both}
-use Rattle.trees.proofs.NodeLaws.{Up, up, sub-size, size-pos, parent-root}
+use Rattle.trees.proofs.NodeLaws.{Up, up, sub-size, parent-root}
 use Rattle.list_laws.proofs.BoolLaws.{and_both}
 use Rattle.list_laws.proofs.BoolLaws.{or_cases, or-first, or-second}
 use Rattle.questions.specs.ready.Ready.{left_child, right_child, Ready}

@@ -3,7 +3,7 @@
 --     part-subtree                a member with none below it roots its whole subtree
 --     part-hole-left, -right       one with members below one child only: its subtree without that of the highest of them
 --     part-single                 one with members below both children: itself alone
-use Rattle.std.proofs.Common.{◌≡◌, ℕ, zero, suc, ◌+◌, ◌<◌, ◌≤◌, Bool, true, false, ◌⊎◌, ◌↔◌, sym, refl, subst, inl, inr, arith}
+use Rattle.std.proofs.Common.{◌≡◌, ℕ, zero, suc, ◌+◌, ◌<◌, ◌≤◌, Bool, ◌⊎◌, ◌↔◌, sym, subst, inl, inr, arith}
 use native.Mathlib.Decide.{ℕ_discrete}
 use Rattle.trees.specs.Tree.{Tree, size, kind_at}
 use Rattle.trees.specs.Numbering.{parent, depth, InSubtree}
@@ -11,7 +11,7 @@ use Rattle.trees.proofs.NodeLaws.{up}
 use Rattle.questions.specs.ready.Ready.{Ready, left_child, right_child, root}
 use Rattle.questions.specs.ready.Partition.{InPart}
 use Rattle.questions.proofs.ready.UnderLaws.{under-self, under-trans, under-anti, under_parent, under_up}
-use Rattle.questions.proofs.ready.UnderLaws.{left_in, right_in, left-under, right-under, under-inner}
+use Rattle.questions.proofs.ready.UnderLaws.{left_in, right_in, under-inner}
 use Rattle.questions.proofs.ready.ClosedForm.{comparable, ready-in, ready-closed}
 use Rattle.questions.proofs.ready.HighestLaws.{Highest, highest-holds}
 use Rattle.questions.proofs.ready.ListLaws.{ready-dec}

@@ -4,16 +4,15 @@
 --     part_right         the part of a member has the changed run's state at its root, if those before it have
 --     parts-right        so all have: not only the plan's root
 --     Members            what is used of the list of members
-use Rattle.std.proofs.Common.{◌≡◌, ℕ, zero, suc, ◌+◌, ◌-◌, ◌<◌, ◌≤◌, Bool, true, false, cond, eqb, ◌⊎◌, List, [], ◌∷◌, ◌++◌, length, get_or, sym, refl, ap, ◌∙◌, subst, ap₂, inl, inr, append_assoc, append-nil, arith, eq-eqb, ne_eqb, eqb-true}
+use Rattle.std.proofs.Common.{◌≡◌, ℕ, suc, ◌+◌, ◌-◌, ◌<◌, ◌≤◌, Bool, true, false, cond, ◌⊎◌, List, [], ◌∷◌, ◌++◌, get_or, sym, refl, ap, ◌∙◌, subst, ap₂, inl, inr, append_assoc, append-nil, arith, eq-eqb, ne_eqb}
 use mathlib.Core.List.{Memᴰ}
-use mathlib.Core.Option.{Option, none, some, some-injective}
+use mathlib.Core.Option.{some, some-injective}
 use native.Mathlib.Decide.{ℕ_discrete}
-use borrow.Author.Tests.{eqb-false}
-use Rattle.trees.specs.Tree.{Tree, size, kinds_of, kind_at, label_at}
+use Rattle.trees.specs.Tree.{Tree, size, kind_at, label_at}
 use Rattle.trees.specs.Automaton.{state}
-use Rattle.trees.specs.Numbering.{sub, parent, depth, InSubtree}
+use Rattle.trees.specs.Numbering.{sub, parent, depth}
 use Rattle.trees.specs.Jumps.{jump}
-use Rattle.trees.specs.Climb.{Move, via_jump, to_parent, forest_of, climb, carry, walk, and_then}
+use Rattle.trees.specs.Climb.{Move, via_jump, to_parent, carry, walk}
 use Rattle.trees.specs.Tables.{step_up, state_map}
 use Rattle.trees.proofs.TreeClimbs.{climb-tree}
 use Rattle.trees.proofs.CarryLaws.{carry-walk}
@@ -22,10 +21,10 @@ use Rattle.trees.proofs.RunLaws.{state-leaf, state-inner, state_below}
 use Rattle.trees.proofs.IntervalLaws.{interval-ancestor, above_at}
 use Rattle.questions.specs.ready.StaysInside.{StaysInside}
 use Rattle.questions.specs.ready.RunGiven.{RunGiven}
-use Rattle.questions.specs.ready.Ready.{left_child, right_child, Closed, Fork}
+use Rattle.questions.specs.ready.Ready.{left_child, right_child, Closed}
 use Rattle.questions.specs.ready.Members.{Rising}
-use Rattle.questions.specs.ready.Parts.{Given, any_below, highest_below, move_state, move_states, moves_of, climb_moves, Part, part, nodes_of}
-use Rattle.questions.specs.ready.Parts.{state_of, climbed_state, inner_state, part_state, part_of, parts_from, parts_of, part_links}
+use Rattle.questions.specs.ready.Parts.{Given, any_below, highest_below, move_state, move_states, climb_moves, Part, nodes_of}
+use Rattle.questions.specs.ready.Parts.{state_of, climbed_state, inner_state, part_state, part_of, parts_from, parts_of}
 use Rattle.questions.proofs.ready.UnderLaws.{left_in, right_in}
 use Rattle.questions.proofs.ready.HighestLaws.{Highest}
 use Rattle.questions.proofs.ready.ClosedForm.{kind-one}

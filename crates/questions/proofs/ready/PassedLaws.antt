@@ -3,7 +3,7 @@
 --     part-passed           of each part: no fewer than its links, no more than the plan is high
 --     question-passed       of a question: no fewer than its links, no more than the plan is high for each part
 --     passed-more, from-passed, whole-passed   the total over parts worked out one after the other
-use Rattle.std.proofs.Common.{◌≡◌, ℕ, ◌+◌, ◌-◌, ◌*◌, ◌<◌, ◌≤◌, Bool, true, false, cond, List, [], ◌∷◌, ◌++◌, length, sym, refl, ap, ◌∙◌, arith, eq-eqb, ne_eqb}
+use Rattle.std.proofs.Common.{◌≡◌, ℕ, ◌+◌, ◌*◌, ◌<◌, ◌≤◌, Bool, true, false, cond, List, [], ◌∷◌, ◌++◌, length, sym, refl, arith, eq-eqb, ne_eqb}
 use mathlib.Core.List.{Memᴰ}
 use native.Mathlib.Decide.{ℕ_discrete}
 use Rattle.trees.specs.Tree.{Tree, size, height, kind_at}

@@ -3,7 +3,7 @@
 --     gap_plan         N 13, kinds 0 0 0 0 1 1 0 1 0 1 0 1 1, labels 0 0 0 0 1 1 1 1 0 1 1 1 0
 --     gap-question    the list 1→0, 3→1, of which 02's S-5 leaves node 3: 2 parts, 3 links, 5 nodes passed over
 --     gap_parts       the same by table A, part by part: the root's climb goes from depth 6 to 3, 2 and 1
-use Rattle.std.proofs.Common.{◌≡◌, ℕ, List, [], ◌∷◌, length, refl}
+use Rattle.std.proofs.Common.{◌≡◌, [], ◌∷◌, refl}
 use Rattle.list_laws.specs.Tests.{holds}
 use Rattle.trees.specs.Tree.{Tree, labels_of}
 use Rattle.trees.specs.Automaton.{Automaton, state}

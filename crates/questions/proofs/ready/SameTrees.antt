@@ -1,9 +1,9 @@
 -- Two trees of the same kinds.
 --     same_size    their subtrees have the same sizes
 --     same-sub     where their labels agree under a node, its subtrees are the same
-use Rattle.std.proofs.Common.{◌≡◌, ℕ, zero, suc, ◌+◌, ◌-◌, ◌<◌, ◌≤◌, List, length, get_or, sym, refl, ap, ◌∙◌, subst, ap₂, arith}
+use Rattle.std.proofs.Common.{◌≡◌, ℕ, zero, suc, ◌+◌, ◌-◌, ◌<◌, List, length, get_or, sym, ap, ◌∙◌, ap₂, arith}
 use native.Mathlib.Decide.{ℕ_discrete}
-use Rattle.trees.specs.Tree.{Tree, leaf, node, size, kinds_of, kind_at, label_at}
+use Rattle.trees.specs.Tree.{Tree, leaf, size, kinds_of, kind_at, label_at}
 use Rattle.trees.specs.Numbering.{sub, InSubtree}
 use Rattle.trees.proofs.NodeLaws.{Inner, inner, sub-leaf, length-kinds}
 

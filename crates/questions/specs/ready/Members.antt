@@ -10,7 +10,7 @@
 --
 -- Not the definition of the ready set (that is Ready): a list that is proved to hold exactly its members (list-ready, ready-list), each
 -- once and rising.
-use Rattle.std.specs.Prelude.{ℕ, zero, suc, ◌+◌, ◌-◌, ◌≤◌, Bool, true, false, cond, ◌&&◌, ◌||◌, List, [], ◌∷◌, ◌++◌, ◌==◌}
+use Rattle.std.specs.Prelude.{ℕ, zero, suc, ◌+◌, ◌-◌, ◌≤◌, Bool, false, cond, ◌&&◌, ◌||◌, List, [], ◌∷◌, ◌++◌, ◌==◌}
 use Rattle.trees.specs.Tree.{Tree, size, kind_at}
 use Rattle.trees.specs.Numbering.{sub, parent}
 use Rattle.list_laws.specs.Tests.{holds}

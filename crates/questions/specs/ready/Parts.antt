@@ -15,7 +15,7 @@
 -- nodes_of ps, states_of ps == the roots and the states of parts
 -- last_state ps q, all_links ps == the state of the last part, which is the plan's root (q where there is none); the links of all
 -- all_passed ps == the nodes passed over by all
-use Rattle.std.specs.Prelude.{ℕ, ◌+◌, ◌-◌, ◌≤◌, Bool, true, false, cond, ◌&&◌, ◌||◌, List, [], ◌∷◌, ◌++◌, length, ◌==◌, slice_index}
+use Rattle.std.specs.Prelude.{ℕ, ◌+◌, ◌-◌, Bool, false, cond, ◌||◌, List, [], ◌∷◌, ◌++◌, length, ◌==◌, slice_index}
 use Rattle.std.proofs.Math.Option.{Option, none, some}
 use Rattle.trees.specs.Tree.{Tree, size, kind_at, label_at}
 use Rattle.trees.specs.Automaton.{Automaton}

@@ -6,7 +6,7 @@
 -- Closed w t C == C has what document 01 asks of the ready set; Ready is the least such C (ready-closed, ready-least)
 --
 -- w is any set of nodes, not a list of changes.
-use Rattle.std.specs.Prelude.{◌≡◌, ℕ, ◌+◌, ◌-◌, ◌<◌, ◌≤◌, Bool, true}
+use Rattle.std.specs.Prelude.{◌≡◌, ℕ, ◌+◌, ◌-◌, ◌<◌, Bool, true}
 use Rattle.trees.specs.Tree.{Tree, size, kind_at}
 use Rattle.trees.specs.Numbering.{sub, InSubtree}
 

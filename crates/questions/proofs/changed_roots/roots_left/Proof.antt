@@ -1,5 +1,5 @@
 -- `roots_left` meets its contract: the nodes that `differing` leaves are handed to `roots`.
-use Rattle.std.proofs.Common.{◌≡◌, ℕ, ◌+◌, ◌-◌, ◌*◌, List, take, drop, sym, ap, ◌∙◌, subst, arith, length-take-le, rules}
+use Rattle.std.proofs.Common.{ℕ, ◌+◌, ◌-◌, ◌*◌, List, take, drop, sym, ap, ◌∙◌, subst, length-take-le, rules}
 use Rattle.list_laws.proofs.SliceLaws.{run-part}
 use Rattle.changes.specs.declared.differing.LeftNodes.{LeftNodes}
 use Rattle.changes.specs.inner.LastDiffering.{given_differing, DifferingDone}
@@ -8,10 +8,6 @@ use Rattle.questions.specs.declared.roots.Rooted.{Rooted}
 use Rattle.questions.specs.Promises.{RootsDone}
 use Rattle.questions.proofs.changed_roots.roots_left.Statement.{statement}
 use Rattle.questions.proofs.changed_roots.roots_left.Tie as tie
-use Rattle.questions.proofs.changed_roots.roots_left.Reads as reads
-use Rattle.questions.proofs.changed_roots.roots_left.Lts as lts
-use Rattle.changes.proofs.differing.differing.Reads as differing-reads
-use Rattle.questions.proofs.roots.roots.Reads as roots-reads
 
 -- the roots of the nodes that are left
 handed : (n : ℕ) (plan b vs bs : List ℕ) (r : LeftNodes) (R : Rooted)
@@ -24,21 +20,20 @@ handed n plan b vs bs r R D F =
 
 slice-aggregate-roots : tie.Need-slice_bounds-roots-end
 slice-aggregate-roots c =
-    let a = c.before.before.before.before.before.before.before.before in
-    sym (length-take-le (a.args.n * 4) a.args.node_table.now a.requires.numbers)
+    sym (length-take-le (c.args.n * 4) c.args.node_table.now c.requires.numbers)
 
 array-share-prefix-kept : tie.Need-slice_bounds-kept-end
-array-share-prefix-kept c = left-wide _ _ _ _ c.before.before.differing-left.ensures
+array-share-prefix-kept c = left-wide _ _ _ _ c.differing-left.ensures
 
 slice-aggregate-roots-2 : tie.Need-slice_bounds-roots-end-2
 slice-aggregate-roots-2 c =
-    let r = c.before.before.before.differing-left in
+    let r = c.differing-left in
     sym (length-take-le r.result.count r.result.nodes (left-wide _ _ _ _ r.ensures))
 
 returns : tie.Need-returns
 returns c =
-    let a = c.before.before.before.before.before.before.before.before.before.before.args in
-    let r = c.before.before.before.before.differing-left in
+    let a = c.args in
+    let r = c.differing-left in
     handed a.n a.plan.now (take (a.n * 4) a.node_table.now) a.nodes.now a.labels.now r.result
     c.roots.result r.ensures c.roots.ensures
 

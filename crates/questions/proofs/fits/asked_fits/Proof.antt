@@ -8,25 +8,22 @@ returns : tie.Need-returns-then-roots-i
 returns c = sym (roots-short _ _ _ _ _ c.if-roots-i.true)
 
 returns-2 : tie.Need-returns-then-roots-gt-NODE_LIMIT
-returns-2 c = sym (roots-many _ _ _ _ _ c.before.if-roots-i.false c.if-roots-gt-NODE_LIMIT.true)
+returns-2 c = sym (roots-many _ _ _ _ _ c.if-roots-i.false c.if-roots-gt-NODE_LIMIT.true)
 
 cast-if3 : tie.Need-overflow_cast-roots
-cast-if3 c = omega (arith, c.shared_slice_known-1.given (length c.before.before.before.args.states.now))
+cast-if3 c = omega (arith, c.shared_slice_known-1.given (length c.args.states.now))
 
 returns-3 : tie.Need-returns-then-n-roots
 returns-3 c =
-    let b = c.before.before in
-    sym (root-outside _ _ _ _ _ b.before.if-roots-i.false b.if-roots-gt-NODE_LIMIT.false c.if-n-roots.true)
+    sym (root-outside _ _ _ _ _ c.if-roots-i.false c.if-roots-gt-NODE_LIMIT.false c.if-n-roots.true)
 
 returns-4 : tie.Need-returns-then-nodes-labels
 returns-4 c =
-    let b = c.before.before.before in
-    sym (lists-apart _ _ _ _ _ b.before.if-roots-i.false b.if-roots-gt-NODE_LIMIT.false c.before.if-n-roots.false c.if-nodes-labels.true)
+    sym (lists-apart _ _ _ _ _ c.if-roots-i.false c.if-roots-gt-NODE_LIMIT.false c.if-n-roots.false c.if-nodes-labels.true)
 
 returns-5 : tie.Need-returns
 returns-5 c =
-    let b = c.before.before.before in
-    sym (asked-end _ _ _ _ _ b.before.if-roots-i.false b.if-roots-gt-NODE_LIMIT.false c.before.if-n-roots.false c.if-nodes-labels.false)
+    sym (asked-end _ _ _ _ _ c.if-roots-i.false c.if-roots-gt-NODE_LIMIT.false c.if-n-roots.false c.if-nodes-labels.false)
 
 pub asked_fits_spec : {M : Type 1} → statement M
 asked_fits_spec =

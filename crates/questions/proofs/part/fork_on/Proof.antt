@@ -1,5 +1,5 @@
 -- `fork_on` meets its contract.
-use Rattle.std.proofs.Common.{ℕ, ◌+◌, ◌-◌, ◌*◌, ◌≤◌, ap, arith, rules}
+use Rattle.std.proofs.Common.{ℕ, ◌+◌, ◌*◌, ◌≤◌, ap, arith, rules}
 use Rattle.tables.specs.node_tables.Cells.{depth_cell}
 use Rattle.tables.specs.Climbs.{View}
 use Rattle.tables.specs.inner.PathViews.{path_view}
@@ -14,35 +14,30 @@ view s =
 
 add-to : tie.Need-overflow_add-to
 add-to c =
-    let k = c.before.before.before.before in
-    omega (arith, c.depth_at-to.ensures, k.shared_slice_known-3-1.given (k.before.before.before.args.v * 4 + 2))
+    omega (arith, c.depth_at-to.ensures, c.shared_slice_known-3-1.given (c.args.v * 4 + 2))
 
 side-on-requires : tie.Need-side_on-left-requires
 side-on-requires c κs =
-    let s = c.before.before.before.before.before.before.before.before.before in
-    side-args _ _ _ _ _ _ _ _ _ _ c.before.last_below-i.result s.requires.path
-    (omega (arith, s.requires.left, s.requires.at)) s.requires.same
-    c.before.last_below-i.ensures
+    side-args _ _ _ _ _ _ _ _ _ _ c.last_below-i.result c.requires.path
+    (omega (arith, c.requires.left, c.requires.at)) c.requires.same
+    c.last_below-i.ensures
 
 side-on-requires-2 : tie.Need-side_on-right-requires
 side-on-requires-2 c κs =
-    let j = c.before in
-    let s = j.before.before.before.before.before.before.before.before.before in
-    side-args _ _ _ _ _ _ _ _ _ _ j.last_below-j.result s.requires.path (omega (arith, s.requires.at)) s.requires.same
-    j.last_below-j.ensures
+    side-args _ _ _ _ _ _ _ _ _ _ c.last_below-j.result c.requires.path (omega (arith, c.requires.at)) c.requires.same
+    c.last_below-j.ensures
 
 join-on-requires : tie.Need-join_on-requires
 join-on-requires c κs =
     let s = c.before.before.before.before.before.before.before.before.before.before.before in
     let m = s.requires.path.most in
-    let k = c.before.before.before.before.before.before.before.before in
     let d : (v : ℕ) → depth_cell s.args.node_table.now v ≤ 65535 =
-    λ v. omega (arith, k.shared_slice_known-3-1.given (v * 4 + 2)) in
+    λ v. omega (arith, c.shared_slice_known-3-1.given (v * 4 + 2)) in
     record {
       few = s.requires.path.few;
       labels = s.requires.path.labels;
       room = s.requires.path.inner_room;
-      left_few = side-few (view s) _ _ _ _ c.before.side_on-left.result m d c.before.side_on-left.ensures;
+      left_few = side-few (view s) _ _ _ _ c.side_on-left.result m d c.side_on-left.ensures;
       right_few = side-few (view s) _ _ _ _ c.side_on-right.result m d c.side_on-right.ensures;
     }
 
@@ -56,7 +51,7 @@ returns c =
     let g = s.args in
     fork-answer (view s) g.earlier.now g.states.now g.v g.l g.a i.last_below-i.result
     j.last_below-j.result
-    (i.before.depth_at-to.result + 1) s.requires.same (ap (λ (d : ℕ). d + 1) i.before.depth_at-to.ensures)
+    (i.depth_at-to.result + 1) s.requires.same (ap (λ (d : ℕ). d + 1) i.depth_at-to.ensures)
     i.last_below-i.ensures j.last_below-j.ensures l.side_on-left.result r.side_on-right.result c.join_on.result
     l.side_on-left.ensures r.side_on-right.ensures c.join_on.ensures
 

@@ -10,86 +10,68 @@ use Rattle.questions.proofs.PartLaws.{join-lost, join-made, join-left, join-righ
 use Rattle.questions.proofs.part.join_on.Statement.{statement}
 use Rattle.questions.proofs.part.join_on.Tie as tie
 
-abbrev view : tie.Start → View
-view s = rules_view s.args.s s.args.k s.args.inner.now
-
 same-join : (X : View) (a : ℕ) (x y l r : Option Reached) → l ≡ x → r ≡ y
     → climbed_of (join_on X a x y) ≡ climbed_of (join_on X a l r)
 same-join X a x y l r e f = ap₂ (λ (i j : Option Reached). climbed_of (join_on X a i j)) (sym e) (sym f)
 
-left_is : (l : tie.In-Reached-2) → reached_in l.before.before.before.args.left
-    ≡ some l.left-1.given.0.0
-left_is l = ap reached_in l.left-1.given.1
+left_is : (l : tie.In-Reached) → reached_in l.args.left
+    ≡ some l.in-Reached.x
+left_is l = ap reached_in l.in-Reached.is
 
-right_is : (r : tie.In-Reached-right-2) → reached_in r.before.before.before.before.before.before.args.right
-    ≡ some r.right-1.given.0.0
-right_is r = ap reached_in r.right-1.given.1
+right_is : (r : tie.In-Reached-right) → reached_in r.args.right
+    ≡ some r.in-Reached-right.y
+right_is r = ap reached_in r.in-Reached-right.is
 
-left_few : (l : tie.In-Reached-2)
-    → Few l.before.before.before.args.s l.left-1.given.0.0
-left_few l = l.before.before.before.requires.left_few _ (left_is l)
+left_few : (l : tie.In-Reached)
+    → Few l.args.s l.in-Reached.x
+left_few l = l.requires.left_few _ (left_is l)
 
-right_few : (r : tie.In-Reached-right-2)
-    → Few r.before.before.before.before.before.before.args.s
-    r.right-1.given.0.0
-right_few r = r.before.before.before.before.before.before.requires.right_few _ (right_is r)
+right_few : (r : tie.In-Reached-right)
+    → Few r.args.s
+    r.in-Reached-right.y
+right_few r = r.requires.right_few _ (right_is r)
 
 rule-on-requires : tie.Need-rule_on-r-requires
 rule-on-requires c κs =
-    let r = c.before.before.before in
-    let l = r.before.before.before in
-    let s = l.before.before.before in
     record {
-      few = s.requires.few;
-      labels = s.requires.labels;
-      left = (left_few l).state;
-      right = (right_few r).state;
-      room = s.requires.room;
+      few = c.requires.few;
+      labels = c.requires.labels;
+      left = (left_few c.before.before.before).state;
+      right = (right_few c.before.before).state;
+      room = c.requires.room;
     }
 
 returns : tie.Need-returns-then-s-r
 returns c =
-    let r = c.before in
-    let q = r.before.before.before.before in
-    let l = q.before.before.before in
-    let s = l.before.before.before in
-    join-lost (view s) s.args.a _ _ r.rule_on-r.result r.rule_on-r.ensures c.if-s-r.true
-    ∙ same-join (view s) s.args.a _ _ _ _ (left_is l) (right_is q)
+    let s = c.args in
+    join-lost (rules_view s.s s.k s.inner.now) s.a _ _ c.rule_on-r.result c.rule_on-r.ensures c.if-s-r.true
+    ∙ same-join (rules_view s.s s.k s.inner.now) s.a _ _ _ _ (left_is c.before.before.before.before.before)
+    (right_is c.before.before.before.before)
 
 add-t16 : tie.Need-overflow_add-result
-add-t16 c =
-    let e = c.before.before in
-    let r = e.before.before.before.before.before in
-    omega (arith, left_few r.before.before.before, right_few r)
+add-t16 c = omega (arith, left_few c.before.before.before.before.before.before.before, right_few c.before.before.before.before.before.before)
 
 add-t17 : tie.Need-overflow_add-result-in-Reached-right
-add-t17 c =
-    let e = c.before.before.before.before in
-    let r = e.before.before.before.before.before in
-    omega (arith, left_few r.before.before.before, right_few r)
+add-t17 c = omega (arith, left_few c.before.before.before.before.before.before.before.before.before, right_few c.before.before.before.before.before.before.before.before)
 
 returns-2 : tie.Need-returns-else-s-r
 returns-2 c =
-    let e = c.before.before.before.before in
-    let r = e.before in
-    let q = r.before.before.before.before in
-    let l = q.before.before.before in
-    let s = l.before.before.before in
-    join-made (view s) s.args.a _ _ r.rule_on-r.result r.rule_on-r.ensures e.if-s-r.false
-    ∙ same-join (view s) s.args.a _ _ _ _ (left_is l) (right_is q)
+    let s = c.args in
+    join-made (rules_view s.s s.k s.inner.now) s.a _ _ c.rule_on-r.result c.rule_on-r.ensures c.if-s-r.false
+    ∙ same-join (rules_view s.s s.k s.inner.now) s.a _ _ _ _ (left_is c.before.before.before.before.before.before.before.before.before)
+    (right_is c.before.before.before.before.before.before.before.before)
 
 returns-3 : tie.Need-returns-in-OutOfRange-right
 returns-3 c =
-    let l = c.before.before.before in
-    let s = l.before.before.before in
-    join-right (view s) s.args.a _
-    ∙ same-join (view s) s.args.a _ _ _ _ (left_is l) (ap reached_in c.enum_told-1.given.1)
+    let s = c.args in
+    join-right (rules_view s.s s.k s.inner.now) s.a _
+    ∙ same-join (rules_view s.s s.k s.inner.now) s.a _ _ _ _ (left_is c.before) (ap reached_in c.in-OutOfRange-right.is)
 
 returns-4 : tie.Need-returns-in-OutOfRange
 returns-4 c =
-    let s = c.before.before.before in
-    join-left (view s) s.args.a (reached_in s.args.right)
-    ∙ same-join (view s) s.args.a _ _ _ _ (ap reached_in c.enum_told-in-OutOfRange-1.given.1) refl
+    let s = c.args in
+    join-left (rules_view s.s s.k s.inner.now) s.a (reached_in s.right)
+    ∙ same-join (rules_view s.s s.k s.inner.now) s.a _ _ _ _ (ap reached_in c.in-OutOfRange.is) refl
 
 pub join_on_spec : {M : Type 1} → statement M
 join_on_spec =

@@ -8,43 +8,40 @@ use Rattle.questions.proofs.part.label_on.Statement.{statement}
 use Rattle.questions.proofs.part.label_on.Tie as tie
 
 -- the label as changed, by the place found
-scanned : (l : tie.After-last_in-at) → let g = l.before.before.before.before.args in
+scanned : (l : tie.After-last_in-at) → let g = l.args in
     get_or (changed g.labels.now g.nodes.now g.changes.now) g.v 0
     ≡ label_of g.labels.now g.changes.now g.v l.last_in-at.result
 scanned l =
-    let s = l.before.before.before.before in
-    let g = s.args in
-    label-scan g.v g.labels.now g.nodes.now g.changes.now s.requires.at s.requires.same
+    let g = l.args in
+    label-scan g.v g.labels.now g.nodes.now g.changes.now l.requires.at l.requires.same
     ∙ ap (label_of g.labels.now g.changes.now g.v) (sym l.last_in-at.ensures)
 
 cast-result : tie.Need-overflow_cast-result
 cast-result c =
-    omega (arith, c.shared_slice_known-then-at-eq0-1.given c.before.before.before.before.before.before.args.v)
+    omega (arith, c.shared_slice_known-then-at-eq0-1.given c.args.v)
 
 returns : tie.Need-returns-then-at-eq0
 returns c =
     let l = c.before.before in
-    let g = l.before.before.before.before.args in
-    sym (scanned l ∙ label-none l.last_in-at.result g.labels.now g.changes.now g.v c.before.if-at-eq0.true)
+    let g = l.args in
+    sym (scanned l ∙ label-none l.last_in-at.result g.labels.now g.changes.now g.v c.if-at-eq0.true)
 
 shared-slice-read-result-2 : tie.Need-bounds-changes-at
 shared-slice-read-result-2 c =
-    let l = c.before.before in
-    let g = l.before.before.before.before.args in
-    let e : ¬ (l.last_in-at.result ≡ 0) = c.before.if-at-eq0.false in
-    let p = l.before.before.before.before.requires in
-    omega (arith, l.last_in-at.ensures, last-bound g.v 1 g.nodes.now, p.same)
+    let g = c.args in
+    let e : ¬ (c.last_in-at.result ≡ 0) = c.if-at-eq0.false in
+    let p = c.requires in
+    omega (arith, c.last_in-at.ensures, last-bound g.v 1 g.nodes.now, p.same)
 
 cast-result-2 : tie.Need-overflow_cast-result-2
 cast-result-2 c =
-    let l = c.before.before in
-    omega (arith, c.shared_slice_known-4-1.given (l.last_in-at.result - 1))
+    omega (arith, c.shared_slice_known-4-1.given (c.last_in-at.result - 1))
 
 returns-2 : tie.Need-returns
 returns-2 c =
     let l = c.before.before in
-    let g = l.before.before.before.before.args in
-    sym (scanned l ∙ label-found l.last_in-at.result g.labels.now g.changes.now g.v c.before.if-at-eq0.false)
+    let g = l.args in
+    sym (scanned l ∙ label-found l.last_in-at.result g.labels.now g.changes.now g.v c.if-at-eq0.false)
 
 pub label_on_spec : {M : Type 1} → statement M
 label_on_spec =

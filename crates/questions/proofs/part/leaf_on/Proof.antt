@@ -8,18 +8,18 @@ use Rattle.questions.proofs.part.leaf_on.Tie as tie
 
 returns : tie.Need-returns-then-k-a
 returns c =
-    let g = c.before.before.args in
+    let g = c.args in
     leaf-outside (leaves_view g.s g.k g.leaves.now) g.a c.if-k-a.true
 
 cast-handled-state : tie.Need-overflow_cast-leaves
 cast-handled-state c =
-    omega (arith, c.shared_slice_known-2-1.given c.before.before.before.args.a)
+    omega (arith, c.shared_slice_known-2-1.given c.args.a)
 
 returns-2 : tie.Need-returns
 returns-2 c =
-    let g = c.before.before.before.before.args in
+    let g = c.args in
     c.handled_state.ensures
-    ∙ ap climbed_of (sym (leaf-at (leaves_view g.s g.k g.leaves.now) g.a c.before.before.if-k-a.false))
+    ∙ ap climbed_of (sym (leaf-at (leaves_view g.s g.k g.leaves.now) g.a c.if-k-a.false))
 
 pub leaf_on_spec : {M : Type 1} → statement M
 leaf_on_spec =

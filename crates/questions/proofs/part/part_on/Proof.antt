@@ -1,5 +1,5 @@
 -- `part_on` meets its contract.
-use Rattle.std.proofs.Common.{◌-◌, arith, rules}
+use Rattle.std.proofs.Common.{arith, rules}
 use Rattle.tables.specs.Climbs.{View}
 use Rattle.questions.specs.inner.PartArgs.{part_view}
 use Rattle.questions.proofs.PartLoop.{part-leaf, part-first, part-outside, part-fork}
@@ -22,7 +22,7 @@ returns c =
     let g = s.args in
     part-leaf (view s) g.earlier.now g.states.now g.nodes.now g.changes.now g.v
     a.label_on-a.result a.label_on-a.ensures
-    c.leaf_on.result c.before.if-kinds-v-eq0.true c.leaf_on.ensures
+    c.leaf_on.result c.if-kinds-v-eq0.true c.leaf_on.ensures
 
 returns-2 : tie.Need-returns-then-v-eq0
 returns-2 c =
@@ -31,7 +31,7 @@ returns-2 c =
     let g = s.args in
     part-first (view s) g.earlier.now g.states.now g.nodes.now g.changes.now g.v
     a.label_on-a.result a.label_on-a.ensures
-    c.before.if-kinds-v-eq0.false c.if-v-eq0.true
+    c.if-kinds-v-eq0.false c.if-v-eq0.true
 
 returns-3 : tie.Need-returns-then-v-z
 returns-3 c =
@@ -40,8 +40,8 @@ returns-3 c =
     let g = s.args in
     part-outside (view s) g.earlier.now g.states.now g.nodes.now g.changes.now g.v
     a.label_on-a.result a.label_on-a.ensures
-    c.before.before.before.if-kinds-v-eq0.false c.before.before.if-v-eq0.false
-    (omega (arith, c.if-v-z.true, c.before.size_at-z.ensures))
+    c.if-kinds-v-eq0.false c.if-v-eq0.false
+    (omega (arith, c.if-v-z.true, c.size_at-z.ensures))
 
 returns-4 : tie.Need-returns
 returns-4 c =
@@ -50,9 +50,9 @@ returns-4 c =
     let g = s.args in
     part-fork (view s) g.earlier.now g.states.now g.nodes.now g.changes.now g.v
     a.label_on-a.result a.label_on-a.ensures
-    c.before.before.before.before.if-kinds-v-eq0.false c.before.before.before.if-v-eq0.false
-    c.before.before.size_at-z.result c.fork_on.result c.before.before.size_at-z.ensures
-    c.before.if-v-z.false
+    c.if-kinds-v-eq0.false c.if-v-eq0.false
+    c.size_at-z.result c.fork_on.result c.size_at-z.ensures
+    c.if-v-z.false
     c.fork_on.ensures
 
 pub part_on_spec : {M : Type 1} → statement M

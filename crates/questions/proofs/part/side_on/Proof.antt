@@ -14,11 +14,10 @@ view s =
 
 run-on-requires : tie.Need-run_on-requires
 run-on-requires c κs =
-    let s = c.before.before.before.before.before.before.before in
-    let g = s.args in
+    let g = c.args in
     record {
-      few = s.requires.path.few;
-      at = state-place g.n g.s g.c (length g.state_table.now) s.requires.at s.requires.path.state_table_room;
+      few = c.requires.path.few;
+      at = state-place g.n g.s g.c (length g.state_table.now) c.requires.at c.requires.path.state_table_room;
     }
 
 returns : tie.Need-returns-then-own-eq0
@@ -28,11 +27,11 @@ returns c =
     let g = s.args in
     c.handled_state.ensures
     ∙ ap climbed_of (side-run (view s) g.to g.c g.earlier.now g.states.now g.own g.other
-    r.run_on.result r.run_on.ensures r.before.if-own-eq0.true)
+    r.run_on.result r.run_on.ensures r.if-own-eq0.true)
 
 cast-q : tie.Need-overflow_cast-q
 cast-q c =
-    let g = c.before.before.before.before.before.before.before.before.args in
+    let g = c.args in
     omega (arith, c.shared_slice_known-7-1.given (g.own - 1))
 
 returns-2 : tie.Need-returns-then-other-ne0
@@ -42,7 +41,7 @@ returns-2 c =
     let g = s.args in
     c.handled_state-then-other-ne0.ensures
     ∙ ap climbed_of (side-own (view s) g.to g.c g.earlier.now g.states.now g.own g.other
-    e.if-own-eq0.false c.before.if-other-ne0.true)
+    e.if-own-eq0.false c.if-other-ne0.true)
 
 returns-3 : tie.Need-returns-then-s-q
 returns-3 c =
@@ -50,21 +49,19 @@ returns-3 c =
     let s = e.before.before.before.before.before.before.before in
     let g = s.args in
     side-lost (view s) g.to g.c g.earlier.now g.states.now g.own g.other
-    e.if-own-eq0.false c.before.if-other-ne0.false c.if-s-q.true
+    e.if-own-eq0.false c.if-other-ne0.false c.if-s-q.true
 
 cast-climb-state : tie.Need-overflow_cast-earlier
 cast-climb-state c =
-    let g = c.before.before.before.before.before.before.before.before.before.before.before.args in
+    let g = c.args in
     omega (arith, c.shared_slice_known-8-1.given (g.own - 1))
 
 climb-state-requires : tie.Need-climb_state-requires
 climb-state-requires c κs =
-    let e = c.before.before.before.before in
-    let s = e.before.before.before.before.before.before.before in
-    let g = s.args in
-    let z : ¬ (g.own ≡ 0) = e.if-own-eq0.false in
+    let g = c.args in
+    let z : ¬ (g.own ≡ 0) = c.if-own-eq0.false in
     let h : g.own ≡ g.own - 1 + 1 = omega arith in
-    record { path = s.requires.path; at = s.requires.inside (g.own - 1) h; state = c.before.if-s-q.false }
+    record { path = c.requires.path; at = c.requires.inside (g.own - 1) h; state = c.if-s-q.false }
 
 returns-4 : tie.Need-returns
 returns-4 c =
@@ -73,7 +70,7 @@ returns-4 c =
     let g = s.args in
     c.climb_state.ensures
     ∙ ap climbed_of (side-climb (view s) g.to g.c g.earlier.now g.states.now g.own g.other
-    e.if-own-eq0.false c.before.before.before.if-other-ne0.false c.before.before.if-s-q.false)
+    e.if-own-eq0.false c.if-other-ne0.false c.if-s-q.false)
 
 pub side_on_spec : {M : Type 1} → statement M
 side_on_spec =

@@ -16,20 +16,18 @@ loop-holds c = (omega arith, refl)
 
 loop-again : tie.Need-loop-i-preserved invariant-loop decreases-loop
 loop-again c =
-    let a = c.before.before.before in
-    let g = a.before.before.args in (
-      omega (arith, c.before.before.loop-i-test.true),
-      ap (λ (b : Bool). a.loop-i.any || b || any_in g.c g.z (drop (a.loop-i.i + 1) g.list.now))
+    let g = c.args in (
+      omega (arith, c.loop-i-test.true),
+      ap (λ (b : Bool). c.loop-i.any || b || any_in g.c g.z (drop (c.loop-i.i + 1) g.list.now))
           c.is_in_run-any.ensures
-          ∙ any_step g.c g.z a.loop-i.any g.list.now a.loop-i.i c.before.before.loop-i-test.true
-          ∙ a.loop-i.invariant.1,
+          ∙ any_step g.c g.z c.loop-i.any g.list.now c.loop-i.i c.loop-i-test.true
+          ∙ c.loop-i.invariant.1,
     )
 
 returns : tie.Need-returns invariant-loop decreases-loop
 returns c =
-    let a = c.before in
-    let g = a.before.before.args in
-    sym (any-end g.c g.z a.loop-i.any g.list.now a.loop-i.i c.loop-i-test.false) ∙ a.loop-i.invariant.1
+    let g = c.args in
+    sym (any-end g.c g.z c.loop-i.any g.list.now c.loop-i.i c.loop-i-test.false) ∙ c.loop-i.invariant.1
 
 pub any_in_spec : {M : Type 1} → statement M
 any_in_spec =

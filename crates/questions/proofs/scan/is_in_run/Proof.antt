@@ -6,9 +6,9 @@ use Rattle.questions.proofs.scan.is_in_run.Tie as tie
 
 returns : tie.Need-returns
 returns c =
-    let g = c.before.before.args in
-    covers-by-distance g.c g.z g.e c.wrapping_sub_u16-distance.result c.before.first_in_run-first.result
-    c.before.before.requires c.before.first_in_run-first.ensures c.wrapping_sub_u16-distance.ensures (omega arith)
+    let g = c.args in
+    covers-by-distance g.c g.z g.e c.wrapping_sub_u16-distance.result c.first_in_run-first.result
+    c.requires c.first_in_run-first.ensures c.wrapping_sub_u16-distance.ensures (omega arith)
     (omega arith)
 
 pub is_in_run_spec : {M : Type 1} → statement M

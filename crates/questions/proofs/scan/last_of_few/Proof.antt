@@ -12,34 +12,31 @@ abbrev decreases-loop : tie.decreases-loop-i
 decreases-loop list c z i₀ i = i
 
 loop-holds : tie.Need-loop-i-init invariant-loop decreases-loop
-loop-holds c = whole c.before.args.c c.before.args.z c.before.args.list.now
+loop-holds c = whole c.args.c c.args.z c.args.list.now
 
 returns : tie.Need-returns-then-is_in_run invariant-loop decreases-loop
 returns c =
-    let a = c.before.before.before.before in
-    let g = a.before.before.args in
-    last-hit g.c g.z g.list.now a.loop-i.i (omega (arith, c.before.before.before.loop-i-test.true))
-    a.loop-i.invariant.within (sym c.before.is_in_run.ensures ∙ c.if-is_in_run.true) ∙ a.loop-i.invariant.place
+    let g = c.args in
+    last-hit g.c g.z g.list.now c.loop-i.i (omega (arith, c.loop-i-test.true))
+    c.loop-i.invariant.within (sym c.is_in_run.ensures ∙ c.if-is_in_run.true) ∙ c.loop-i.invariant.place
 
 loop-again : tie.Need-loop-i-preserved invariant-loop decreases-loop
 loop-again c =
-    let a = c.before.before.before.before in
-    let g = a.before.before.args in
+    let g = c.args in
     record {
-      within = omega (arith, a.loop-i.invariant.within);
+      within = omega (arith, c.loop-i.invariant.within);
       place =
-          last-miss g.c g.z g.list.now a.loop-i.i
-          (omega (arith, c.before.before.before.loop-i-test.true))
-          a.loop-i.invariant.within (sym c.before.is_in_run.ensures ∙ c.if-is_in_run.false) ∙ a.loop-i.invariant.place;
+          last-miss g.c g.z g.list.now c.loop-i.i
+          (omega (arith, c.loop-i-test.true))
+          c.loop-i.invariant.within (sym c.is_in_run.ensures ∙ c.if-is_in_run.false) ∙ c.loop-i.invariant.place;
     }
 
 returns-2 : tie.Need-returns invariant-loop decreases-loop
 unfolding last_from
 returns-2 c =
-    let a = c.before in
-    let g = a.before.before.args in
-    let z : a.loop-i.i ≡ 0 = omega (arith, c.loop-i-test.false) in
-    ap (λ (n : ℕ). last_in g.c g.z (take n g.list.now)) (sym z) ∙ a.loop-i.invariant.place
+    let g = c.args in
+    let z : c.loop-i.i ≡ 0 = omega (arith, c.loop-i-test.false) in
+    ap (λ (n : ℕ). last_in g.c g.z (take n g.list.now)) (sym z) ∙ c.loop-i.invariant.place
 
 pub last_of_few_spec : {M : Type 1} → statement M
 last_of_few_spec =

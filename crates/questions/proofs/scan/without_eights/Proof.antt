@@ -12,19 +12,18 @@ abbrev decreases-loop : tie.decreases-loop-i
 decreases-loop list c z i₀ i = i
 
 loop-holds : tie.Need-loop-i-init invariant-loop decreases-loop
-loop-holds c = whole c.before.args.c c.before.args.z c.before.args.list.now
+loop-holds c = whole c.args.c c.args.z c.args.list.now
 
 loop-again : tie.Need-loop-i-preserved invariant-loop decreases-loop
 loop-again c =
-    let a = c.before.before.before.before in
-    let g = a.before.before.args in
-    let i = a.loop-i.i in
-    let e : i - 8 + (i - (i - 8)) ≡ i = omega (arith, c.before.before.before.loop-i-test.true) in
+    let g = c.args in
+    let i = c.loop-i.i in
+    let e : i - 8 + (i - (i - 8)) ≡ i = omega (arith, c.loop-i-test.true) in
     record {
-      within = omega (arith, a.loop-i.invariant.within);
+      within = omega (arith, c.loop-i.invariant.within);
       place =
-          last-cut g.c g.z g.list.now (i - 8) (i - (i - 8)) (sym c.before.any_in.ensures ∙ c.if-any_in.false)
-          ∙ ap (λ (n : ℕ). last_in g.c g.z (take n g.list.now)) e ∙ a.loop-i.invariant.place;
+          last-cut g.c g.z g.list.now (i - 8) (i - (i - 8)) (sym c.any_in.ensures ∙ c.if-any_in.false)
+          ∙ ap (λ (n : ℕ). last_in g.c g.z (take n g.list.now)) e ∙ c.loop-i.invariant.place;
     }
 
 pub without_eights_spec : {M : Type 1} → statement M

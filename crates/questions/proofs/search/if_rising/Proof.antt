@@ -7,22 +7,20 @@ use Rattle.questions.proofs.search.if_rising.Tie as tie
 
 returns : tie.Need-returns-then-n-u
 returns c =
-    let a = c.before.before.args in
+    let a = c.args in
     rising-outside (cell_forest a.n a.node_table.now) a.v a.u c.if-n-u.true
 
 returns-2 : tie.Need-returns-then-depth_at
 returns-2 c =
-    let d = c.before.before in
-    let a = d.before.before.before.args in
-    rising-flat (cell_forest a.n a.node_table.now) a.v a.u d.before.if-n-u.false
-    (omega (arith, c.before.depth_at-2.ensures, d.depth_at.ensures, c.if-depth_at.true))
+    let a = c.args in
+    rising-flat (cell_forest a.n a.node_table.now) a.v a.u c.if-n-u.false
+    (omega (arith, c.depth_at-2.ensures, c.depth_at.ensures, c.if-depth_at.true))
 
 returns-3 : tie.Need-returns
 returns-3 c =
-    let d = c.before.before in
-    let a = d.before.before.before.args in
-    rising-up (cell_forest a.n a.node_table.now) a.v a.u d.before.if-n-u.false
-    (omega (arith, c.before.depth_at-2.ensures, d.depth_at.ensures, c.if-depth_at.false))
+    let a = c.args in
+    rising-up (cell_forest a.n a.node_table.now) a.v a.u c.if-n-u.false
+    (omega (arith, c.depth_at-2.ensures, c.depth_at.ensures, c.if-depth_at.false))
 
 pub if_rising_spec : {M : Type 1} → statement M
 if_rising_spec =
