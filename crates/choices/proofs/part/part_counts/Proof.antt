@@ -29,30 +29,23 @@ end_is a = ap (λ (r : LabelRange). r.end) a.label_range-b.ensures
 
 returns : tie.Need-returns-then-k-b
 returns c =
-    let a = c.before.before in
-    no_label _ _ _ _ _ _ _ _ _ _ _ _ _ (start a).requires (start a).args.free _ _ (first-is a) (end_is a) c.if-k-b.true
+    no_label _ _ _ _ _ _ _ _ _ _ _ _ _ c.requires c.args.free _ _ (first-is c.before.before) (end_is c.before.before) c.if-k-b.true
 
 returns-2 : tie.Need-returns-then-not-p
 returns-2 c =
-    let h = c.before.before in
-    let a = c.before.before.before.before.before in
-    no-places _ _ _ _ _ _ _ _ _ _ _ _ _ (start a).requires (start a).args.free _ _ (first-is a) (end_is a)
-    h.before.if-k-b.false _ h.places_below-p.ensures (not-true h.places_below-p.result.ok c.if-not-p.true)
+    no-places _ _ _ _ _ _ _ _ _ _ _ _ _ c.requires c.args.free _ _ (first-is c.before.before.before.before.before) (end_is c.before.before.before.before.before)
+    c.if-k-b.false _ c.places_below-p.ensures (not-true c.places_below-p.result.ok c.if-not-p.true)
 
 root-counts-requires : tie.Need-root_counts-requires
 root-counts-requires c κs =
-    let h = c.before.before.before in
-    let a = c.before.before.before.before.before.before in
-    placed-args _ _ _ _ _ _ _ _ _ _ _ _ _ (start a).requires (start a).args.free _ _ (first-is a) (end_is a)
-    h.before.if-k-b.false _ h.places_below-p.ensures (not-false h.places_below-p.result.ok c.before.if-not-p.false)
+    placed-args _ _ _ _ _ _ _ _ _ _ _ _ _ c.requires c.args.free _ _ (first-is c.before.before.before.before.before.before) (end_is c.before.before.before.before.before.before)
+    c.if-k-b.false _ c.places_below-p.ensures (not-false c.places_below-p.result.ok c.if-not-p.false)
 
 returns-3 : tie.Need-returns
 returns-3 c =
-    let h = c.before.before.before.before in
-    let a = c.before.before.before.before.before.before.before in
-    placed-done _ _ _ _ _ _ _ _ _ _ _ _ _ (start a).requires (start a).args.free _ _ (first-is a) (end_is a)
-    h.before.if-k-b.false _ h.places_below-p.ensures
-    (not-false h.places_below-p.result.ok c.before.before.if-not-p.false) _ _ c.root_counts.ensures
+    placed-done _ _ _ _ _ _ _ _ _ _ _ _ _ c.requires c.args.free _ _ (first-is c.before.before.before.before.before.before.before) (end_is c.before.before.before.before.before.before.before)
+    c.if-k-b.false _ c.places_below-p.ensures
+    (not-false c.places_below-p.result.ok c.if-not-p.false) _ _ c.root_counts.ensures
 
 pub part_counts_spec : {M : Type 1} → statement M
 part_counts_spec =

@@ -15,31 +15,31 @@ use Rattle.questions.proofs.part.last_below.Reads as last-below-reads
 
 returns : tie.Need-returns-then-kinds-v-eq0
 returns c =
-    let g = c.before.before.before.before.before.before.args in
+    let g = c.args in
     subst (λ (q : Places). PlacesAre g.kinds.now g.node_table.now g.earlier.now g.v q)
     (sym c.no_places.ensures)
-    (leaf-places _ _ _ _ c.before.if-kinds-v-eq0.true)
+    (leaf-places _ _ _ _ c.if-kinds-v-eq0.true)
 
 returns-2 : tie.Need-returns-then-v-eq0
 returns-2 c =
-    let g = c.before.before.before.before.before.before.before.args in
+    let g = c.args in
     subst (λ (q : Places). PlacesAre g.kinds.now g.node_table.now g.earlier.now g.v q)
     (sym c.no_places-then-v-eq0.ensures)
-    (first-places _ _ _ _ c.before.before.if-kinds-v-eq0.false c.before.if-v-eq0.true)
+    (first-places _ _ _ _ c.if-kinds-v-eq0.false c.if-v-eq0.true)
 
 returns-3 : tie.Need-returns-then-v-z
 returns-3 c =
-    let g = c.before.before.before.before.before.before.before.before.before.args in
+    let g = c.args in
     subst (λ (q : Places). PlacesAre g.kinds.now g.node_table.now g.earlier.now g.v q)
     (sym c.no_places-then-v-z.ensures)
-    (outside-places _ _ _ _ c.before.before.before.before.if-kinds-v-eq0.false c.before.before.before.if-v-eq0.false _
-    c.before.before.size_at-z.ensures c.before.if-v-z.true)
+    (outside-places _ _ _ _ c.if-kinds-v-eq0.false c.if-v-eq0.false _
+    c.size_at-z.ensures c.if-v-z.true)
 
 returns-4 : tie.Need-returns
 returns-4 c =
-    inner-places _ _ _ _ c.before.before.before.before.before.if-kinds-v-eq0.false
-    c.before.before.before.before.if-v-eq0.false _
-    c.before.before.before.size_at-z.ensures c.before.before.if-v-z.false _ _ c.before.last_below-left.ensures
+    inner-places _ _ _ _ c.if-kinds-v-eq0.false
+    c.if-v-eq0.false _
+    c.size_at-z.ensures c.if-v-z.false _ _ c.last_below-left.ensures
     c.last_below-right.ensures
 
 pub places_below_spec : {M : Type 1} → statement M
