@@ -1,13 +1,13 @@
 -- `check_count` meets its contract.
 use native.Mathlib.Omega.{arith}
 use borrow.Author.Rules.{rules}
-use Prim.Native.Nat.{ℕ, ◌≤◌, ◌^◌}
-use mathlib.Core.Path.{◌≡◌, refl, sym, ap, ◌∙◌}
+use Prim.Native.Nat.{ℕ, ◌^◌}
+use mathlib.Core.Path.{◌≡◌, sym, ap, ◌∙◌}
 use mathlib.Core.Bool.{true}
 use lib.Dec.{leb}
 use lib.ListN.{length}
 use borrow.Author.Tests.{not-true, not-false}
-use Rattle.list_laws.specs.Tests.{all_below, distinct}
+use Rattle.list_laws.specs.Tests.{all_below}
 use Rattle.formats.specs.Plan.{node_count}
 use Rattle.formats.specs.Rules.{label_count}
 use Rattle.formats.specs.Buffers.{headed_buffers_fit, rule_tables}
@@ -16,13 +16,6 @@ use Rattle.choices.specs.node_counts.Capped.{count_limit}
 use Rattle.choices.proofs.CountChecks.{no-17, no-12, no-13, no-15, no-26, all_pass}
 use Rattle.choices.proofs.checks.check_count.Statement.{statement}
 use Rattle.choices.proofs.checks.check_count.Tie as tie
-use Rattle.choices.proofs.checks.check_count.Reads as reads
-use Rattle.choices.proofs.checks.check_count.Lts as lts
-use Rattle.choices.proofs.checks.rule_headers_fit.Reads as rule-headers-fit-reads
-use Rattle.choices.proofs.part_steps.limit.assignments_fit.Reads as assignments-fit-reads
-use Rattle.formats.proofs.bytes.read32.Reads as read32-reads
-use Rattle.formats.proofs.lists.all_distinct.Reads as all-distinct-reads
-use Rattle.formats.proofs.lists.nodes_below.Reads as nodes-below-reads
 
 fits : (c : tie.Else-not-rule_headers_fit) → let g = c.args in
     headed_buffers_fit rule_tables g.plan.now g.rules.now (length g.node_table.now)

@@ -8,11 +8,6 @@ use Rattle.formats.specs.Buffers.{headers_fit}
 use Rattle.formats.proofs.BufferLaws.{Headers, headers-are, headers-no, headed-by}
 use Rattle.choices.proofs.checks.rule_headers_fit.Statement.{statement}
 use Rattle.choices.proofs.checks.rule_headers_fit.Tie as tie
-use Rattle.choices.proofs.checks.rule_headers_fit.Reads as reads
-use Rattle.choices.proofs.checks.rule_headers_fit.Lts as lts
-use Rattle.formats.proofs.buffers.headers_fit.Reads as headers-fit-reads
-use Rattle.formats.proofs.buffers.rule_buffers_fit.Reads as rule-buffers-fit-reads
-use Rattle.formats.proofs.bytes.read32.Reads as read32-reads
 
 yes : (c : tie.Else-not-headers_fit) → let g = c.args in
     headers_fit 20 g.plan.now g.rules.now ≡ true

@@ -12,12 +12,6 @@ use Rattle.choices.proofs.CountChecks.{count-refused, run-args, count_runs}
 use Rattle.choices.proofs.Theorem.{count-done}
 use Rattle.choices.proofs.count.count.Statement.{statement}
 use Rattle.choices.proofs.count.count.Tie as tie
-use Rattle.choices.proofs.count.count.Reads as reads
-use Rattle.choices.proofs.count.count.Lts as lts
-use Rattle.choices.proofs.checks.check_count.Reads as check-count-reads
-use Rattle.choices.proofs.count.count_runs.Reads as count-runs-reads
-use Rattle.choices.proofs.count.refused.Reads as refused-reads
-use Rattle.formats.proofs.bytes.read32.Reads as read32-reads
 
 passed : (c : tie.Else-no-ne0) → let g = c.args in
     first_no (listed_checks g.plan.now g.rules.now (length g.node_table.now) (length g.state_table.now)

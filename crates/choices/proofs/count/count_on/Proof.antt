@@ -1,7 +1,6 @@
 -- `count_on` meets its contract.
-use native.Mathlib.Omega.{arith}
 use borrow.Author.Rules.{rules}
-use mathlib.Core.Path.{◌≡◌, refl, sym, ◌∙◌}
+use mathlib.Core.Path.{◌≡◌, sym, ◌∙◌}
 use mathlib.Core.Bool.{true}
 use lib.Seq.{length-take-le}
 use borrow.Author.Tests.{not-true, not-false}
@@ -12,12 +11,6 @@ use Rattle.choices.proofs.CountCases.{leaves-lost, inner-lost, roots-lost}
 use Rattle.choices.proofs.CountCases.{taken-args, taken-done}
 use Rattle.choices.proofs.count.count_on.Statement.{statement}
 use Rattle.choices.proofs.count.count_on.Tie as tie
-use Rattle.choices.proofs.count.count_on.Reads as reads
-use Rattle.choices.proofs.count.count_on.Lts as lts
-use Rattle.choices.proofs.count.count_parts.Reads as count-parts-reads
-use Rattle.choices.proofs.count.refused.Reads as refused-reads
-use Rattle.formats.proofs.rules.all_below.Reads as all-below-reads
-use Rattle.questions.proofs.roots.roots.Reads as roots-reads
 
 leaves_in : (c : tie.Else-not-all_below) → let b5 = c in
     let g = b5.args in

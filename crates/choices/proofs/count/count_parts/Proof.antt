@@ -1,18 +1,11 @@
 -- `count_parts` meets its contract.
-use native.Mathlib.Omega.{arith}
 use borrow.Author.Rules.{rules}
-use mathlib.Core.Path.{◌≡◌, refl, sym, ◌∙◌}
+use mathlib.Core.Path.{refl, sym, ◌∙◌}
 use lib.Seq.{length-take-le}
 use borrow.Author.Tests.{not-true, not-false}
-use Rattle.choices.proofs.CountCases.{all-args, parts-lost, last-args, parts-done}
+use Rattle.choices.proofs.CountCases.{parts-lost, last-args, parts-done}
 use Rattle.choices.proofs.count.count_parts.Statement.{statement}
 use Rattle.choices.proofs.count.count_parts.Tie as tie
-use Rattle.choices.proofs.count.count_parts.Reads as reads
-use Rattle.choices.proofs.count.count_parts.Lts as lts
-use Rattle.choices.proofs.count.refused.Reads as refused-reads
-use Rattle.choices.proofs.count.room_for_parts.Reads as room-for-parts-reads
-use Rattle.choices.proofs.parts.all_parts.Reads as all-parts-reads
-use Rattle.choices.proofs.part_steps.side.copy_row.Reads as copy-row-reads
 
 returns : tie.Need-returns-then-not-x
 returns c =

@@ -1,14 +1,10 @@
 -- `count_runs` meets its contract.
 use native.Mathlib.Omega.{arith}
-use borrow.Author.Rules.{rules}
-use mathlib.Core.Path.{◌≡◌, sym}
+use mathlib.Core.Path.{sym}
 use lib.Seq.{length-take-le}
 use Rattle.choices.proofs.RunCases.{Fit, fit-by, on-args, on-answer}
 use Rattle.choices.proofs.count.count_runs.Statement.{statement}
 use Rattle.choices.proofs.count.count_runs.Tie as tie
-use Rattle.choices.proofs.count.count_runs.Reads as reads
-use Rattle.choices.proofs.count.count_runs.Lts as lts
-use Rattle.choices.proofs.count.count_on.Reads as count-on-reads
 
 fit : (s : tie.Start) → let g = s.args in
     Fit g.n g.s g.k g.plan.now g.rules.now g.node_table.now g.state_table.now g.nodes.now

@@ -1,13 +1,11 @@
 -- `label_range` meets its contract.
 use native.Mathlib.Omega.{arith}
 use borrow.Author.Rules.{rules}
-use mathlib.Core.Path.{◌≡◌, sym, ap}
+use mathlib.Core.Path.{sym, ap}
 use mathlib.Core.Bool.{Bool}
 use Rattle.choices.specs.inner.Part.{label_range}
 use Rattle.choices.proofs.part.label_range.Statement.{statement}
 use Rattle.choices.proofs.part.label_range.Tie as tie
-use Rattle.choices.proofs.part.label_range.Reads as reads
-use Rattle.choices.proofs.part.label_range.Lts as lts
 
 returns : tie.Need-returns-then-free
 returns c =

@@ -1,7 +1,6 @@
 -- `part_counts` meets its contract.
-use native.Mathlib.Omega.{arith}
 use borrow.Author.Rules.{rules}
-use Prim.Native.Nat.{ℕ, ◌+◌}
+use Prim.Native.Nat.{◌+◌}
 use mathlib.Core.Path.{◌≡◌, ap}
 use mathlib.Core.Bool.{cond}
 use lib.ListN.{get_or}
@@ -10,11 +9,6 @@ use Rattle.choices.specs.declared.part.LabelRange.{LabelRange}
 use Rattle.choices.proofs.PartCases.{no_label, no-places, placed-args, placed-done}
 use Rattle.choices.proofs.part.part_counts.Statement.{statement}
 use Rattle.choices.proofs.part.part_counts.Tie as tie
-use Rattle.choices.proofs.part.part_counts.Reads as reads
-use Rattle.choices.proofs.part.part_counts.Lts as lts
-use Rattle.choices.proofs.part.label_range.Reads as label-range-reads
-use Rattle.choices.proofs.part.places_below.Reads as places-below-reads
-use Rattle.choices.proofs.part_steps.root.root_counts.Reads as root-counts-reads
 
 abbrev start : tie.After-label_range-b → tie.Start
 start a = a.before.before.before.before.before.before.before.before.before

@@ -1,17 +1,11 @@
 -- `places_below` meets its contract.
-use native.Mathlib.Omega.{arith}
 use borrow.Author.Rules.{rules}
-use mathlib.Core.Path.{◌≡◌, sym, subst}
+use mathlib.Core.Path.{sym, subst}
 use Rattle.choices.specs.declared.part.Places.{Places}
 use Rattle.choices.specs.inner.Part.{PlacesAre}
 use Rattle.choices.proofs.PartCases.{leaf-places, first-places, outside-places, inner-places}
 use Rattle.choices.proofs.part.places_below.Statement.{statement}
 use Rattle.choices.proofs.part.places_below.Tie as tie
-use Rattle.choices.proofs.part.places_below.Reads as reads
-use Rattle.choices.proofs.part.places_below.Lts as lts
-use Rattle.choices.proofs.part.no_places.Reads as no-places-reads
-use Rattle.tables.proofs.node_tables.moves.size_at.Reads as size-at-reads
-use Rattle.questions.proofs.part.last_below.Reads as last-below-reads
 
 returns : tie.Need-returns-then-kinds-v-eq0
 returns c =

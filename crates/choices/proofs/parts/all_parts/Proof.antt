@@ -1,17 +1,13 @@
 -- `all_parts` meets its contract.
 use native.Mathlib.Omega.{arith}
-use borrow.Author.Rules.{rules}
-use Prim.Native.Nat.{◌+◌, ◌*◌, ◌-◌}
-use mathlib.Core.Path.{◌≡◌, sym, ◌∙◌}
+use Prim.Native.Nat.{◌-◌}
+use mathlib.Core.Path.{sym, ◌∙◌}
 use lib.Seq.{length-take-le}
 use borrow.Author.Tests.{not-true, not-false}
 use lib.ListN.{length}
 use Rattle.choices.proofs.AllLoop.{Going, going_start, next-args, going-lost, links_fit, going_next, going_done}
 use Rattle.choices.proofs.parts.all_parts.Statement.{statement}
 use Rattle.choices.proofs.parts.all_parts.Tie as tie
-use Rattle.choices.proofs.parts.all_parts.Reads as reads
-use Rattle.choices.proofs.parts.all_parts.Lts as lts
-use Rattle.choices.proofs.parts.next_part.Reads as next-part-reads
 
 abbrev invariant-loop : tie.invariant-loop-i
 invariant-loop labels kinds leaves inner node-table state-table n s k nodes roots table₀ links₀ i₀ table links i =

@@ -1,16 +1,11 @@
 -- `next_part` meets its contract.
-use native.Mathlib.Omega.{arith}
 use borrow.Author.Rules.{rules}
-use mathlib.Core.Path.{◌≡◌, refl}
+use mathlib.Core.Path.{refl}
 use borrow.Author.Tests.{not-true, not-false}
 use Rattle.choices.proofs.part_steps.ForkLaws.{zeros-at}
 use Rattle.choices.proofs.NextCases.{row-args, next-lost, put-args, row-sixteen, next-done}
 use Rattle.choices.proofs.parts.next_part.Statement.{statement}
 use Rattle.choices.proofs.parts.next_part.Tie as tie
-use Rattle.choices.proofs.parts.next_part.Reads as reads
-use Rattle.choices.proofs.parts.next_part.Lts as lts
-use Rattle.choices.proofs.parts.part_row.Reads as part-row-reads
-use Rattle.choices.proofs.parts.put_row.Reads as put-row-reads
 
 part-row-requires : tie.Need-part_row-x-requires
 part-row-requires c κs =

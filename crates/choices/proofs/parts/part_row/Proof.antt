@@ -1,16 +1,11 @@
 -- `part_row` meets its contract.
 use native.Mathlib.Omega.{arith}
 use borrow.Author.Rules.{rules}
-use Prim.Native.Nat.{◌*◌}
-use mathlib.Core.Path.{◌≡◌, sym}
+use mathlib.Core.Path.{sym}
 use lib.Seq.{length-take-le}
 use Rattle.choices.proofs.NextCases.{row-needs, by-open}
 use Rattle.choices.proofs.parts.part_row.Statement.{statement}
 use Rattle.choices.proofs.parts.part_row.Tie as tie
-use Rattle.choices.proofs.parts.part_row.Reads as reads
-use Rattle.choices.proofs.parts.part_row.Lts as lts
-use Rattle.choices.proofs.part.part_counts.Reads as part-counts-reads
-use Rattle.formats.proofs.lists.is_listed.Reads as is-listed-reads
 
 slice-aggregate-part-counts : tie.Need-slice_bounds-part_counts-end
 slice-aggregate-part-counts c =

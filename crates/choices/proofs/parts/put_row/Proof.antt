@@ -1,12 +1,10 @@
 -- `put_row` meets its contract.
 use native.Mathlib.Omega.{arith}
 use borrow.Author.Rules.{rules}
-use Prim.Native.Nat.{◌+◌, ◌*◌, ◌-◌}
+use Prim.Native.Nat.{◌-◌}
 use Rattle.choices.proofs.RowLoop.{Putting, put-start, put_next, put-done}
 use Rattle.choices.proofs.parts.put_row.Statement.{statement}
 use Rattle.choices.proofs.parts.put_row.Tie as tie
-use Rattle.choices.proofs.parts.put_row.Reads as reads
-use Rattle.choices.proofs.parts.put_row.Lts as lts
 
 abbrev invariant-loop : tie.invariant-loop-c
 invariant-loop table₀ i row c₀ table c = Putting table₀ i row table c
@@ -17,7 +15,7 @@ decreases-loop table₀ i row c₀ table c = 16 - c
 loop-holds : tie.Need-loop-c-init invariant-loop decreases-loop
 loop-holds c = put-start _ _ _ c.requires
 
-mul-table : tie.Need-overflow_mul-table invariant-loop decreases-loop
+mul-table : tie.Need-offset_bounds-row-c invariant-loop decreases-loop
 mul-table c = omega (arith, c.loop-c-test.true)
 
 element-copy-out-table : tie.Need-bounds-row-c invariant-loop decreases-loop

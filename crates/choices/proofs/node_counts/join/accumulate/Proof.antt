@@ -1,14 +1,10 @@
 -- `pour` meets its contract.
 use native.Mathlib.Omega.{arith}
-use borrow.Author.Rules.{rules}
-use Prim.Native.Nat.{◌+◌, ◌*◌, ◌-◌}
+use Prim.Native.Nat.{◌-◌}
 use Rattle.choices.proofs.node_counts.AccumulateLoop.{Pouring, accumulating-start, accumulating-row, accumulating-cell, accumulating-in}
 use Rattle.choices.proofs.node_counts.AccumulateLoop.{accumulating-state, accumulating-next, accumulating-done, accumulate-none}
 use Rattle.choices.proofs.node_counts.join.accumulate.Statement.{statement}
 use Rattle.choices.proofs.node_counts.join.accumulate.Tie as tie
-use Rattle.choices.proofs.node_counts.join.accumulate.Reads as reads
-use Rattle.choices.proofs.node_counts.join.accumulate.Lts as lts
-use Rattle.choices.proofs.node_counts.sums.capped_add.Reads as capped-add-reads
 
 abbrev invariant-loop : tie.invariant-loop-b
 invariant-loop inner s k from to p q x out₀ b₀ out b = Pouring inner s k from to p q x out₀ out b

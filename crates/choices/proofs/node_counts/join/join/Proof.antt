@@ -1,13 +1,9 @@
 -- `join` meets its contract.
 use native.Mathlib.Omega.{arith}
-use borrow.Author.Rules.{rules}
-use Prim.Native.Nat.{◌+◌, ◌*◌, ◌-◌}
+use Prim.Native.Nat.{◌-◌}
 use Rattle.choices.proofs.node_counts.JoinLoop.{Joining, join-start, join-args, join-next, join-done}
 use Rattle.choices.proofs.node_counts.join.join.Statement.{statement}
 use Rattle.choices.proofs.node_counts.join.join.Tie as tie
-use Rattle.choices.proofs.node_counts.join.join.Reads as reads
-use Rattle.choices.proofs.node_counts.join.join.Lts as lts
-use Rattle.choices.proofs.node_counts.join.join_row.Reads as join-row-reads
 
 abbrev invariant-loop : tie.invariant-loop-p
 invariant-loop inner s k from to left right out₀ p₀ out p = Joining inner s k from to left right out₀ out p

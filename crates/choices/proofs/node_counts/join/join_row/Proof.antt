@@ -1,14 +1,10 @@
 -- `join_row` meets its contract.
 use native.Mathlib.Omega.{arith}
 use borrow.Author.Rules.{rules}
-use Prim.Native.Nat.{◌+◌, ◌*◌, ◌-◌}
+use Prim.Native.Nat.{◌-◌}
 use Rattle.choices.proofs.node_counts.JoinLoop.{RowJoining, row-start, row-args, row-accumulated, row_done}
 use Rattle.choices.proofs.node_counts.join.join_row.Statement.{statement}
 use Rattle.choices.proofs.node_counts.join.join_row.Tie as tie
-use Rattle.choices.proofs.node_counts.join.join_row.Reads as reads
-use Rattle.choices.proofs.node_counts.join.join_row.Lts as lts
-use Rattle.choices.proofs.node_counts.join.accumulate.Reads as accumulate-reads
-use Rattle.choices.proofs.node_counts.sums.capped_times.Reads as capped-times-reads
 
 abbrev invariant-loop : tie.invariant-loop-q
 invariant-loop inner s k from to p x right out₀ q₀ out q = RowJoining inner s k from to p x right out₀ out q

@@ -6,8 +6,6 @@ use mathlib.Core.Path.{◌≡◌, ap}
 use Rattle.choices.proofs.node_counts.CappedLaws.{product-above, product-within}
 use Rattle.choices.proofs.node_counts.sums.capped_times.Statement.{statement}
 use Rattle.choices.proofs.node_counts.sums.capped_times.Tie as tie
-use Rattle.choices.proofs.node_counts.sums.capped_times.Reads as reads
-use Rattle.choices.proofs.node_counts.sums.capped_times.Lts as lts
 
 positive : (b : ℕ) → (b ≡ 0 → ⊥) → 0 < b
 positive b n = omega arith

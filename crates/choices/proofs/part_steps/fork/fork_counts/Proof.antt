@@ -1,17 +1,11 @@
 -- `fork_counts` meets its contract.
 use native.Mathlib.Omega.{arith}
-use borrow.Author.Rules.{rules}
-use Prim.Native.Nat.{ℕ, zero, suc, ◌+◌, ◌*◌, ◌-◌, ◌≤◌, ◌<◌}
-use mathlib.Core.Path.{◌≡◌, refl, sym, ap, ◌∙◌, subst}
+use mathlib.Core.Path.{refl}
 use Rattle.choices.proofs.part_steps.ForkLaws.{left-args, right-args, left-lost, right-lost, join-args, links_fit}
 use Rattle.choices.proofs.part_steps.ForkLaws.{fork-done, zeros-at}
 use borrow.Author.Tests.{not-true, not-false}
 use Rattle.choices.proofs.part_steps.fork.fork_counts.Statement.{statement}
 use Rattle.choices.proofs.part_steps.fork.fork_counts.Tie as tie
-use Rattle.choices.proofs.part_steps.fork.fork_counts.Reads as reads
-use Rattle.choices.proofs.part_steps.fork.fork_counts.Lts as lts
-use Rattle.choices.proofs.part_steps.side.side_counts.Reads as side-counts-reads
-use Rattle.choices.proofs.node_counts.join.join.Reads as join-reads
 
 side-counts-requires : tie.Need-side_counts-x-requires
 side-counts-requires c κs =

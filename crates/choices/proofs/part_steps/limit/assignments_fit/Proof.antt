@@ -5,8 +5,6 @@ use Prim.Native.Nat.{◌-◌}
 use Rattle.choices.proofs.part_steps.LimitLoop.{Powering, power-start, power-fits, power-next, power-over, power-done}
 use Rattle.choices.proofs.part_steps.limit.assignments_fit.Statement.{statement}
 use Rattle.choices.proofs.part_steps.limit.assignments_fit.Tie as tie
-use Rattle.choices.proofs.part_steps.limit.assignments_fit.Reads as reads
-use Rattle.choices.proofs.part_steps.limit.assignments_fit.Lts as lts
 
 abbrev invariant-loop : tie.invariant-loop-i
 invariant-loop k m p₀ i₀ p i = Powering k m p i

@@ -1,16 +1,11 @@
 -- `root_counts` meets its contract.
 use native.Mathlib.Omega.{arith}
 use borrow.Author.Rules.{rules}
-use Prim.Native.Nat.{ℕ, zero, suc, ◌+◌, ◌*◌, ◌-◌, ◌≤◌, ◌<◌}
-use mathlib.Core.Path.{◌≡◌, refl, sym, ap, ◌∙◌, subst}
+use Prim.Native.Nat.{ℕ, ◌+◌, ◌*◌}
+use mathlib.Core.Path.{ap}
 use Rattle.choices.proofs.part_steps.RootLaws.{leaf-args, leaf-done, inner-done}
 use Rattle.choices.proofs.part_steps.root.root_counts.Statement.{statement}
 use Rattle.choices.proofs.part_steps.root.root_counts.Tie as tie
-use Rattle.choices.proofs.part_steps.root.root_counts.Reads as reads
-use Rattle.choices.proofs.part_steps.root.root_counts.Lts as lts
-use Rattle.choices.proofs.part_steps.fork.fork_counts.Reads as fork-counts-reads
-use Rattle.choices.proofs.node_counts.join.accumulate.Reads as accumulate-reads
-use Rattle.tables.proofs.node_tables.moves.depth_at.Reads as depth-at-reads
 
 accumulate-requires : tie.Need-accumulate-requires
 accumulate-requires c κs =

@@ -1,12 +1,9 @@
 -- `copy_row` meets its contract.
 use native.Mathlib.Omega.{arith}
-use borrow.Author.Rules.{rules}
-use Prim.Native.Nat.{◌+◌, ◌*◌, ◌-◌}
+use Prim.Native.Nat.{◌-◌}
 use Rattle.choices.proofs.part_steps.SideLaws.{Copying, copy_start, copy-next, copy_done}
 use Rattle.choices.proofs.part_steps.side.copy_row.Statement.{statement}
 use Rattle.choices.proofs.part_steps.side.copy_row.Tie as tie
-use Rattle.choices.proofs.part_steps.side.copy_row.Reads as reads
-use Rattle.choices.proofs.part_steps.side.copy_row.Lts as lts
 
 abbrev invariant-loop : tie.invariant-loop-c
 invariant-loop table i out₀ c₀ out c = Copying table i out₀ out c

@@ -2,17 +2,11 @@
 use native.Mathlib.Omega.{arith}
 use borrow.Author.Rules.{rules}
 use Rattle.tables.proofs.LookupLaws.{state-place}
-use lib.ListN.{length}
-use Prim.Native.Nat.{ℕ, suc, ◌+◌, ◌*◌, ◌-◌, ◌≤◌, ◌<◌}
-use mathlib.Core.Path.{◌≡◌, refl, sym, ap, ◌∙◌, subst}
+use Prim.Native.Nat.{ℕ, suc, ◌-◌}
+use mathlib.Core.Path.{◌≡◌}
 use Rattle.choices.proofs.part_steps.SideLaws.{run-lost, run-kept, own-kept, carry-args, carried-side}
 use Rattle.choices.proofs.part_steps.side.side_counts.Statement.{statement}
 use Rattle.choices.proofs.part_steps.side.side_counts.Tie as tie
-use Rattle.choices.proofs.part_steps.side.side_counts.Reads as reads
-use Rattle.choices.proofs.part_steps.side.side_counts.Lts as lts
-use Rattle.choices.proofs.part_steps.carry.carry_counts.Reads as carry-counts-reads
-use Rattle.choices.proofs.part_steps.side.copy_row.Reads as copy-row-reads
-use Rattle.tables.proofs.lookups.run_on.Reads as run-on-reads
 
 one_more : (m : ℕ) → (m ≡ 0 → ⊥) → m ≡ suc (m - 1)
 one_more m n = omega arith
