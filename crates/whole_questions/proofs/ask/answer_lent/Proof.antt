@@ -8,11 +8,6 @@ use Rattle.whole_questions.proofs.AskChecks.{passed_are}
 use Rattle.whole_questions.proofs.AnswerLaws.{lent-passed, lent-lost, rooted-room, root-args, lent-answer}
 use Rattle.whole_questions.proofs.ask.answer_lent.Statement.{statement}
 use Rattle.whole_questions.proofs.ask.answer_lent.Tie as tie
-use Rattle.whole_questions.proofs.ask.answer_lent.Reads as reads
-use Rattle.whole_questions.proofs.ask.answer_lent.Lts as lts
-use Rattle.formats.proofs.bytes.read32.Reads as read32-reads
-use Rattle.whole_questions.proofs.ask.answer_roots.Reads as answer-roots-reads
-use Rattle.questions.proofs.changed_roots.roots_left.Reads as roots-left-reads
 
 heads : (s : tie.Start) → let g = s.args in Headers 20 g.plan.now g.rules.now
 heads s = (passed_are _ _ _ _ _ _ s.requires.passed).headed.headers

@@ -5,10 +5,6 @@ use Rattle.whole_questions.proofs.AskNumbers.{refused-is, lent_is}
 use Rattle.whole_questions.proofs.AskTheorem.{ask-done}
 use Rattle.whole_questions.proofs.ask.ask.Statement.{statement}
 use Rattle.whole_questions.proofs.ask.ask.Tie as tie
-use Rattle.whole_questions.proofs.ask.ask.Reads as reads
-use Rattle.whole_questions.proofs.ask.ask.Lts as lts
-use Rattle.whole_questions.proofs.ask.answer_lent.Reads as answer-lent-reads
-use Rattle.whole_questions.proofs.checks.check_asked.Reads as check-asked-reads
 
 returns : tie.Need-returns-then-no-ne0
 returns c =

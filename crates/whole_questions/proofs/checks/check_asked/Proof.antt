@@ -9,12 +9,6 @@ use Rattle.formats.proofs.BufferLaws.{Headers, headers-are}
 use Rattle.whole_questions.proofs.AskChecks.{no-17, no-17-lengths, then-list}
 use Rattle.whole_questions.proofs.checks.check_asked.Statement.{statement}
 use Rattle.whole_questions.proofs.checks.check_asked.Tie as tie
-use Rattle.whole_questions.proofs.checks.check_asked.Reads as reads
-use Rattle.whole_questions.proofs.checks.check_asked.Lts as lts
-use Rattle.formats.proofs.buffers.headers_fit.Reads as headers-fit-reads
-use Rattle.formats.proofs.buffers.rule_buffers_fit.Reads as rule-buffers-fit-reads
-use Rattle.formats.proofs.bytes.read32.Reads as read32-reads
-use Rattle.formats.proofs.lists.check_list.Reads as check-list-reads
 
 yes : (c : tie.Else-not-headers_fit) → let g = c.args in
     headers_fit 20 g.plan.now g.rules.now ≡ true

@@ -8,9 +8,6 @@ use Rattle.whole_questions.proofs.PartsLoop.{Going, going_start, states_length, 
 use Rattle.whole_questions.proofs.PartsLoop.{going-lost, going_done}
 use Rattle.whole_questions.proofs.parts.all_parts.Statement.{statement}
 use Rattle.whole_questions.proofs.parts.all_parts.Tie as tie
-use Rattle.whole_questions.proofs.parts.all_parts.Reads as reads
-use Rattle.whole_questions.proofs.parts.all_parts.Lts as lts
-use Rattle.questions.proofs.part.part.Reads as part-reads
 
 abbrev invariant-loop : tie.invariant-loop-i
 invariant-loop n s k plan rules nt st roots nodes labels states₀ last₀ links₀ passed₀ i₀ states last links passed i =
@@ -44,23 +41,23 @@ add-links : tie.Need-overflow_add-links invariant-loop decreases-loop
 add-links c =
     let o = c.loop-i in
     let l = next-links _ _ _ _ _ _ _ _ _ _ o.states o.last o.links o.passed o.i o.invariant
-    c.loop-i-test.true c.part.result c.part.ensures c.x-1.given.0.0 c.x-1.given.1 in
+    c.loop-i-test.true c.part.result c.part.ensures c.in-Reached.x c.in-Reached.is in
     let d = next-passed _ _ _ _ _ _ _ _ _ _ o.states o.last o.links o.passed o.i o.invariant
-    c.loop-i-test.true c.part.result c.part.ensures c.x-1.given.0.0 c.x-1.given.1 in
+    c.loop-i-test.true c.part.result c.part.ensures c.in-Reached.x c.in-Reached.is in
     omega (arith, l, d, o.invariant.few-links, c.loop-i-test.true, o.invariant.args.few)
 
 add-passed : tie.Need-overflow_add-passed invariant-loop decreases-loop
 add-passed c =
     let o = c.loop-i in
     let l = next-passed _ _ _ _ _ _ _ _ _ _ o.states o.last o.links o.passed o.i o.invariant
-    c.loop-i-test.true c.part.result c.part.ensures c.x-1.given.0.0 c.x-1.given.1 in
+    c.loop-i-test.true c.part.result c.part.ensures c.in-Reached.x c.in-Reached.is in
     omega (arith, l, c.loop-i-test.true, o.invariant.args.few)
 
 returns : tie.Need-returns-in-OutOfRange invariant-loop decreases-loop
 returns c =
     let o = c.loop-i in
     going-lost _ _ _ _ _ _ _ _ _ _ o.states o.last o.links o.passed o.i o.invariant c.loop-i-test.true
-    c.part.result c.part.ensures c.enum_told-1.given.1
+    c.part.result c.part.ensures c.in-OutOfRange.is
 
 add-i : tie.Need-overflow_add-i invariant-loop decreases-loop
 add-i c =
@@ -75,7 +72,7 @@ loop-again : tie.Need-loop-i-preserved invariant-loop decreases-loop
 loop-again c =
     let o = c.loop-i in
     going_next _ _ _ _ _ _ _ _ _ _ o.states o.last o.links o.passed o.i o.invariant c.loop-i-test.true
-    c.part.result c.part.ensures c.x-1.given.0.0 c.x-1.given.1
+    c.part.result c.part.ensures c.in-Reached.x c.in-Reached.is
 
 returns-2 : tie.Need-returns invariant-loop decreases-loop
 returns-2 c =
