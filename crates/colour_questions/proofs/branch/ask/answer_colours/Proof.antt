@@ -56,7 +56,8 @@ low e =
     g.numbers.now g.bytes.now g.u g.l _ _ e.read32-n.ensures e.read32-s.ensures
     e.start_place-z.result e.start_place-z.ensures e.if-n-z.false e.start_colour-c.result
     e.start_colour-c.ensures
-    e.if-s-c.false e.descend_to.result e.descend_to.ensures e.in-Reached.colour e.in-Reached.drops e.in-Reached.links e.in-Reached.is
+    e.if-s-c.false e.descend_to.result e.descend_to.ensures e.in-Reached.colour e.in-Reached.drops
+    e.in-Reached.links e.in-Reached.is
 
 read32-requires : tie.Need-read32-n-requires
 read32-requires c κs = omega (arith, (fits-are _ _ _ _ _ c.requires.fits).headers.plan-long)
@@ -163,7 +164,8 @@ returns-4 c =
     g.numbers.now g.bytes.now g.u g.l _ _ c.read32-n.ensures c.read32-s.ensures
     c.start_place-z.result c.start_place-z.ensures c.if-n-z.false c.start_colour-c.result
     c.start_colour-c.ensures
-    c.if-s-c.false c.descend_to.result c.descend_to.ensures c.in-Reached.colour c.in-Reached.drops c.in-Reached.links c.in-Reached.is _
+    c.if-s-c.false c.descend_to.result c.descend_to.ensures c.in-Reached.colour c.in-Reached.drops
+    c.in-Reached.links c.in-Reached.is _
     (branch-marks-part-exact g.branch.now _ _ (fits-are _ _ _ _ _ c.requires.fits).table-exact c.read32-s.ensures
     c.read32-k.ensures)
 

@@ -49,7 +49,8 @@ side-by-colours-requires-2 c κs =
             arith,
             c.requires.at,
             c.requires.left,
-            last-covers (g.v - 1) (size_cell g.node_table.now (g.v - 1)) g.earlier.now i (sym c.last_below-j.ensures ∙ z),
+            last-covers (g.v - 1) (size_cell g.node_table.now (g.v - 1)) g.earlier.now i (sym
+                c.last_below-j.ensures ∙ z),
           );
     }
 
@@ -90,7 +91,8 @@ rule-on-requires c κs =
 returns : tie.Need-returns-then-s-q
 returns c =
     fork_rule _ _ _ _ _ _ _ _ _ _ _ c.requires.same c.last_below-i.ensures c.last_below-j.ensures
-    _ c.side_by_colours-left.ensures c.in-State.x c.in-State.b c.in-State.c c.in-State.is _ c.side_by_colours-right.ensures
+    _ c.side_by_colours-left.ensures c.in-State.x c.in-State.b c.in-State.c c.in-State.is _
+    c.side_by_colours-right.ensures
     c.in-State-right.y c.in-State-right.d c.in-State-right.e c.in-State-right.is _ c.rule_on-q.ensures c.if-s-q.true
 
 cast-t32 : tie.Need-overflow_cast-result
@@ -123,7 +125,8 @@ add-t34 c =
     c.side_by_colours-left.result c.side_by_colours-left.ensures
     c.in-State.x c.in-State.b c.in-State.c c.in-State.is c.side_by_colours-right.result
     c.side_by_colours-right.ensures
-    c.in-State-right.y c.in-State-right.d c.in-State-right.e c.in-State-right.is c.rule_on-q.result c.rule_on-q.ensures in
+    c.in-State-right.y c.in-State-right.d c.in-State-right.e c.in-State-right.is c.rule_on-q.result
+    c.rule_on-q.ensures in
     omega (arith, falls r, f)
 
 returns-2 : tie.Need-returns-in-NoState
@@ -140,7 +143,8 @@ returns-3 c =
 returns-4 : tie.Need-returns-else-s-q
 returns-4 c =
     fork-made _ _ _ _ _ _ _ _ _ _ _ c.requires.same c.last_below-i.ensures c.last_below-j.ensures
-    _ c.side_by_colours-left.ensures c.in-State.x c.in-State.b c.in-State.c c.in-State.is _ c.side_by_colours-right.ensures
+    _ c.side_by_colours-left.ensures c.in-State.x c.in-State.b c.in-State.c c.in-State.is _
+    c.side_by_colours-right.ensures
     c.in-State-right.y c.in-State-right.d c.in-State-right.e c.in-State-right.is _ c.rule_on-q.ensures c.if-s-q.false
 
 pub fork_by_colours_spec : {M : Type 1} → statement M

@@ -29,7 +29,8 @@ read32-requires-3 c κs =
 
 roots-left-requires : tie.Need-roots_left-found-requires
 roots-left-requires c κs =
-    let h = (lent-passed _ _ _ _ _ _ _ _ c.requires _ _ _ c.read32-n.ensures c.read32-s.ensures c.read32-k.ensures).fits.headed in
+    let h = (lent-passed _ _ _ _ _ _ _ _ c.requires _ _ _ c.read32-n.ensures c.read32-s.ensures
+    c.read32-k.ensures).fits.headed in
     record {
       most = omega (arith, h.headers.in-limits.most, c.read32-n.ensures);
       labels = omega (arith, h.plan_exact, c.read32-n.ensures);
@@ -38,25 +39,30 @@ roots-left-requires c κs =
 
 returns : tie.Need-returns-then-not-found
 returns c = (
-  lent-lost _ _ _ _ _ _ _ _ c.requires c.read32-n.result _ _ c.read32-n.ensures c.read32-s.ensures c.read32-k.ensures _ c.roots_left-found.ensures (not-true _ c.if-not-found.true),
+  lent-lost _ _ _ _ _ _ _ _ c.requires c.read32-n.result _ _ c.read32-n.ensures c.read32-s.ensures
+      c.read32-k.ensures _ c.roots_left-found.ensures (not-true _ c.if-not-found.true),
   tt,
 )
 
 array-share-prefix-list : tie.Need-slice_bounds-list-end
 array-share-prefix-list c =
-    rooted-room _ _ _ _ _ _ _ _ c.requires _ _ _ c.read32-n.ensures c.read32-s.ensures c.read32-k.ensures _ c.roots_left-found.ensures (not-false _ c.if-not-found.false)
+    rooted-room _ _ _ _ _ _ _ _ c.requires _ _ _ c.read32-n.ensures c.read32-s.ensures c.read32-k.ensures _
+    c.roots_left-found.ensures (not-false _ c.if-not-found.false)
 
 slice-aggregate-answer-roots : tie.Need-slice_bounds-answer_roots-end
 slice-aggregate-answer-roots c =
-    sym (length-take-le _ _ (rooted-room _ _ _ _ _ _ _ _ c.requires _ _ _ c.read32-n.ensures c.read32-s.ensures c.read32-k.ensures _ c.roots_left-found.ensures (not-false _ c.if-not-found.false)))
+    sym (length-take-le _ _ (rooted-room _ _ _ _ _ _ _ _ c.requires _ _ _ c.read32-n.ensures c.read32-s.ensures
+    c.read32-k.ensures _ c.roots_left-found.ensures (not-false _ c.if-not-found.false)))
 
 answer-roots-requires : tie.Need-answer_roots-requires
 answer-roots-requires c κs =
-    root-args _ _ _ _ _ _ _ _ c.requires _ _ _ c.read32-n.ensures c.read32-s.ensures c.read32-k.ensures _ c.roots_left-found.ensures (not-false _ c.if-not-found.false)
+    root-args _ _ _ _ _ _ _ _ c.requires _ _ _ c.read32-n.ensures c.read32-s.ensures c.read32-k.ensures _
+    c.roots_left-found.ensures (not-false _ c.if-not-found.false)
 
 returns-2 : tie.Need-returns
 returns-2 c = (
-  lent-answer _ _ _ _ _ _ _ _ c.requires c.read32-n.result _ _ c.read32-n.ensures c.read32-s.ensures c.read32-k.ensures _ c.roots_left-found.ensures (not-false _ c.if-not-found.false)
+  lent-answer _ _ _ _ _ _ _ _ c.requires c.read32-n.result _ _ c.read32-n.ensures c.read32-s.ensures
+      c.read32-k.ensures _ c.roots_left-found.ensures (not-false _ c.if-not-found.false)
       _ c.answer_roots.ensures.0,
   c.answer_roots.ensures.1,
 )

@@ -43,7 +43,8 @@ returns-2 c =
     let x = y.before in
     let e = x.before in
     let g = c.args in
-    no-27 g.plan.now g.rules.now g.node_table g.state_table g.numbers g.bytes g.nodes.now g.labels.now (fits e) c.read32-s.result c.read32-s.ensures c.if-s-gt4.true
+    no-27 g.plan.now g.rules.now g.node_table g.state_table g.numbers g.bytes g.nodes.now g.labels.now (fits e)
+    c.read32-s.result c.read32-s.ensures c.if-s-gt4.true
 
 returns-3 : tie.Need-returns
 returns-3 c =

@@ -47,7 +47,8 @@ returns-2 c =
     let z = t.before in
     let y = z.before in
     let x = y.before in
-    lengths-no _ _ _ _ _ _ (fits x.before) c.read32-n.result _ _ c.read32-n.ensures c.read32-s.ensures c.read32-k.ensures (sym c.rule_buffers_fit.ensures ∙ not-true _ c.if-not-rule_buffers_fit.true-raw)
+    lengths-no _ _ _ _ _ _ (fits x.before) c.read32-n.result _ _ c.read32-n.ensures c.read32-s.ensures
+    c.read32-k.ensures (sym c.rule_buffers_fit.ensures ∙ not-true _ c.if-not-rule_buffers_fit.true-raw)
 
 returns-3 : tie.Need-returns-then-s-gt4
 returns-3 c =
@@ -56,7 +57,9 @@ returns-3 c =
     let z = t.before in
     let y = z.before in
     let x = y.before in
-    many-states _ _ _ _ _ _ (fits x.before) c.read32-n.result _ _ c.read32-n.ensures c.read32-s.ensures c.read32-k.ensures (sym c.rule_buffers_fit.ensures ∙ not-false _ c.if-not-rule_buffers_fit.false-raw) c.if-s-gt4.true
+    many-states _ _ _ _ _ _ (fits x.before) c.read32-n.result _ _ c.read32-n.ensures c.read32-s.ensures
+    c.read32-k.ensures (sym c.rule_buffers_fit.ensures ∙ not-false _ c.if-not-rule_buffers_fit.false-raw)
+    c.if-s-gt4.true
 
 set-colours-fit-requires : tie.Need-set_colours_fit-requires
 set-colours-fit-requires c κs =
@@ -77,7 +80,9 @@ returns-4 c =
     let z = t.before in
     let y = z.before in
     let x = y.before in
-    c.set_colours_fit.ensures ∙ few-states _ _ _ _ _ _ (fits x.before) c.read32-n.result _ _ c.read32-n.ensures c.read32-s.ensures c.read32-k.ensures (sym c.rule_buffers_fit.ensures ∙ not-false _ c.if-not-rule_buffers_fit.false-raw) c.if-s-gt4.false
+    c.set_colours_fit.ensures ∙ few-states _ _ _ _ _ _ (fits x.before) c.read32-n.result _ _ c.read32-n.ensures
+    c.read32-s.ensures c.read32-k.ensures (sym c.rule_buffers_fit.ensures ∙ not-false _
+    c.if-not-rule_buffers_fit.false-raw) c.if-s-gt4.false
 
 pub tables_fit_spec : {M : Type 1} → statement M
 tables_fit_spec =

@@ -27,7 +27,8 @@ slice-aggregate-part-by-colours c =
     let g = c.args in
     sym (earlier-length g.n g.s g.k g.m g.labels.now g.kinds.now g.leaves.now g.inner.now
     g.node_table.now
-    g.state_table.now g.numbers.now g.copies.now g.nodes.now g.changes.now g.roots.now o.states o.last o.drops o.links o.i o.invariant c.loop-i-test.true)
+    g.state_table.now g.numbers.now g.copies.now g.nodes.now g.changes.now g.roots.now o.states o.last o.drops
+    o.links o.i o.invariant c.loop-i-test.true)
 
 array-share-prefix-states : tie.Need-slice_bounds-states-end invariant-loop decreases-loop
 array-share-prefix-states c =
@@ -41,7 +42,8 @@ slice-aggregate-part-by-colours-2 c =
     let o = c.loop-i in
     let g = c.args in
     sym (states_length g.n g.s g.k g.m g.labels.now g.kinds.now g.leaves.now g.inner.now g.node_table.now
-    g.state_table.now g.numbers.now g.copies.now g.nodes.now g.changes.now g.roots.now o.states o.last o.drops o.links o.i o.invariant c.loop-i-test.true)
+    g.state_table.now g.numbers.now g.copies.now g.nodes.now g.changes.now g.roots.now o.states o.last o.drops
+    o.links o.i o.invariant c.loop-i-test.true)
 
 mul-part-by-colours : tie.Need-offset_bounds-roots-i invariant-loop decreases-loop
 mul-part-by-colours c =
@@ -63,7 +65,8 @@ part-by-colours-requires c κs =
     let o = c.loop-i in
     let g = c.args in
     next-args g.n g.s g.k g.m g.labels.now g.kinds.now g.leaves.now g.inner.now g.node_table.now
-    g.state_table.now g.numbers.now g.copies.now g.nodes.now g.changes.now g.roots.now o.states o.last o.drops o.links o.i o.invariant c.loop-i-test.true
+    g.state_table.now g.numbers.now g.copies.now g.nodes.now g.changes.now g.roots.now o.states o.last o.drops
+    o.links o.i o.invariant c.loop-i-test.true
 
 returns : tie.Need-returns-in-NoState invariant-loop decreases-loop
 returns c =

@@ -73,7 +73,8 @@ start c = c.before.before.before.before.before.before.before.before
 low : (c : tie.In-Reached) → c.in-Reached.colour < (start c).args.m
 low c =
     end_low _ _ _ _ _ _ _ _ c.requires
-    _ _ c.single.ensures c.place_of-k.ensures.0 c.if-m-k.false _ c.descend_from.ensures c.in-Reached.colour c.in-Reached.drops c.in-Reached.links c.in-Reached.is
+    _ _ c.single.ensures c.place_of-k.ensures.0 c.if-m-k.false _ c.descend_from.ensures c.in-Reached.colour
+    c.in-Reached.drops c.in-Reached.links c.in-Reached.is
 
 mul-set : tie.Need-overflow_mul-set
 mul-set c =
@@ -92,7 +93,8 @@ shared-slice-read-set c =
 
 returns-3 : tie.Need-returns-in-Reached
 returns-3 c =
-    test-end _ _ _ _ _ _ _ _ c.requires _ _ c.single.ensures c.place_of-k.ensures.0 c.if-m-k.false _ c.descend_from.ensures c.in-Reached.colour c.in-Reached.drops c.in-Reached.links c.in-Reached.is
+    test-end _ _ _ _ _ _ _ _ c.requires _ _ c.single.ensures c.place_of-k.ensures.0 c.if-m-k.false _
+    c.descend_from.ensures c.in-Reached.colour c.in-Reached.drops c.in-Reached.links c.in-Reached.is
     (λ i. omega (arith, c.shared_slice_known-1.given i)) _ c.bit_of.ensures.0
 
 pub try_target_spec : {M : Type 1} → statement M

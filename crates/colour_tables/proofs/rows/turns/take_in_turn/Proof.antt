@@ -49,9 +49,11 @@ bit_is c =
     let o = c.loop-c in
     let h = c.loop-c-test.true in
     elim c.if-taken-q-eq0.branch [
-      | then-taken-q-eq0 w ↦ w.bit-is ∙ bit-own c.args.successors.now o.invariant.2.row o.invariant.2.landed o.owners o.taken o.c
+      | then-taken-q-eq0 w ↦ w.bit-is ∙ bit-own c.args.successors.now o.invariant.2.row o.invariant.2.landed
+          o.owners o.taken o.c
           o.invariant.2.turns c.requires.turns h w.if-taken-q-eq0.true
-      | else-taken-q-eq0 w ↦ w.bit-is ∙ bit-low c.args.successors.now o.invariant.2.row o.invariant.2.landed o.owners o.taken o.c
+      | else-taken-q-eq0 w ↦ w.bit-is ∙ bit-low c.args.successors.now o.invariant.2.row o.invariant.2.landed
+          o.owners o.taken o.c
           o.invariant.2.turns c.requires.turns h w.if-taken-q-eq0.false
     ]
 

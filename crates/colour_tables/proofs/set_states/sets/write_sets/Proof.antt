@@ -89,7 +89,8 @@ loop-again c =
           c.args.bytes.now c.args.numbers.now c.requires _ c.loop-v.v (c.loop-v.v - 1) c.loop-v.bytes
           c.loop-v.numbers f.1
           (omega (arith, c.loop-v-test.true)) (omega (arith, c.loop-v-test.true, f.0)) f.2 f.3 f.4
-          c.row_above-above.result c.row_above-above.ensures c.successors_down-successors.result c.successors_down-successors.ensures _ _
+          c.row_above-above.result c.row_above-above.ensures c.successors_down-successors.result
+          c.successors_down-successors.ensures _ _
           c.put_copy.ensures,
     )
 

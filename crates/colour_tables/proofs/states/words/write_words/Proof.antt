@@ -90,7 +90,8 @@ loop-again c =
       words-next c.args.labels.now c.args.steps.now c.args.s c.args.k c.args.bytes.now
           c.args.numbers.now c.requires _ c.loop-v.v (c.loop-v.v - 1) c.loop-v.bytes c.loop-v.numbers f.1
           (omega (arith, c.loop-v-test.true)) (omega (arith, c.loop-v-test.true, f.0)) f.2 f.3 f.4
-          c.row_above-above.result c.row_above-above.ensures c.successors_by_word-successors.result _ c.successors_by_word-successors.ensures _ _ refl
+          c.row_above-above.result c.row_above-above.ensures c.successors_by_word-successors.result _
+          c.successors_by_word-successors.ensures _ _ refl
           c.put_copy.ensures,
     )
 
