@@ -1,13 +1,13 @@
 -- What all_parts promises, one part at a time: the rest still to do gives what all of them give.
 --     going_start, next-args, going-lost, going_next, going_done
-use Prim.Native.Nat.{ℕ, zero, suc, ◌+◌, ◌-◌, ◌*◌, ◌≤◌, ◌<◌}
+use Prim.Native.Nat.{ℕ, ◌+◌, ◌-◌, ◌*◌, ◌≤◌, ◌<◌}
 use mathlib.Core.Path.{◌≡◌, refl, sym, ap, ap₂, ◌∙◌, subst}
-use mathlib.Core.Bool.{Bool, true, false, ◌&&◌}
+use mathlib.Core.Bool.{Bool, true, false}
 use mathlib.Core.List.{List, [], ◌∷◌, ◌++◌}
 use native.Mathlib.Omega.{arith}
 use native.Mathlib.Numerals.{add-one}
 use lib.Dec.{ltb}
-use lib.ListN.{length, get_or, take, drop, drop_of_length-le, length-append, get_or-append, get_or-eq_default}
+use lib.ListN.{length, get_or, take, drop, drop_of_length-le, get_or-append, get_or-eq_default}
 use lib.Seq.{length-take-le, take-suc, drop-cons, get_or-append-add}
 use borrow.Author.Tests.{ltb-true, ltb-false}
 use Rattle.list_laws.proofs.BoolLaws.{and-next, and-no-left}
@@ -16,7 +16,7 @@ use Rattle.tables.specs.Climbs.{View}
 use Rattle.questions.specs.inner.PartArgs.{part_view}
 use Rattle.choices.specs.node_counts.Capped.{count_limit, capped}
 use Rattle.choices.specs.declared.part_steps.carry.Carried.{Carried}
-use Rattle.choices.specs.question_counts.PartOn.{part_ok_on, part_links_on, part_count_on}
+use Rattle.choices.specs.question_counts.PartOn.{part_ok_on, part_count_on}
 use Rattle.choices.specs.question_counts.PartsOn.{parts_ok, links_from, row_on, rows_from}
 use Rattle.choices.specs.question_counts.CountOn.{open_in}
 use Rattle.choices.specs.inner.Parts.{before, NextArgs, NextCounted, AllArgs, AllCounted}

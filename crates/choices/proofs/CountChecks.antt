@@ -1,10 +1,10 @@
 -- The checks of a count, one by one.
 --     no-17, no-12, no-13, no-15, no-26, all_pass   the number where a check fails and those before it pass
 --     count-refused, run-args, count-run            the answer by that number
-use Prim.Native.Nat.{ℕ, ◌+◌, ◌-◌, ◌*◌, ◌≤◌, ◌<◌, ◌^◌}
-use mathlib.Core.Path.{◌≡◌, refl, sym, ap, ◌∙◌, subst}
+use Prim.Native.Nat.{ℕ, ◌≤◌, ◌<◌, ◌^◌}
+use mathlib.Core.Path.{◌≡◌, refl, sym, ap, ◌∙◌}
 use mathlib.Core.Bool.{Bool, true, false, cond}
-use mathlib.Core.List.{List, [], ◌∷◌, ◌++◌}
+use mathlib.Core.List.{List, [], ◌∷◌}
 use native.Mathlib.Omega.{arith}
 use lib.Dec.{leb, eqb}
 use lib.ListN.{length}
@@ -17,7 +17,7 @@ use Rattle.formats.specs.Checks.{Check, check, first_no}
 use Rattle.formats.specs.Buffers.{limits_fit, buffers_fit, headers_fit, headed_buffers_fit, rule_tables}
 use Rattle.formats.proofs.CheckLaws.{first_no-append-zero, first_no-append-no, Numbered}
 use Rattle.formats.proofs.BufferLaws.{headed-are, are-limits}
-use Rattle.list_laws.proofs.BoolLaws.{and_left, and_right}
+use Rattle.list_laws.proofs.BoolLaws.{and_right}
 use Rattle.tables.specs.Climbs.{View}
 use Rattle.questions.specs.PartAnswers.{view_in}
 use Rattle.choices.specs.node_counts.Capped.{count_limit}

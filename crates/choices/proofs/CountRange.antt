@@ -8,19 +8,18 @@ use mathlib.Core.Bool.{Bool, true, false, cond, ◌&&◌}
 use mathlib.Core.List.{List, [], ◌∷◌, ◌++◌}
 use mathlib.Core.Option.{Option, none, some}
 use native.Mathlib.Omega.{arith}
-use lib.Dec.{leb, ltb, eqb}
+use lib.Dec.{leb, eqb}
 use lib.ListN.{length, get_or}
-use borrow.Author.Tests.{ltb-false, leb-false, ltb-true, leb-true, eqb-false}
+use borrow.Author.Tests.{ltb-false, leb-false, eqb-false}
 use Rattle.list_laws.specs.Tests.{all_below}
-use Rattle.list_laws.proofs.BoolLaws.{true-false, and_left}
+use Rattle.list_laws.proofs.BoolLaws.{true-false}
 use Rattle.list_laws.proofs.TestLaws.{all_below-not}
 use Rattle.list_laws.proofs.RowLaws.{Cell, cell-split}
 use Rattle.tables.specs.node_tables.Cells.{depth_cell, size_cell}
 use Rattle.tables.specs.StateCells.{state_cell}
 use Rattle.tables.specs.declared.answers.Reached.{Reached}
 use Rattle.tables.specs.Climbs.{View, climb_on}
-use Rattle.questions.specs.Roots.{roots_on}
-use Rattle.questions.specs.RootsAnswers.{roots_fit, roots_given}
+use Rattle.questions.specs.RootsAnswers.{roots_fit}
 use Rattle.questions.specs.OutOfRange.{PartOutOfRange, links, children, run, leaf, rule, label}
 use Rattle.questions.proofs.ScanLaws.{last-covers}
 use Rattle.questions.proofs.FitLaws.{Fit, fit-facts, given_yes, given-are}

@@ -1,12 +1,12 @@
 -- What part_row and next_part need and promise.
 --     row-needs, by-open                   one part, by whether its root is listed
 --     row-args, next-lost, put-args, next-done
-use Prim.Native.Nat.{ℕ, zero, suc, ◌+◌, ◌-◌, ◌*◌, ◌≤◌, ◌<◌}
+use Prim.Native.Nat.{ℕ, ◌*◌}
 use mathlib.Core.Path.{◌≡◌, refl, sym, ap, ◌∙◌, subst}
 use mathlib.Core.Bool.{Bool, true, false}
 use mathlib.Core.List.{List, ◌++◌}
 use native.Mathlib.Omega.{arith}
-use lib.ListN.{length, get_or, take}
+use lib.ListN.{length, get_or}
 use lib.Seq.{length-take-le}
 use Rattle.list_laws.proofs.RowLaws.{length-tabulate}
 use Rattle.tables.specs.Climbs.{View}
@@ -14,7 +14,6 @@ use Rattle.questions.specs.inner.PartArgs.{part_view}
 use Rattle.choices.specs.declared.part_steps.carry.Carried.{Carried}
 use Rattle.choices.specs.question_counts.PartOn.{first_label, end_label, part_ok_on, part_count_on}
 use Rattle.choices.specs.question_counts.PartsOn.{row_on}
-use Rattle.choices.specs.question_counts.CountOn.{open_in}
 use Rattle.choices.specs.inner.Part.{PartNeeds, PartCounted}
 use Rattle.choices.specs.inner.Parts.{before, PutArgs, RowPut, NextArgs, RowArgs, RowCounted, NextCounted}
 use Rattle.choices.proofs.RowLoop.{put-rows}

@@ -1,13 +1,13 @@
 -- What places_below and part_counts promise, at each way out.
 --     leaf-places, first-places, outside-places, inner-places    the children and the roots below them
 --     no_label, no-places, placed-args, placed-done              the part
-use Prim.Native.Nat.{ℕ, zero, suc, ◌+◌, ◌-◌, ◌*◌, ◌≤◌, ◌<◌}
-use mathlib.Core.Path.{◌≡◌, refl, sym, ap, ◌∙◌, subst}
-use mathlib.Core.Bool.{Bool, true, false, cond, ◌&&◌}
+use Prim.Native.Nat.{ℕ, ◌+◌, ◌-◌, ◌*◌, ◌≤◌, ◌<◌}
+use mathlib.Core.Path.{◌≡◌, sym, ap, ◌∙◌}
+use mathlib.Core.Bool.{Bool, true, false, cond}
 use mathlib.Core.List.{List}
 use native.Mathlib.Decide.{ℕ_discrete}
 use native.Mathlib.Omega.{arith}
-use lib.Dec.{leb, ltb, eqb}
+use lib.Dec.{leb, ltb}
 use lib.ListN.{length, get_or}
 use borrow.Author.Tests.{lt-ltb, le-ltb, le-leb, lt-leb, eq-eqb, ne_eqb, ltb-true}
 use Rattle.list_laws.proofs.BoolLaws.{and_both, and_left, and-no-left, and-no-right}
@@ -17,10 +17,10 @@ use Rattle.tables.specs.Climbs.{View}
 use Rattle.questions.specs.inner.Scans.{last_in}
 use Rattle.questions.specs.inner.PartArgs.{part_view, path_of}
 use Rattle.questions.proofs.ScanLaws.{last-bound, last-covers}
-use Rattle.choices.specs.node_counts.Capped.{count_limit, capped}
+use Rattle.choices.specs.node_counts.Capped.{capped}
 use Rattle.choices.specs.node_counts.Join.{TableArgs}
 use Rattle.choices.specs.declared.part_steps.carry.Carried.{Carried}
-use Rattle.choices.specs.part_steps.Fork.{fork_ok, ForkArgs}
+use Rattle.choices.specs.part_steps.Fork.{fork_ok}
 use Rattle.choices.specs.part_steps.Root.{root_ok, root_links, root_count, RootArgs, RootDone}
 use Rattle.choices.specs.question_counts.PartOn.{first_label, end_label, left_on, place_on}
 use Rattle.choices.specs.question_counts.PartOn.{part_ok_on, part_links_on, part_count_on}

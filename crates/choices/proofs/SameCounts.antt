@@ -1,18 +1,16 @@
 -- The counts of a root read only some of the inputs: on these alone they are those on all.
 --     root-ok-same, root-links-same, root-count-same
 use Prim.Native.Nat.{ℕ, zero, suc, ◌+◌, ◌-◌, ◌*◌}
-use mathlib.Core.Path.{◌≡◌, refl, sym, ap, ap₂, ◌∙◌}
+use mathlib.Core.Path.{◌≡◌, refl, sym, ap, ap₂}
 use mathlib.Core.Bool.{Bool, true, cond, ◌&&◌}
 use mathlib.Core.List.{List}
-use mathlib.Core.Option.{Option}
 use lib.Dec.{eqb}
 use lib.ListN.{get_or}
 use Rattle.tables.specs.node_tables.Cells.{depth_cell}
-use Rattle.tables.specs.declared.answers.Reached.{Reached}
-use Rattle.tables.specs.Climbs.{View, climb_on}
+use Rattle.tables.specs.Climbs.{View}
 use Rattle.questions.specs.inner.PartArgs.{path_of}
 use Rattle.questions.proofs.PartViews.{climb-same}
-use Rattle.choices.specs.assignments.Sums.{sum_to, one}
+use Rattle.choices.specs.assignments.Sums.{one}
 use Rattle.choices.proofs.assignments.SumLaws.{sum-ext}
 use Rattle.choices.specs.node_counts.Join.{ways_to}
 use Rattle.choices.specs.part_steps.Carry.{state_in, links_in, is_reached, arrives_at, all_arrive}

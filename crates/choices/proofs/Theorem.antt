@@ -1,20 +1,20 @@
 -- The count's promise, from its named result.
 --     count-done
-use Prim.Native.Nat.{ℕ, zero, suc, ◌+◌, ◌-◌, ◌*◌, ◌≤◌, ◌<◌, ◌^◌}
-use mathlib.Core.Path.{◌≡◌, refl, sym, ap, ap₂, ◌∙◌, subst}
-use mathlib.Core.Bool.{Bool, true, false, cond, ◌&&◌}
-use mathlib.Core.List.{List, [], ◌∷◌, ◌++◌}
-use mathlib.Core.Option.{Option, none, some}
+use Prim.Native.Nat.{ℕ, ◌+◌, ◌-◌, ◌*◌, ◌≤◌, ◌<◌, ◌^◌}
+use mathlib.Core.Path.{◌≡◌, refl, sym, ap, ap₂, ◌∙◌}
+use mathlib.Core.Bool.{Bool, true, false, cond}
+use mathlib.Core.List.{List, []}
+use mathlib.Core.Option.{Option, some}
 use native.Mathlib.Decide.{dec_lt, ℕ_discrete}
 use native.Mathlib.Omega.{arith}
 use lib.Dec.{leb, eqb}
-use lib.ListN.{length, get_or, take, drop, replicate, length-take, get_or-eq_default}
+use lib.ListN.{length, get_or, take, length-take, get_or-eq_default}
 use lib.Seq.{length-take-le}
 use borrow.Author.Tests.{ne_eqb}
-use Rattle.trees.specs.Tree.{size, labels_of}
+use Rattle.trees.specs.Tree.{labels_of}
 use Rattle.list_laws.specs.Rows.{tabulate}
 use Rattle.list_laws.specs.Tests.{all_below, distinct}
-use Rattle.list_laws.proofs.BoolLaws.{true-false, and_left, and_right}
+use Rattle.list_laws.proofs.BoolLaws.{and_left, and_right}
 use Rattle.list_laws.proofs.TestLaws.{all_below-all}
 use Rattle.list_laws.proofs.RowLaws.{length-tabulate, get_d_tabulate, tabulate-ext}
 use Rattle.formats.specs.Limits.{change_limit}
@@ -25,21 +25,18 @@ use Rattle.formats.specs.Buffers.{headed_buffers_fit, rule_tables}
 use Rattle.formats.specs.Built.{AsBuilt}
 use Rattle.formats.proofs.BufferLaws.{Headed, headed-are}
 use Rattle.tables.specs.Climbs.{View}
-use Rattle.questions.specs.ready.Members.{roots}
-use Rattle.questions.specs.ready.Parts.{Given, question_links}
+use Rattle.questions.specs.ready.Parts.{Given}
 use Rattle.questions.specs.RootsAnswers.{roots_fit}
 use Rattle.questions.specs.Promises.{RootsAre, Reads}
 use Rattle.questions.specs.OutOfRange.{PartOutOfRange}
 use Rattle.questions.proofs.FitLaws.{fit_all, given-are}
 use Rattle.choices.specs.assignments.Sums.{sum_to}
 use Rattle.choices.specs.assignments.Assignments.{counted}
-use Rattle.choices.specs.assignments.PartCounts.{count_for, tallies}
 use Rattle.choices.proofs.assignments.SumLaws.{sum-ext}
 use Rattle.choices.specs.node_counts.Capped.{count_limit}
 use Rattle.choices.proofs.part_steps.ForkLaws.{zeros-at}
-use Rattle.choices.specs.question_counts.PartsOn.{rows_from}
 use Rattle.choices.specs.question_counts.CountOn.{open_in, count_view, roots_in, list_in, states_inside, all_ok, is_countable}
-use Rattle.choices.specs.question_counts.CountOn.{count_of, links_of, listed_checks, count_number}
+use Rattle.choices.specs.question_counts.CountOn.{count_of, listed_checks, count_number}
 use Rattle.choices.proofs.question_counts.BuiltCounts.{fit-17, listed-are}
 use Rattle.choices.proofs.question_counts.RuleCounts.{rule-roots, rule-countable, rule-links}
 use Rattle.choices.proofs.question_counts.RuleTotals.{rule-exact}

@@ -4,7 +4,7 @@
 --     count-sum          "and their sum is K to the power m"
 --     count-parts        "the parts and links told are those of a question whose W is these nodes and the root"
 --     count-none-open    "With no open node the run's own state has count 1", in one part
-use Prim.Native.Nat.{ℕ, ◌^◌, ◌≤◌, ◌<◌}
+use Prim.Native.Nat.{ℕ, ◌^◌, ◌<◌}
 use mathlib.Core.Path.{◌≡◌, refl, sym, ap, ◌∙◌}
 use mathlib.Core.List.{List, []}
 use native.Mathlib.Decide.{ℕ_discrete}
@@ -12,7 +12,7 @@ use native.Mathlib.Omega.{arith}
 use lib.ListN.{length, get_or}
 use Rattle.trees.specs.Automaton.{state}
 use Rattle.list_laws.proofs.RowLaws.{get_d_tabulate}
-use Rattle.formats.specs.Plan.{node_count, plan_tree}
+use Rattle.formats.specs.Plan.{plan_tree}
 use Rattle.formats.specs.Rules.{state_count, label_count, rule_automaton}
 use Rattle.formats.specs.Checks.{first_no}
 use Rattle.formats.specs.Buffers.{rule_tables}

@@ -7,10 +7,10 @@
 --
 -- "Given a list of different nodes, count the assignments of any of the K labels to them, for each of the S root
 -- states."
-use Rattle.std.specs.Prelude.{ℕ, ◌+◌, ◌-◌, ◌*◌, ◌≤◌, ◌<◌, ◌^◌, ◌≡◌, Bool, cond, List, [], eqb, length, get_or, replicate}
+use Rattle.std.specs.Prelude.{ℕ, ◌-◌, ◌≤◌, ◌^◌, ◌≡◌, cond, List, [], eqb, length, get_or, replicate}
 use Rattle.std.proofs.Math.Option.{some}
 use Rattle.list_laws.specs.Rows.{tabulate}
-use Rattle.trees.specs.Tree.{Tree, size, labels_of}
+use Rattle.trees.specs.Tree.{size, labels_of}
 use Rattle.formats.specs.Limits.{state_limit}
 use Rattle.formats.specs.Plan.{node_count, plan_tree}
 use Rattle.formats.specs.Rules.{state_count, label_count, rule_automaton}

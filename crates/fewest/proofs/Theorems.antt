@@ -7,7 +7,7 @@
 --     zero-is-clear, clear-is-zero 0 exactly where the plan is as wanted already
 --     no-list-is-shorter           where no sets are told, no list of changes that does it has fewer entries, repeats
 --                                  or not
-use Prim.Native.Nat.{ℕ, zero, suc, ◌+◌, ◌*◌, ◌≤◌, ◌<◌}
+use Prim.Native.Nat.{ℕ, zero, suc, ◌≤◌, ◌<◌}
 use mathlib.Core.Path.{◌≡◌, refl, sym, ap, ap₂, ◌∙◌}
 use mathlib.Core.Bool.{Bool, true, false, cond, not, ◌&&◌}
 use mathlib.Core.List.{List}
@@ -18,13 +18,13 @@ use lib.ListN.{length, get_or, take}
 use borrow.Author.Tests.{eq-eqb, ne_eqb, not-true}
 use Rattle.list_laws.specs.Tests.{all_below}
 use Rattle.list_laws.proofs.BoolLaws.{and_left, and_right}
-use Rattle.trees.specs.Tree.{Tree, leaf, node, kinds_of, labels_of}
+use Rattle.trees.specs.Tree.{Tree, kinds_of, labels_of}
 use Rattle.trees.specs.Automaton.{state, accepts}
 use Rattle.trees.specs.Postorder.{tree_of}
 use Rattle.trees.specs.Changes.{changed}
 use Rattle.formats.specs.Limits.{label_limit, change_limit}
 use Rattle.formats.specs.Plan.{labels_within, plan_tree}
-use Rattle.formats.specs.Rules.{state_count, label_count, inner_states, rule_marks, rule_automaton}
+use Rattle.formats.specs.Rules.{label_count, rule_marks, rule_automaton}
 use Rattle.formats.specs.Checks.{first_no, rule_table_checks}
 use Rattle.formats.specs.Passing.{PlanPasses}
 use Rattle.formats.proofs.RuleLaws.{RulesPass, mark-below}

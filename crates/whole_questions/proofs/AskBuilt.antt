@@ -15,8 +15,8 @@ use Rattle.list_laws.proofs.TestLaws.{same_list-is}
 use Rattle.trees.specs.Changes.{changed}
 use Rattle.trees.specs.Climb.{and_then}
 use Rattle.formats.specs.Plan.{node_count, plan_tree, labels_within}
-use Rattle.formats.specs.Rules.{state_count, label_count}
-use Rattle.formats.specs.Checks.{first_no, list_checks, state_table_length}
+use Rattle.formats.specs.Rules.{label_count}
+use Rattle.formats.specs.Checks.{first_no, list_checks}
 use Rattle.formats.specs.Inputs.{Inputs, inputs_of, Sizes, sizes_in, used_state_table, state_table_built}
 use Rattle.formats.specs.Passing.{Built}
 use Rattle.formats.specs.Built.{AsBuilt}

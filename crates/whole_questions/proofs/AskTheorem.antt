@@ -1,7 +1,7 @@
 -- The promise of a whole question.
 --     ask-kept   what holds of an answer for any inputs
 --     ask-done   the whole promise, for any answer equal to askAnswer's
-use Prim.Native.Nat.{ℕ, zero, suc, ◌+◌, ◌<◌}
+use Prim.Native.Nat.{ℕ, zero, suc, ◌+◌}
 use mathlib.Core.Path.{◌≡◌, refl, sym, ap, ◌∙◌, subst}
 use mathlib.Core.List.{List, []}
 use mathlib.Core.Option.{Option, none, some, some-injective}

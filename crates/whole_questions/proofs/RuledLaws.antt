@@ -5,7 +5,6 @@ use mathlib.Core.Path.{◌≡◌, refl, sym, ap, ap₂, ◌∙◌, subst}
 use mathlib.Core.Bool.{Bool, true}
 use mathlib.Core.List.{List, [], ◌∷◌, ◌++◌, append_assoc}
 use mathlib.Core.Option.{Option, some}
-use native.Mathlib.Omega.{arith}
 use Rattle.list_laws.specs.Tests.{all_below}
 use Rattle.trees.specs.Tree.{labels_of}
 use Rattle.trees.specs.Changes.{changed}

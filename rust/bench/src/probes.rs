@@ -1,4 +1,4 @@
-//! The functions of libprobes.a (crates/probes): roots and one part; and, made of the calls in place, Start with some
+//! The functions of libprobes_c.a (crates/probes_c): roots and one part; and, made of the calls in place, Start with some
 //! advances, a whole question, a life of a session and one of eight screens.
 
 use crate::cases::List;

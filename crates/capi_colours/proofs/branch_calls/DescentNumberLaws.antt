@@ -1,6 +1,6 @@
 -- A branch question's answer by colours of a known case, as its number and values.
 use Prim.Native.Nat.{ℕ}
-use mathlib.Core.Path.{◌≡◌, sym, ap, ◌∙◌}
+use mathlib.Core.Path.{◌≡◌, sym, ap}
 use mathlib.Core.Bool.{Bool}
 use Rattle.colour_questions.specs.declared.branch.answers.Descending.{Descending}
 use Rattle.colour_questions.specs.declared.branch.answers.Descending.TheVariants.{Answered, Refused as NotAnswered}

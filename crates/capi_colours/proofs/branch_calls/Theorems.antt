@@ -10,10 +10,9 @@
 --     branch-descent-usable, branch-descent-built  18 never comes where the numbers are as built, the states below S
 --                            and state 0 in each copy; so on tables as built, for any two node numbers
 --     branch-descent-kept    refused: the outputs are unchanged
-use Prim.Native.Nat.{ℕ, ◌-◌, ◌*◌, ◌≤◌, ◌<◌}
+use Prim.Native.Nat.{ℕ, ◌<◌}
 use mathlib.Core.Path.{◌≡◌, refl, sym, ap, ◌∙◌}
 use mathlib.Core.List.{List, ◌++◌}
-use native.Mathlib.Omega.{arith}
 use lib.ListN.{length, drop}
 use Rattle.trees.specs.Numbering.{AtOrBelow}
 use Rattle.formats.specs.Plan.{node_count, plan_tree}
@@ -21,7 +20,6 @@ use Rattle.formats.specs.Rules.{branch_automaton}
 use Rattle.formats.specs.Checks.{first_no}
 use Rattle.branches.specs.declared.answers.Reading.{Reading}
 use Rattle.colours.specs.Descents.{drops, links}
-use mathlib.Core.Option.{some}
 use Rattle.colour_tables.specs.branch.Build.{branch_colour_checks, built_colour_numbers, built_copies, BranchColoured}
 use Rattle.colour_tables.proofs.branch.BuildLaws.{built-coloured}
 use Rattle.colour_questions.specs.declared.branch.answers.Descending.{Descending}

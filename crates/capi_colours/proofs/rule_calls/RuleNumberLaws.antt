@@ -1,6 +1,6 @@
 -- A rule question's answer by colours of a known case, as its number and values.
 use Prim.Native.Nat.{ℕ}
-use mathlib.Core.Path.{◌≡◌, sym, ap, ◌∙◌}
+use mathlib.Core.Path.{◌≡◌, sym, ap}
 use mathlib.Core.Bool.{Bool}
 use Rattle.colour_questions.specs.declared.rule.answers.RuleDescending.{RuleDescending}
 use Rattle.colour_questions.specs.declared.rule.answers.RuleDescending.TheVariants.{Answered, Refused as NotAnswered}

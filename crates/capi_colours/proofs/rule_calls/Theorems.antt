@@ -4,7 +4,7 @@
 --                            child only, at most 45 links for each drop
 --     rule-descent-built     18 never comes on tables as built, for any list
 --     rule-descent-kept      refused: the outputs are unchanged
-use Prim.Native.Nat.{ℕ, ◌*◌, ◌≤◌}
+use Prim.Native.Nat.{ℕ}
 use mathlib.Core.Path.{◌≡◌, refl, sym, ap, ◌∙◌}
 use mathlib.Core.Bool.{Bool, true, false}
 use mathlib.Core.List.{List, [], ◌∷◌}

@@ -4,8 +4,8 @@
 --     counts-fit     so is every count
 -- A partial sum of a part adds products of counts and is at most the part's own total (total-inner, convolved,
 -- pushed).
-use Prim.Native.Nat.{ℕ, zero, suc, ◌+◌, ◌*◌, ◌^◌, ◌-◌, ◌≤◌, ◌<◌}
-use mathlib.Core.Path.{◌≡◌, refl, sym, ap, ◌∙◌, subst}
+use Prim.Native.Nat.{ℕ, ◌+◌, ◌^◌, ◌-◌, ◌≤◌, ◌<◌}
+use mathlib.Core.Path.{◌≡◌, sym, ◌∙◌, subst}
 use mathlib.Core.Bool.{Bool, true, false, cond}
 use mathlib.Core.List.{List}
 use native.Mathlib.Omega.{arith}
@@ -15,12 +15,12 @@ use Rattle.trees.specs.Automaton.{Automaton}
 use Rattle.trees.proofs.NodeLaws.{length-labels, size-pos}
 use Rattle.list_laws.specs.Tests.{all_below, holds, distinct}
 use Rattle.choices.specs.assignments.Sums.{sum_to, LabelSum, open_sum, one}
-use Rattle.choices.specs.assignments.inner.Weights.{weighed, weighed_at}
+use Rattle.choices.specs.assignments.inner.Weights.{weighed_at}
 use Rattle.choices.proofs.assignments.SumLaws.{sum-const}
 use Rattle.choices.proofs.assignments.WeighLaws.{open-linear, open-scales}
 use Rattle.choices.proofs.assignments.TriedAll.{tried-all, all_one}
 use Rattle.choices.proofs.assignments.PartWeights.{at_root}
-use Rattle.choices.proofs.assignments.Vectors.{count, total, count_most, total-most}
+use Rattle.choices.proofs.assignments.Vectors.{total, count_most, total-most}
 
 module _ (A : Automaton) (init : (a : ℕ) → A.ι a < A.states) (next : (p a q : ℕ) → A.δ p a q < A.states) (k : ℕ)
     (some-labels : 1 ≤ k)

@@ -2,43 +2,40 @@
 --     part-counts       the counts of one part, if those before it are right
 --     tallies-right     so all are: not only the plan's root
 --     counts-by-parts   at the root they are the counts by trying all
-use Prim.Native.Nat.{ℕ, zero, suc, ◌+◌, ◌*◌, ◌^◌, ◌-◌, ◌≤◌, ◌<◌}
-use mathlib.Core.Path.{◌≡◌, refl, sym, ap, ap₂, ◌∙◌, subst}
+use Prim.Native.Nat.{ℕ, ◌+◌, ◌*◌, ◌<◌}
+use mathlib.Core.Path.{◌≡◌, refl, sym, ap, ◌∙◌, subst}
 use mathlib.Core.Bool.{Bool, true, false, cond}
 use mathlib.Core.List.Memᴰ
 use mathlib.Core.List.{List, [], ◌∷◌, ◌++◌, append_assoc, append-nil, Memᴰ}
 use mathlib.Core.Logic.{◌⊎◌, inl, inr}
 use native.Mathlib.Decide.{ℕ_discrete}
 use native.Mathlib.Omega.{arith}
-use lib.Dec.{eqb}
 use lib.ListN.{get_or}
 use borrow.Author.Tests.{eq-eqb, ne_eqb}
-use Rattle.trees.specs.Tree.{Tree, size, kind_at, label_at, labels_of}
-use Rattle.trees.specs.Automaton.{Automaton, state}
-use Rattle.list_laws.specs.Rows.{tabulate}
+use Rattle.trees.specs.Tree.{size, kind_at, label_at}
 use Rattle.list_laws.proofs.RowLaws.{get_d_tabulate}
 use Rattle.list_laws.specs.Tests.{all_below, holds, distinct}
-use Rattle.questions.specs.ready.Ready.{left_child, right_child, Fork}
+use Rattle.questions.specs.ready.Ready.{left_child, right_child}
 use Rattle.questions.specs.ready.Members.{Rising}
 use Rattle.questions.specs.ready.Parts.{Given, any_below, highest_below}
 use Rattle.questions.proofs.ready.UnderLaws.{left_in, right_in}
 use Rattle.questions.proofs.ready.HighestLaws.{Highest}
 use Rattle.questions.proofs.ready.ClosedForm.{kind-one}
-use Rattle.questions.proofs.ready.BelowLaws.{some_below, rising-above}
+use Rattle.questions.proofs.ready.BelowLaws.{some_below}
 use Rattle.questions.specs.ready.StaysInside.{StaysInside}
 use Rattle.questions.proofs.ready.PartsRun.{Members, rising-first, rising-not}
 use Rattle.questions.specs.ready.RunGiven.{RunGiven}
 use Rattle.choices.specs.assignments.Assignments.{counted}
 use Rattle.choices.specs.assignments.Sums.{sum_to, LabelSum, open_sum, one}
 use Rattle.choices.specs.assignments.inner.Weights.{weighed, weighed_at}
-use Rattle.choices.specs.assignments.PartCounts.{Tally, tally, tallied, counts_of, count_for, climbed_to, applied_count}
+use Rattle.choices.specs.assignments.PartCounts.{Tally, tallied, counts_of, count_for, climbed_to, applied_count}
 use Rattle.choices.specs.assignments.PartCounts.{inner_count, part_count, part_tally}
 use Rattle.choices.specs.assignments.PartCounts.{tallies_from, tallies}
 use Rattle.choices.proofs.assignments.SumLaws.{sum-ext}
 use Rattle.choices.proofs.assignments.WeighLaws.{open-linear, open-scales}
-use Rattle.choices.proofs.assignments.TriedAll.{counted-weight, counted-sum}
+use Rattle.choices.proofs.assignments.TriedAll.{counted-weight}
 use Rattle.choices.proofs.assignments.PartWeights.{at_root, at_leaf, part-both, part_none, part_left, part_right}
-use Rattle.choices.proofs.assignments.Vectors.{by-counts, convolved}
+use Rattle.choices.proofs.assignments.Vectors.{by-counts}
 
 -- ---- lists of parts
 

@@ -4,10 +4,10 @@
 --     climbed-weight       the weight at c is that at the highest member below c, after the walk from there to c
 --     part_none, part-both, part_left, part_right    the four kinds of part, with document 01's climb
 use Prim.Native.Nat.{ℕ, zero, suc, ◌+◌, ◌-◌, ◌≤◌, ◌<◌}
-use mathlib.Core.Path.{◌≡◌, refl, sym, ap, ap₂, ◌∙◌, subst, fun_ext}
+use mathlib.Core.Path.{◌≡◌, refl, sym, ap, ap₂, ◌∙◌, fun_ext}
 use mathlib.Core.Bool.{Bool, true, false}
 use mathlib.Core.List.{List, Memᴰ}
-use mathlib.Core.Logic.{◌⊎◌, inl, inr}
+use mathlib.Core.Logic.{inl, inr}
 use native.Mathlib.Decide.{ℕ_discrete}
 use native.Mathlib.Omega.{arith}
 use Rattle.trees.specs.Tree.{Tree, size, kind_at, label_at}
@@ -15,16 +15,15 @@ use Rattle.trees.specs.Automaton.{Automaton, state}
 use Rattle.trees.specs.Numbering.{sub, parent, depth, ancestor, InSubtree}
 use Rattle.trees.specs.Climb.{walk}
 use Rattle.trees.specs.Tables.{step_up}
-use Rattle.trees.proofs.NodeLaws.{Up, up, sub-leaf, sub-size, sub-root, below_root}
-use Rattle.trees.proofs.JumpLaws.{ancestor-add, ancestor-in, ancestor-depth, ancestor-above}
-use Rattle.trees.proofs.IntervalLaws.{ancestor-interval, interval-ancestor, above_at}
+use Rattle.trees.proofs.NodeLaws.{Up, up, sub-leaf, sub-size, sub-root}
+use Rattle.trees.proofs.IntervalLaws.{interval-ancestor, above_at}
 use Rattle.trees.proofs.WalkLaws.{walk-add}
 use Rattle.trees.proofs.MapLaws.{step_up-right, step_up-left}
 use Rattle.trees.proofs.RunLaws.{Children, children, state-leaf, state-inner}
 use Rattle.questions.specs.ready.Ready.{left_child, right_child, Closed}
 use Rattle.questions.specs.ready.Parts.{Given, any_below, highest_below, move_states, climb_moves}
-use Rattle.questions.proofs.ready.UnderLaws.{under-self, under-trans, left_in, right_in, left-under, right-under}
-use Rattle.questions.proofs.ready.HighestLaws.{Highest, is_false, path-unlisted, not_left, not_right}
+use Rattle.questions.proofs.ready.UnderLaws.{under-self, left_in, right_in, left-under, right-under}
+use Rattle.questions.proofs.ready.HighestLaws.{Highest, is_false}
 use Rattle.questions.proofs.ready.HighestWalk.{far, way-proper, way-free, way-left, way-right}
 use Rattle.questions.proofs.ready.BelowLaws.{none_below, some_below}
 use Rattle.questions.proofs.ready.ClosedForm.{kind-one}

@@ -5,7 +5,7 @@
 --     total-fits, count_fits   no total and no count of any part is above K to the power m
 -- "the parts and links told are those of a question": they are `roots` and `question_links` of questions/ready, as there.
 use Prim.Native.Nat.{ℕ, ◌+◌, ◌^◌, ◌≤◌, ◌<◌}
-use mathlib.Core.Path.{◌≡◌, ap, ◌∙◌}
+use mathlib.Core.Path.{◌≡◌, ap}
 use mathlib.Core.Bool.{true}
 use mathlib.Core.List.{List, []}
 use native.Mathlib.Omega.{arith}

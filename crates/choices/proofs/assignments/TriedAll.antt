@@ -1,11 +1,10 @@
 -- The counts by trying all are weights of the tree, and add up to K to the power m.
 --     counted-weight    a count is the weight of its state
 --     counted-sum       all counts add up to k ^ m
-use Prim.Native.Nat.{ℕ, zero, suc, ◌+◌, ◌*◌, ◌^◌, ◌≤◌, ◌<◌}
-use mathlib.Core.Path.{◌≡◌, refl, sym, ap, ap₂, ◌∙◌, fun_ext, subst}
-use mathlib.Core.Bool.{Bool, true, false, cond, not, ◌&&◌, ◌||◌}
+use Prim.Native.Nat.{ℕ, zero, suc, ◌+◌, ◌*◌, ◌^◌, ◌<◌}
+use mathlib.Core.Path.{◌≡◌, refl, sym, ap, ap₂, ◌∙◌, fun_ext}
+use mathlib.Core.Bool.{Bool, true, false, cond, not, ◌||◌}
 use mathlib.Core.List.{List, [], ◌∷◌, ◌++◌, map}
-use native.Mathlib.Decide.{ℕ_discrete}
 use native.Mathlib.Omega.{arith}
 use native.Mathlib.Nat.{pow-zero, pow-succ'}
 use lib.Dec.{eqb, ltb}
@@ -22,7 +21,7 @@ use Rattle.trees.proofs.PostorderLaws.{tree_of-is}
 use Rattle.trees.proofs.RunLaws.{state_below}
 use Rattle.list_laws.specs.Tests.{all_below, holds, distinct}
 use Rattle.choices.specs.assignments.Assignments.{gathered, assignments, how_many, counted}
-use Rattle.choices.specs.assignments.Sums.{sum_to, LabelSum, open_sum, one}
+use Rattle.choices.specs.assignments.Sums.{sum_to, open_sum, one}
 use Rattle.choices.specs.assignments.inner.Weights.{weighed}
 use Rattle.choices.proofs.assignments.SumLaws.{sum-ext, sum-swap, sum-const, sum_one}
 use Rattle.choices.proofs.assignments.WeighLaws.{open-linear, weighed-open, weighed-closed, relabelled}

@@ -5,21 +5,19 @@
 --     least-one, up_more  a node's total is at least 1, and its parent's at least as much: no total is above the
 -- root's
 use Prim.Native.Nat.{ℕ, zero, suc, ◌+◌, ◌*◌, ◌-◌, ◌≤◌, ◌<◌}
-use mathlib.Core.Path.{◌≡◌, refl, sym, ap, ap₂, ◌∙◌, subst, fun_ext}
-use mathlib.Core.Bool.{Bool, true, false, cond}
-use mathlib.Core.List.{List}
+use mathlib.Core.Path.{◌≡◌, sym, ap, ◌∙◌, subst, fun_ext}
 use native.Mathlib.Omega.{arith}
 use native.Mathlib.Decide.{ℕ_discrete}
 use native.Mathlib.Nat.{mul-le-mul, mul-le-mul_left}
-use mathlib.Core.Logic.{◌⊎◌, inl, inr}
+use mathlib.Core.Logic.{inl, inr}
 use Rattle.trees.specs.Tree.{Tree, leaf, node, size, kind_at}
 use Rattle.trees.specs.Automaton.{Automaton}
 use Rattle.trees.specs.Numbering.{sub, parent}
 use Rattle.trees.proofs.NodeLaws.{Up, up}
 use Rattle.questions.specs.ready.Ready.{left_child, right_child}
-use Rattle.choices.specs.assignments.Sums.{sum_to, LabelSum, open_sum, one}
+use Rattle.choices.specs.assignments.Sums.{sum_to, LabelSum, one}
 use Rattle.choices.specs.assignments.inner.Weights.{weighed, weighed_at}
-use Rattle.choices.proofs.assignments.SumLaws.{sum-ext, sum_one, sum-times, sum-const, sum-most}
+use Rattle.choices.proofs.assignments.SumLaws.{sum-ext, sum_one, sum-most}
 use Rattle.choices.proofs.assignments.WeighLaws.{Linear, Scales, weighed-sum, weighed-times, weighed-below}
 use Rattle.choices.proofs.assignments.PartWeights.{at_inner}
 

@@ -1,8 +1,8 @@
 -- One iteration of pour, its start and its end.
-use Prim.Native.Nat.{ℕ, zero, suc, ◌+◌, ◌*◌, ◌-◌, ◌≤◌, ◌<◌, min}
-use mathlib.Core.Path.{◌≡◌, refl, sym, ap, ap₂, ◌∙◌, subst}
-use mathlib.Core.Bool.{Bool, true, false, cond}
-use mathlib.Core.List.{List, [], ◌∷◌}
+use Prim.Native.Nat.{ℕ, suc, ◌+◌, ◌*◌, ◌-◌, ◌≤◌, ◌<◌}
+use mathlib.Core.Path.{◌≡◌, sym, ap, ◌∙◌}
+use mathlib.Core.Bool.{true, false}
+use mathlib.Core.List.{List}
 use native.Mathlib.Decide.{ℕ_discrete}
 use native.Mathlib.Omega.{arith}
 use native.Mathlib.Nat.{add-mul}
@@ -13,7 +13,7 @@ use lib.Seq.{get_or-set_same, get_or-set_other}
 use borrow.Author.Tests.{eq-eqb, ne_eqb}
 use Rattle.formats.proofs.PlanLaws.{product-most}
 use Rattle.choices.specs.assignments.Sums.{sum_to, one}
-use Rattle.choices.specs.node_counts.Capped.{count_limit, capped}
+use Rattle.choices.specs.node_counts.Capped.{capped}
 use Rattle.choices.specs.node_counts.Join.{led_to, ways_to, TableArgs, Kept, AccumulateArgs, Accumulated}
 use Rattle.choices.proofs.node_counts.CappedLaws.{capped-add}
 

@@ -1,11 +1,11 @@
 -- Laws of capped sums.
 --     capped-add      a sum may be cut off before the next is added
 --     capped-ways     so may a factor
-use Prim.Native.Nat.{ℕ, zero, suc, ◌+◌, ◌*◌, ◌/◌, ◌≤◌, ◌<◌, min}
-use mathlib.Core.Path.{◌≡◌, refl, sym, ap, ◌∙◌}
+use Prim.Native.Nat.{ℕ, zero, suc, ◌+◌, ◌*◌, ◌/◌, ◌≤◌, ◌<◌}
+use mathlib.Core.Path.{◌≡◌, ap}
 use native.Mathlib.Omega.{arith}
 use native.Mathlib.Decide.{ℕ_discrete}
-use native.Mathlib.Nat.{mul-le-mul, mul-le-mul_left, mul-le-mul_right, add-mul, mul_comm, div-add-mod', mod-lt}
+use native.Mathlib.Nat.{mul-le-mul_right, add-mul, div-add-mod', mod-lt}
 use Rattle.choices.specs.node_counts.Capped.{count_limit, capped}
 
 pub capped-add : (a b : ℕ) → capped (capped a + b) ≡ capped (a + b)

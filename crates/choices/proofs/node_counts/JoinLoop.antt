@@ -1,14 +1,14 @@
 -- One iteration of join_row and of join, their starts and their ends.
-use Prim.Native.Nat.{ℕ, zero, suc, ◌+◌, ◌*◌, ◌-◌, ◌≤◌, ◌<◌, min}
-use mathlib.Core.Path.{◌≡◌, refl, sym, ap, ap₂, ◌∙◌, subst}
-use mathlib.Core.List.{List, [], ◌∷◌}
+use Prim.Native.Nat.{ℕ, ◌+◌, ◌*◌, ◌≤◌, ◌<◌}
+use mathlib.Core.Path.{◌≡◌, ap, ap₂, ◌∙◌}
+use mathlib.Core.List.{List}
 use native.Mathlib.Omega.{arith}
-use native.Mathlib.Nat.{add-mul, mul-add, mul_comm, mul_assoc}
+use native.Mathlib.Nat.{mul-add, mul_comm, mul_assoc}
 use native.Mathlib.Numerals.{add-one}
-use lib.ListN.{length, get_or}
-use Rattle.choices.specs.assignments.Sums.{sum_to, one}
-use Rattle.choices.specs.node_counts.Capped.{count_limit, capped}
-use Rattle.choices.specs.node_counts.Join.{ways_to, TableArgs, Kept, AccumulateArgs, Accumulated, RowArgs, RowJoined, JoinArgs, Joined}
+use lib.ListN.{get_or}
+use Rattle.choices.specs.assignments.Sums.{sum_to}
+use Rattle.choices.specs.node_counts.Capped.{capped}
+use Rattle.choices.specs.node_counts.Join.{ways_to, Kept, AccumulateArgs, Accumulated, RowArgs, RowJoined, JoinArgs, Joined}
 use Rattle.choices.proofs.node_counts.CappedLaws.{capped-add, capped-ways}
 
 -- ---- one row

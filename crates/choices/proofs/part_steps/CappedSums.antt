@@ -1,10 +1,10 @@
 -- A sum of products may have its terms and factors cut off before.
-use Prim.Native.Nat.{ℕ, zero, suc, ◌+◌, ◌*◌, ◌≤◌, ◌<◌, min}
-use mathlib.Core.Path.{◌≡◌, refl, sym, ap, ap₂, ◌∙◌}
+use Prim.Native.Nat.{ℕ, zero, suc, ◌*◌, ◌<◌}
+use mathlib.Core.Path.{◌≡◌, refl, sym, ap, ◌∙◌}
 use native.Mathlib.Omega.{arith}
 use native.Mathlib.Nat.{mul_comm}
 use Rattle.choices.specs.assignments.Sums.{sum_to}
-use Rattle.choices.specs.node_counts.Capped.{count_limit, capped}
+use Rattle.choices.specs.node_counts.Capped.{capped}
 use Rattle.choices.proofs.node_counts.CappedLaws.{capped-ways}
 
 pub capped-sum : (n : ℕ) (f g : ℕ → ℕ) → ((j : ℕ) → j < n → capped (f j) ≡ capped (g j))

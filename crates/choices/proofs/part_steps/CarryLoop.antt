@@ -1,7 +1,7 @@
 -- One iteration of carry_counts, its start and its ends.
-use Prim.Native.Nat.{ℕ, zero, suc, ◌+◌, ◌-◌, ◌*◌, ◌≤◌, ◌<◌, min}
+use Prim.Native.Nat.{ℕ, zero, suc, ◌+◌, ◌-◌, ◌*◌, ◌≤◌, ◌<◌}
 use mathlib.Core.Path.{◌≡◌, refl, sym, ap, ◌∙◌}
-use mathlib.Core.Bool.{Bool, true, false, ◌&&◌}
+use mathlib.Core.Bool.{true, false}
 use mathlib.Core.List.{List}
 use mathlib.Core.Option.{Option, none, some}
 use native.Mathlib.Decide.{ℕ_discrete}
@@ -10,7 +10,6 @@ use native.Mathlib.Nat.{mul_comm}
 use native.Mathlib.Numerals.{add-one}
 use lib.ListN.{get_or, set}
 use Rattle.tables.specs.declared.answers.Reached.{Reached}
-use Rattle.tables.specs.declared.answers.Climbed.{Climbed}
 use Rattle.tables.specs.declared.answers.Climbed.TheVariants.{Reached as To, OutOfRange}
 use Rattle.tables.specs.Climbs.{View, climb_on, climbed_of}
 use Rattle.tables.specs.inner.PathViews.{path_view}
@@ -18,11 +17,10 @@ use Rattle.tables.specs.inner.Steps.{ClimbArgs}
 use Rattle.tables.proofs.ClimbBounds.{climb-bounded}
 use Rattle.choices.specs.assignments.Sums.{sum_to, one}
 use Rattle.list_laws.proofs.BoolLaws.{and_both, and-no-left, and-no-right}
-use Rattle.choices.specs.node_counts.Capped.{count_limit, capped}
+use Rattle.choices.specs.node_counts.Capped.{capped}
 use Rattle.choices.specs.node_counts.Join.{Kept}
 use Rattle.choices.proofs.node_counts.CappedLaws.{capped-add}
 use Rattle.choices.proofs.node_counts.AccumulateLoop.{added-count, added-kept}
-use Rattle.choices.specs.declared.part_steps.carry.Carried.{Carried}
 use Rattle.choices.specs.part_steps.Carry.{state_in, links_in, is_reached, arrives_at, all_arrive, CarryArgs, CarriedUp}
 
 -- what a climb returned

@@ -1,7 +1,7 @@
 -- What fork_counts promises, at each way out.
-use Prim.Native.Nat.{ℕ, zero, suc, ◌+◌, ◌-◌, ◌*◌, ◌≤◌, ◌<◌, min}
+use Prim.Native.Nat.{ℕ, zero, suc, ◌+◌, ◌*◌, ◌≤◌, ◌<◌}
 use mathlib.Core.Path.{◌≡◌, refl, sym, ap, ap₂, ◌∙◌}
-use mathlib.Core.Bool.{Bool, true, false, ◌&&◌}
+use mathlib.Core.Bool.{true, false}
 use mathlib.Core.List.{List}
 use native.Mathlib.Omega.{arith}
 use lib.ListN.{length, get_or, replicate}
@@ -9,10 +9,10 @@ use Rattle.list_laws.proofs.BoolLaws.{and_both, and-no-left, and-no-right}
 use Rattle.tables.specs.Climbs.{View}
 use Rattle.tables.specs.inner.PathViews.{path_view}
 use Rattle.choices.specs.assignments.Sums.{sum_to}
-use Rattle.choices.specs.node_counts.Capped.{count_limit, capped}
-use Rattle.choices.specs.node_counts.Join.{ways_to, TableArgs, Kept, JoinArgs, Joined}
+use Rattle.choices.specs.node_counts.Capped.{capped}
+use Rattle.choices.specs.node_counts.Join.{ways_to, Kept, JoinArgs, Joined}
 use Rattle.choices.specs.declared.part_steps.carry.Carried.{Carried}
-use Rattle.choices.specs.part_steps.Side.{side_ok, side_links, side_count, SideArgs, SideDone}
+use Rattle.choices.specs.part_steps.Side.{side_ok, side_count, SideArgs, SideDone}
 use Rattle.choices.specs.part_steps.Fork.{fork_ok, fork_links, fork_count, ForkArgs, ForkDone}
 use Rattle.choices.proofs.part_steps.CappedSums.{capped-sum, capped-product}
 

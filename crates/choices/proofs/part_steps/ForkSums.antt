@@ -4,7 +4,7 @@
 --     fork-left, fork-right   below one child only: each count at the state that its climb ends in
 --     fork-none            below none: the run's states
 --     ways-open, ways-own  every label of an open node, and the own label alone of another
-use Prim.Native.Nat.{ℕ, zero, suc, ◌+◌, ◌-◌, ◌*◌, ◌≤◌, ◌<◌}
+use Prim.Native.Nat.{ℕ, suc, ◌+◌, ◌-◌, ◌*◌, ◌<◌}
 use mathlib.Core.Path.{◌≡◌, refl, sym, ap, ◌∙◌}
 use mathlib.Core.List.{List}
 use native.Mathlib.Omega.{arith}

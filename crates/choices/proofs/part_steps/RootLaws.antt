@@ -1,16 +1,15 @@
 -- What root_counts promises, at each way out.
-use Prim.Native.Nat.{ℕ, zero, suc, ◌+◌, ◌-◌, ◌*◌, ◌≤◌, ◌<◌, min}
-use mathlib.Core.Path.{◌≡◌, refl, sym, ap, ◌∙◌, subst}
-use mathlib.Core.Bool.{Bool, true, false, cond}
+use Prim.Native.Nat.{ℕ, ◌+◌, ◌-◌}
+use mathlib.Core.Path.{◌≡◌, refl, ◌∙◌, subst}
+use mathlib.Core.Bool.{true}
 use mathlib.Core.List.{List}
 use native.Mathlib.Omega.{arith}
-use lib.ListN.{length, get_or}
+use lib.ListN.{get_or}
 use borrow.Author.Tests.{eq-eqb, ne_eqb}
 use Rattle.tables.specs.node_tables.Cells.{depth_cell}
 use Rattle.tables.specs.Climbs.{View}
 use Rattle.tables.specs.inner.PathViews.{path_view}
-use Rattle.choices.specs.node_counts.Capped.{count_limit, capped}
-use Rattle.choices.specs.node_counts.Join.{ways_to, Kept, AccumulateArgs, Accumulated}
+use Rattle.choices.specs.node_counts.Join.{AccumulateArgs, Accumulated}
 use Rattle.choices.specs.declared.part_steps.carry.Carried.{Carried}
 use Rattle.choices.specs.part_steps.Fork.{ForkDone}
 use Rattle.choices.specs.part_steps.Root.{root_ok, root_links, root_count, RootArgs, RootDone}

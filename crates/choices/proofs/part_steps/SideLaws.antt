@@ -1,16 +1,15 @@
 -- What copy_row and side_counts promise, at each way out.
-use Prim.Native.Nat.{ℕ, zero, suc, ◌+◌, ◌-◌, ◌*◌, ◌≤◌, ◌<◌, min}
-use mathlib.Core.Path.{◌≡◌, refl, sym, ap, ◌∙◌, subst}
+use Prim.Native.Nat.{ℕ, suc, ◌+◌, ◌-◌, ◌*◌, ◌≤◌, ◌<◌}
+use mathlib.Core.Path.{◌≡◌, refl, sym, ap, ◌∙◌}
 use mathlib.Core.Bool.{Bool, true, false}
 use mathlib.Core.List.{List}
 use mathlib.Core.Option.{Option, none, some}
 use native.Mathlib.Decide.{ℕ_discrete}
 use native.Mathlib.Omega.{arith}
-use lib.Dec.{ltb, eqb}
+use lib.Dec.{ltb}
 use lib.ListN.{length, get_or, set, length-set, get_or-eq_default}
 use lib.Seq.{get_or-set_same, get_or-set_other}
 use borrow.Author.Tests.{lt-ltb, le-ltb, eq-eqb, ne_eqb, ltb-true, ltb-false}
-use Rattle.trees.proofs.MoveLaws.{none-some}
 use Rattle.tables.specs.StateCells.{state_cell}
 use Rattle.tables.specs.declared.answers.Reached.{Reached}
 use Rattle.tables.specs.Climbs.{View, below, run_on, climb_on}
@@ -19,10 +18,9 @@ use Rattle.tables.proofs.LookupLaws.{below-yes, below-no, below-state, below_non
 use Rattle.tables.proofs.ClimbBounds.{climb-bounded}
 use Rattle.choices.specs.assignments.Sums.{sum_to, one}
 use Rattle.choices.proofs.assignments.SumLaws.{sum-ext}
-use Rattle.choices.specs.node_counts.Capped.{count_limit, capped}
-use Rattle.choices.specs.node_counts.Join.{Kept}
+use Rattle.choices.specs.node_counts.Capped.{count_limit}
 use Rattle.choices.specs.declared.part_steps.carry.Carried.{Carried}
-use Rattle.choices.specs.part_steps.Carry.{links_in, arrives_at, all_arrive, CarryArgs, CarriedUp}
+use Rattle.choices.specs.part_steps.Carry.{links_in, arrives_at, CarryArgs, CarriedUp}
 use Rattle.choices.specs.part_steps.Side.{count_in, side_ok, side_links, side_count, RowArgs, RowCopied, SideArgs, SideDone}
 
 -- ---- copy_row

@@ -5,7 +5,7 @@
 --     built-fits       the list is one that has roots
 --     built-counts     the counts are those of the definition by trying all: nothing is cut off
 --     built-sum        their sum is K to the power m
-use Prim.Native.Nat.{ℕ, zero, suc, ◌+◌, ◌-◌, ◌*◌, ◌^◌, ◌≤◌, ◌<◌, min}
+use Prim.Native.Nat.{ℕ, ◌+◌, ◌-◌, ◌*◌, ◌^◌, ◌≤◌, ◌<◌}
 use mathlib.Core.Path.{◌≡◌, refl, sym, ap, ap₂, ◌∙◌, subst}
 use mathlib.Core.Bool.{Bool, true, false, cond, ◌&&◌}
 use mathlib.Core.List.{List, [], ◌∷◌, ◌++◌}
@@ -18,17 +18,17 @@ use borrow.Author.Tests.{le-leb, leb-true, ne_eqb}
 use Rattle.trees.specs.Tree.{Tree, size, kinds_of, labels_of}
 use Rattle.trees.specs.Postorder.{tree_of}
 use Rattle.trees.specs.Changes.{changed}
-use Rattle.trees.specs.Automaton.{Automaton, state}
-use Rattle.trees.specs.Tables.{state_map, state_row, state_table_of, node_table_of}
+use Rattle.trees.specs.Automaton.{Automaton}
+use Rattle.trees.specs.Tables.{state_row, state_table_of}
 use Rattle.trees.proofs.MapLaws.{state_map-below}
 use Rattle.trees.proofs.NodeLaws.{size-pos}
 use Rattle.trees.proofs.RunLaws.{state_below}
 use Rattle.trees.proofs.TableRows.{length-state_row, state_table_of-state, state_table_of-map}
 use Rattle.trees.specs.Numbering.{sub}
-use Rattle.list_laws.specs.Tests.{all_below, holds, distinct}
+use Rattle.list_laws.specs.Tests.{all_below, distinct}
 use Rattle.list_laws.proofs.RowLaws.{length-rows, length-tabulate}
-use Rattle.formats.specs.Limits.{node_limit, change_limit, within}
-use Rattle.formats.specs.Plan.{node_count, plan_tree, labels_within}
+use Rattle.formats.specs.Limits.{node_limit, change_limit}
+use Rattle.formats.specs.Plan.{node_count, plan_tree}
 use Rattle.formats.specs.Rules.{state_count, label_count, rule_automaton}
 use Rattle.formats.specs.Checks.{Check, check, first_no, node_table_length}
 use Rattle.formats.specs.Built.{AsBuilt, node_table_part, state_table_part}

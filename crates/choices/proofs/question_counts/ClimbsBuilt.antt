@@ -3,14 +3,13 @@
 --     all-arrive     no climb leads outside
 --     climb-links    its links
 use Prim.Native.Nat.{ℕ, zero, suc, ◌-◌, ◌≤◌, ◌<◌}
-use mathlib.Core.Path.{◌≡◌, refl, sym, ap, ap₂, ◌∙◌, subst}
+use mathlib.Core.Path.{◌≡◌, refl, ap, ap₂, ◌∙◌}
 use mathlib.Core.Bool.{Bool, true, ◌&&◌}
-use mathlib.Core.Option.{Option, some}
+use mathlib.Core.Option.{some}
 use native.Mathlib.Omega.{arith}
 use lib.ListN.{length}
 use Rattle.trees.specs.Tree.{size}
 use Rattle.trees.specs.Numbering.{depth}
-use Rattle.tables.specs.declared.answers.Reached.{Reached}
 use Rattle.tables.specs.Climbs.{View, climb_on, reached}
 use Rattle.questions.specs.ready.Parts.{Given, move_states, climb_moves}
 use Rattle.questions.specs.Promises.{Reads}

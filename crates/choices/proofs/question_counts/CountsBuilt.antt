@@ -2,20 +2,19 @@
 --     part-ok        a part never leads outside
 --     part-links     its links are the question's
 --     part-count     its counts are choices/assignments' `part_count`
-use Prim.Native.Nat.{ℕ, zero, suc, ◌+◌, ◌-◌, ◌*◌, ◌≤◌, ◌<◌, min}
-use mathlib.Core.Path.{◌≡◌, refl, sym, ap, ap₂, ◌∙◌, subst}
+use Prim.Native.Nat.{ℕ, ◌+◌, ◌-◌, ◌*◌, ◌≤◌, ◌<◌}
+use mathlib.Core.Path.{◌≡◌, refl, sym, ap, ap₂, ◌∙◌}
 use mathlib.Core.Bool.{Bool, true, false, cond, ◌&&◌}
-use mathlib.Core.List.{List, [], ◌∷◌, ◌++◌, Memᴰ}
+use mathlib.Core.List.{List, ◌∷◌, ◌++◌, Memᴰ}
 use native.Mathlib.Decide.{ℕ_discrete}
 use native.Mathlib.Omega.{arith}
-use lib.Dec.{leb, ltb, eqb}
+use lib.Dec.{leb}
 use lib.ListN.{length, get_or}
 use borrow.Author.Tests.{lt-ltb, le-leb, eq-eqb, ne_eqb}
-use Rattle.trees.specs.Tree.{Tree, size, kind_at, labels_of}
+use Rattle.trees.specs.Tree.{size, kind_at, labels_of}
 use Rattle.trees.specs.Numbering.{sub, depth}
 use Rattle.trees.proofs.NodeLaws.{Inner, inner, up}
 use Rattle.tables.specs.node_tables.Cells.{depth_cell, size_cell}
-use Rattle.tables.specs.StateCells.{state_cell}
 use Rattle.tables.specs.Climbs.{View}
 use Rattle.questions.specs.ready.Ready.{left_child, right_child}
 use Rattle.questions.specs.ready.Parts.{Given, any_below, highest_below, climbed_links, inner_links, part_links}
@@ -28,15 +27,14 @@ use Rattle.questions.specs.Promises.{Reads}
 use Rattle.choices.specs.assignments.Sums.{sum_to, open_sum, one}
 use Rattle.choices.specs.assignments.PartCounts.{Tally, count_for, climbed_to, applied_count, inner_count, part_count}
 use Rattle.choices.proofs.assignments.SumLaws.{sum-ext}
-use Rattle.choices.specs.node_counts.Capped.{count_limit, capped}
+use Rattle.choices.specs.node_counts.Capped.{capped}
 use Rattle.choices.specs.node_counts.Join.{led_to, ways_to}
-use Rattle.choices.specs.part_steps.Carry.{arrives_at}
-use Rattle.choices.specs.part_steps.Side.{count_in, side_ok, side_links}
+use Rattle.choices.specs.part_steps.Side.{count_in}
 use Rattle.choices.specs.part_steps.Fork.{fork_ok, fork_links, fork_count}
 use Rattle.choices.specs.part_steps.Root.{root_links, root_count}
 use Rattle.choices.proofs.part_steps.ForkSums.{fork-both, fork-left, fork-right, fork-none, ways-open, ways-own}
 use Rattle.choices.proofs.part_steps.CappedSums.{capped-sum, capped-product}
-use Rattle.choices.specs.question_counts.PartOn.{first_label, end_label, left_on, children_on, place_on, part_ok_on, part_links_on}
+use Rattle.choices.specs.question_counts.PartOn.{first_label, end_label, left_on, place_on, part_ok_on, part_links_on}
 use Rattle.choices.specs.question_counts.PartOn.{part_count_on}
 use Rattle.choices.proofs.question_counts.RootPlaces.{Place}
 use Rattle.choices.proofs.question_counts.SidesBuilt as sides

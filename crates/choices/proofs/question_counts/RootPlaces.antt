@@ -2,7 +2,7 @@
 --     place_none     no root is below the child: place 0
 --     place-some     else the place from 1 of the highest
 -- The last root found is questions' (PartBuilt), which finds it with a state: here any state serves.
-use Prim.Native.Nat.{ℕ, zero, suc, ◌+◌, ◌≤◌, ◌<◌}
+use Prim.Native.Nat.{ℕ, zero, suc, ◌≤◌, ◌<◌}
 use mathlib.Core.Path.{◌≡◌, refl, sym, ap, ◌∙◌, subst}
 use mathlib.Core.Bool.{Bool, true, false, cond}
 use mathlib.Core.List.{List, [], ◌∷◌, ◌++◌}

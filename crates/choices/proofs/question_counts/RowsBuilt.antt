@@ -3,7 +3,7 @@
 --     all-links      the links of all are the question's
 --     none_above     no count at states from S on
 --     all-rows       the counts of each are the rule's, cut off at the limit
-use Prim.Native.Nat.{ℕ, zero, suc, ◌+◌, ◌-◌, ◌*◌, ◌≤◌, ◌<◌, min}
+use Prim.Native.Nat.{ℕ, zero, suc, ◌+◌, ◌*◌, ◌≤◌, ◌<◌}
 use mathlib.Core.Path.{◌≡◌, refl, sym, ap, ap₂, ◌∙◌, subst}
 use mathlib.Core.Bool.{Bool, true, false, cond, ◌&&◌}
 use mathlib.Core.List.{List, [], ◌∷◌, ◌++◌, append_assoc, append-nil, Memᴰ}
@@ -13,7 +13,7 @@ use lib.Dec.{eqb}
 use lib.ListN.{length, get_or, length-append, get_or-append, get_or-eq_default}
 use lib.Seq.{get_or-append-add, get_or-append_seam}
 use borrow.Author.Tests.{ne_eqb}
-use Rattle.trees.specs.Tree.{size, kind_at, labels_of}
+use Rattle.trees.specs.Tree.{kind_at, labels_of}
 use Rattle.list_laws.specs.Rows.{tabulate}
 use Rattle.list_laws.proofs.RowLaws.{get_d_tabulate, length-tabulate}
 use Rattle.tables.specs.Climbs.{View}
@@ -23,13 +23,13 @@ use Rattle.questions.specs.ready.Parts.{Given, any_below, highest_below, sum_of,
 use Rattle.questions.proofs.ready.PartsRun.{Members, rising-not}
 use Rattle.questions.specs.Promises.{Reads}
 use Rattle.choices.specs.assignments.Sums.{sum_to, open_sum, one}
-use Rattle.choices.specs.assignments.PartCounts.{Tally, tally, tallied, counts_of, count_for, climbed_to, applied_count, inner_count}
+use Rattle.choices.specs.assignments.PartCounts.{Tally, tallied, count_for, climbed_to, applied_count, inner_count}
 use Rattle.choices.specs.assignments.PartCounts.{part_count, part_tally, tallies_from}
 use Rattle.choices.proofs.assignments.SumLaws.{sum-ext, sum-zero}
 use Rattle.choices.proofs.assignments.CountedParts.{tallied-more, counts_kept, counts-new}
-use Rattle.choices.specs.node_counts.Capped.{count_limit, capped}
+use Rattle.choices.specs.node_counts.Capped.{capped}
 use Rattle.choices.specs.part_steps.Side.{count_in}
-use Rattle.choices.specs.question_counts.PartOn.{part_ok_on, part_links_on, part_count_on}
+use Rattle.choices.specs.question_counts.PartOn.{part_count_on}
 use Rattle.choices.specs.question_counts.PartsOn.{parts_ok, links_from, row_on, rows_from}
 use Rattle.choices.proofs.question_counts.CountsBuilt.{RowsAre, part-ok, part-links, part-count}
 

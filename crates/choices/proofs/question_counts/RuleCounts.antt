@@ -3,17 +3,16 @@
 --     rule-countable   18 is not given
 --     rule-links       the links are the question's
 --     rule-counts      the counts are those of choices/assignments, part by part, cut off at the limit
-use Prim.Native.Nat.{ℕ, zero, suc, ◌+◌, ◌-◌, ◌*◌, ◌≤◌, ◌<◌}
-use mathlib.Core.Path.{◌≡◌, refl, sym, ap, ap₂, ◌∙◌, subst}
+use Prim.Native.Nat.{ℕ, ◌+◌, ◌-◌, ◌*◌, ◌≤◌, ◌<◌}
+use mathlib.Core.Path.{◌≡◌, refl, ap, ap₂, ◌∙◌}
 use mathlib.Core.Bool.{Bool, true, ◌&&◌}
 use mathlib.Core.List.{List, [], ◌∷◌, ◌++◌}
 use mathlib.Core.Option.{Option, some}
 use native.Mathlib.Omega.{arith}
 use lib.ListN.{length, get_or, length-append}
 use lib.Seq.{get_or-append_seam}
-use Rattle.trees.specs.Tree.{Tree, size, labels_of}
+use Rattle.trees.specs.Tree.{size, labels_of}
 use Rattle.trees.proofs.NodeLaws.{size-pos}
-use Rattle.list_laws.specs.Tests.{all_below, holds}
 use Rattle.list_laws.proofs.TestLaws.{at-all_below}
 use Rattle.tables.specs.Climbs.{View}
 use Rattle.questions.specs.ready.Members.{ready_list, roots}
@@ -21,16 +20,14 @@ use Rattle.questions.specs.ready.Parts.{Given, question_links}
 use Rattle.questions.proofs.ready.PartsRun.{Members}
 use Rattle.questions.proofs.ready.ListLaws.{list-members, list-last}
 use Rattle.questions.specs.Roots.{roots_on}
-use Rattle.questions.specs.RootsAnswers.{roots_fit, roots_given}
+use Rattle.questions.specs.RootsAnswers.{roots_fit}
 use Rattle.questions.specs.Promises.{Reads}
 use Rattle.questions.proofs.FitLaws.{fit-facts, given_yes}
 use Rattle.questions.proofs.Promised.{all_small}
 use Rattle.questions.proofs.RootsBuilt.{roots-built}
 use Rattle.choices.specs.assignments.PartCounts.{count_for, tallies}
 use Rattle.choices.specs.node_counts.Capped.{capped}
-use Rattle.choices.specs.question_counts.PartsOn.{parts_ok, links_from, rows_from}
 use Rattle.choices.specs.question_counts.CountOn.{open_in, roots_in, states_inside, all_ok, is_countable, count_of, links_of}
-use Rattle.choices.proofs.question_counts.CountsBuilt.{RowsAre}
 use Rattle.choices.proofs.question_counts.RowsBuilt.{all-ok, all-links, all-rows}
 
 module _ (X : View) (G : Given) (R : Reads X G) (plain : G.labels ≡ labels_of G.tree) (few : X.s ≤ 16) (vs : List ℕ)

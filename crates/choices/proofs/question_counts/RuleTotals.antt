@@ -3,22 +3,21 @@
 --                    maps: its total depends on the labels alone
 --     rule-sum       at the plan's root that is K to the power m
 --     rule-exact     so the counts returned are those of the rule, and nothing is cut off
-use Prim.Native.Nat.{ℕ, zero, suc, ◌+◌, ◌-◌, ◌*◌, ◌^◌, ◌≤◌, ◌<◌, min}
-use mathlib.Core.Path.{◌≡◌, refl, sym, ap, ap₂, ◌∙◌, subst}
+use Prim.Native.Nat.{ℕ, ◌-◌, ◌*◌, ◌^◌, ◌≤◌, ◌<◌}
+use mathlib.Core.Path.{◌≡◌, refl, sym, ap, ap₂, ◌∙◌}
 use mathlib.Core.Bool.{Bool, true, false, cond}
 use mathlib.Core.List.{List, [], ◌∷◌, ◌++◌}
 use native.Mathlib.Decide.{dec_lt}
 use native.Mathlib.Omega.{arith}
-use native.Mathlib.Nat.{mul_comm, mul_assoc}
+use native.Mathlib.Nat.{mul_comm}
 use lib.Dec.{eqb}
 use lib.ListN.{length, get_or}
-use Rattle.trees.specs.Tree.{Tree, size, kind_at, labels_of}
+use Rattle.trees.specs.Tree.{size, kind_at, labels_of}
 use Rattle.trees.specs.Automaton.{Automaton}
 use Rattle.trees.specs.Numbering.{sub}
 use Rattle.trees.proofs.MapLaws.{state_map-below}
 use Rattle.trees.proofs.NodeLaws.{size-pos}
 use Rattle.trees.proofs.RunLaws.{state_below}
-use Rattle.list_laws.specs.Rows.{tabulate}
 use Rattle.list_laws.specs.Tests.{all_below, distinct}
 use Rattle.list_laws.proofs.RowLaws.{get_d_tabulate}
 use Rattle.tables.specs.Climbs.{View}
@@ -36,7 +35,7 @@ use Rattle.choices.specs.assignments.PartCounts.{Tally, counts_of, count_for, cl
 use Rattle.choices.specs.assignments.PartCounts.{part_tally, tallies_from, tallies}
 use Rattle.choices.proofs.assignments.SumLaws.{sum-ext, sum-swap, sum-times, sum_one, sum-most, sum-zero}
 use Rattle.choices.proofs.assignments.Theorems.{sum-is-the-power, parts-are-tried}
-use Rattle.choices.specs.node_counts.Capped.{count_limit, capped}
+use Rattle.choices.specs.node_counts.Capped.{count_limit}
 use Rattle.choices.specs.question_counts.CountOn.{open_in, count_of}
 use Rattle.choices.proofs.question_counts.BuiltCounts.{tallies-none}
 use Rattle.choices.proofs.question_counts.RuleCounts.{rule-counts}

@@ -6,7 +6,7 @@
 --     as-built-counts                  "the counts are those of the definition by trying all"
 --     as-built-sum                     "and their sum is K to the power m"
 -- On other bytes below S: RuleCounts, rule-roots, rule-countable, rule-links, rule-counts.
-use Prim.Native.Nat.{ℕ, ◌-◌, ◌^◌, ◌<◌}
+use Prim.Native.Nat.{ℕ, ◌^◌, ◌<◌}
 use mathlib.Core.Path.{◌≡◌, refl, ◌∙◌}
 use mathlib.Core.Bool.{true}
 use mathlib.Core.List.{List}

@@ -11,9 +11,8 @@
 -- plan's own labels.
 -- "They are reckoned part by part, and the parts and links by-part are those of a question": `roots` and
 -- `question_links` of ready's specs.
-use Rattle.std.specs.Prelude.{ℕ, ◌+◌, ◌*◌, ◌-◌, Bool, cond, List, [], ◌∷◌, ◌++◌, eqb, get_or}
+use Rattle.std.specs.Prelude.{ℕ, ◌*◌, Bool, cond, List, [], ◌∷◌, ◌++◌, eqb, get_or}
 use Rattle.trees.specs.Tree.{kind_at}
-use Rattle.trees.specs.Automaton.{Automaton}
 use Rattle.list_laws.specs.Rows.{tabulate}
 use Rattle.questions.specs.ready.Ready.{left_child, right_child}
 use Rattle.questions.specs.ready.Parts.{Given, any_below, highest_below, move_states, climb_moves}

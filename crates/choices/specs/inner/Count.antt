@@ -3,8 +3,7 @@
 -- counted_for X vs ms == the count for the roots ms, or 18
 -- counted_on X vs == the count for those of the list vs, or 18
 -- RootArgs, OnArgs, RunArgs == every read is inside: for given roots, for runs, and for whole plan, rules and tables
-use Rattle.std.specs.Prelude.{ℕ, ◌+◌, ◌*◌, ◌≤◌, ◌<◌, ◌≡◌, Bool, true, cond, List, [], length, get_or}
-use Rattle.list_laws.specs.Tests.{all_below}
+use Rattle.std.specs.Prelude.{ℕ, ◌≤◌, ◌<◌, ◌≡◌, true, cond, List, [], length, get_or}
 use Rattle.formats.specs.Limits.{node_limit, change_limit, part_limit}
 use Rattle.formats.specs.Rules.{rule_length}
 use Rattle.formats.specs.Buffers.{limits_fit, buffers_fit}

@@ -5,7 +5,7 @@
 -- RowArgs, RowCounted == the counts of root v, from those of the roots before it in the table
 -- NextArgs, NextCounted == the same, written into the table behind them
 -- AllArgs, AllCounted X vs ms a m == answer a and table m are those of all parts
-use Rattle.std.specs.Prelude.{ℕ, ◌+◌, ◌*◌, ◌≤◌, ◌<◌, ◌≡◌, Bool, true, List, [], ◌++◌, length, get_or, take}
+use Rattle.std.specs.Prelude.{ℕ, ◌+◌, ◌*◌, ◌≤◌, ◌<◌, ◌≡◌, true, List, [], ◌++◌, length, get_or, take}
 use Rattle.formats.specs.Limits.{node_limit, state_limit, part_limit}
 use Rattle.tables.specs.Climbs.{View}
 use Rattle.choices.specs.node_counts.Capped.{count_limit}

@@ -8,7 +8,7 @@
 --   added to l
 --
 -- All states are climbed from, also those without a count: 18 where any of these climbs leads outside.
-use Rattle.std.specs.Prelude.{ℕ, zero, suc, ◌+◌, ◌-◌, ◌*◌, ◌≤◌, ◌<◌, ◌≡◌, Bool, true, false, ◌&&◌, List, get_or}
+use Rattle.std.specs.Prelude.{ℕ, zero, suc, ◌+◌, ◌-◌, ◌*◌, ◌<◌, ◌≡◌, Bool, true, false, ◌&&◌, List, get_or}
 use Rattle.std.proofs.Math.Option.{Option, none, some}
 use Rattle.formats.specs.Limits.{state_limit}
 use Rattle.tables.specs.declared.answers.Reached.{Reached}

@@ -4,7 +4,7 @@
 --   links, and how many choices end in state c; i and j are the places from 1, among the earlier roots es with the
 --   counts cs, of the last roots below the children l and r, 0 for none; the node's labels are those from b to before e
 -- ForkArgs, ForkDone == needs and promise of the function
-use Rattle.std.specs.Prelude.{ℕ, ◌+◌, ◌-◌, ◌*◌, ◌≤◌, ◌<◌, ◌≡◌, Bool, true, ◌&&◌, List, length, get_or}
+use Rattle.std.specs.Prelude.{ℕ, ◌+◌, ◌*◌, ◌≤◌, ◌<◌, ◌≡◌, Bool, true, ◌&&◌, List, length, get_or}
 use Rattle.formats.specs.Limits.{state_limit, part_limit}
 use Rattle.tables.specs.Climbs.{View}
 use Rattle.tables.specs.inner.PathViews.{PathArgs}

@@ -2,7 +2,7 @@
 --     ask-built   on tables as built: the word automaton's answer where the lower node is at or below the upper
 --     ask-apart   16 where it is not, so 18 never
 --     ask-done    the whole promise, for any answer equal to colourAskAnswer's
-use Prim.Native.Nat.{ℕ, ◌+◌, ◌-◌, ◌≤◌, ◌<◌}
+use Prim.Native.Nat.{ℕ, ◌+◌, ◌≤◌, ◌<◌}
 use mathlib.Core.Path.{◌≡◌, refl, sym, ap, ◌∙◌, subst}
 use mathlib.Core.Bool.{Bool, true, false}
 use mathlib.Core.List.{List}

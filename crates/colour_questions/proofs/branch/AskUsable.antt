@@ -1,7 +1,7 @@
 -- Tables that lead nowhere outside.
 --     size_is, links_are, cells   what the node table and the numbers say
 --     usable-in-range   where the numbers are as built, the states below S and state 0 in each copy: so 18 never comes
-use Prim.Native.Nat.{ℕ, ◌+◌, ◌*◌, ◌≤◌, ◌<◌}
+use Prim.Native.Nat.{ℕ, ◌+◌, ◌*◌, ◌<◌}
 use mathlib.Core.Path.{◌≡◌, sym, subst}
 use mathlib.Core.List.{List}
 use native.Mathlib.Omega.{arith}

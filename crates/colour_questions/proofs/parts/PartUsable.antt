@@ -17,7 +17,7 @@ use Rattle.trees.specs.Climb.{and_then, digits, walk}
 use Rattle.trees.specs.Numbering.{sub, depth}
 use Rattle.trees.proofs.NodeLaws.{Inner, inner}
 use Rattle.tables.specs.node_tables.Cells.{size_cell}
-use Rattle.tables.specs.Climbs.{View, below, run_on, rule_on}
+use Rattle.tables.specs.Climbs.{View, run_on, rule_on}
 use Rattle.tables.specs.inner.PathViews.{rules_view}
 use Rattle.questions.specs.ready.Ready.{left_child, right_child}
 use Rattle.questions.specs.ready.StaysInside.{StaysInside}
@@ -37,7 +37,6 @@ use Rattle.colour_tables.specs.ColourCells.{cell_table}
 use Rattle.colours.proofs.DescentLaws.{all_append}
 use Rattle.colours.specs.Descents.{AllLe}
 use Rattle.colour_questions.specs.parts.Searches.{found_searches}
-use Rattle.colour_questions.specs.parts.Sides as sides
 use Rattle.colour_questions.specs.parts.Trials.{tried_state, inner_by_trials, part_by_trials, side_trials, part_trials}
 use Rattle.colours.proofs.Theorems.{set-targets}
 use Rattle.colours.specs.Answers.{SetAnswer}

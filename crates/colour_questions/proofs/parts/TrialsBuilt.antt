@@ -2,7 +2,7 @@
 --     part-state      a part's state by its trials is that of "Parts of a question"
 --     part-searches   its searches are those of the tree's own colours
 --     all-trials      so of all parts, one after the other
-use Prim.Native.Nat.{ℕ, ◌-◌, ◌≤◌, ◌<◌}
+use Prim.Native.Nat.{ℕ, ◌≤◌, ◌<◌}
 use mathlib.Core.Path.{◌≡◌, refl, sym, ap, ap₂, ◌∙◌, subst}
 use mathlib.Core.Bool.{Bool, true, false, cond}
 use mathlib.Core.List.Memᴰ

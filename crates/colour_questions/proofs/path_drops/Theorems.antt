@@ -1,6 +1,6 @@
 -- A branch question's descents on tables of colours as built.
 --     upper-built, below-built   they are those by the tree's own colours, with the upper node and without it
-use Prim.Native.Nat.{ℕ, ◌+◌, ◌-◌, ◌<◌}
+use Prim.Native.Nat.{ℕ, ◌+◌, ◌<◌}
 use mathlib.Core.Path.{◌≡◌}
 use mathlib.Core.List.{List}
 use mathlib.Core.Option.{some}

@@ -8,7 +8,6 @@ use mathlib.Core.Bool.{Bool, true}
 use mathlib.Core.List.{List, []}
 use mathlib.Core.Option.{Option, some}
 use native.Mathlib.Omega.{arith}
-use lib.Dec.{leb}
 use lib.ListN.{length, drop, length-drop}
 use lib.Seq.{ext_get_or, get_or-take, get_or-drop}
 use borrow.Author.Tests.{le-leb, leb-true}
@@ -33,7 +32,7 @@ use Rattle.questions.specs.ready.Members.{roots}
 use Rattle.questions.specs.ready.Parts.{Given, last_state}
 use Rattle.questions.proofs.ready.ListLaws.{list-members}
 use Rattle.questions.specs.PartInputs.{given_of}
-use Rattle.questions.proofs.PartInputsLaws.{cells, reads}
+use Rattle.questions.proofs.PartInputsLaws.{reads}
 use Rattle.questions.proofs.FreshLaws.{rules-inside}
 use Rattle.questions.proofs.UsableLaws.{lengths, heads, made, settled, roots-are}
 use Rattle.colour_tables.specs.ColourCells.{copy_row}

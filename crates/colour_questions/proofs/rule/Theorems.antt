@@ -4,7 +4,7 @@
 --     ask-parts    the number of parts is that of the session
 -- That each one-sided part's state is the climb's: colour_questions/parts, TrialsBuilt, part-state.
 use Prim.Native.Nat.{ℕ}
-use mathlib.Core.Path.{◌≡◌, refl, sym, ap, ◌∙◌}
+use mathlib.Core.Path.{◌≡◌, sym, ap, ◌∙◌}
 use mathlib.Core.List.{List}
 use native.Mathlib.Decide.{ℕ_discrete}
 use lib.ListN.{length}

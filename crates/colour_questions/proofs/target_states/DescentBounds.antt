@@ -1,7 +1,7 @@
 -- How long a descent is on any table.
 --     fell-few       the links of a search are at most the depth of its start
 --     descend-few    a descent from colour c has at most c drops, each found by few links
-use Prim.Native.Nat.{ℕ, zero, suc, ◌-◌, ◌≤◌, ◌<◌}
+use Prim.Native.Nat.{ℕ, zero, suc, ◌≤◌, ◌<◌}
 use mathlib.Core.Path.{◌≡◌, refl, subst}
 use mathlib.Core.Bool.{Bool, true, false, cond}
 use mathlib.Core.List.{List, [], ◌∷◌}

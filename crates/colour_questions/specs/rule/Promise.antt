@@ -21,7 +21,6 @@ use Rattle.questions.specs.ready.Members.{roots}
 use Rattle.questions.specs.ready.Parts.{Given, last_state}
 use Rattle.questions.specs.PartInputs.{given_of}
 use Rattle.colour_questions.specs.parts.Trials.{tried_parts, trials_from}
-use Rattle.colours.specs.Descents.{sum}
 use Rattle.colour_tables.specs.rule.Build.{RuleColoured}
 use Rattle.colour_questions.specs.parts.OneSided.{one_sided}
 use Rattle.colour_questions.specs.declared.rule.answers.RuleDescending.{RuleDescending}

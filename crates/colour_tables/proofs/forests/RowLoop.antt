@@ -1,7 +1,7 @@
 -- A node's row in a colour's table is that of the forest of marked nodes.
 --     next-is      node v's row, from those of the nodes above its number
 --     rows-args    what it needs
-use Prim.Native.Nat.{ℕ, ◌+◌, ◌-◌, ◌*◌, ◌≤◌, ◌<◌}
+use Prim.Native.Nat.{ℕ, ◌+◌, ◌*◌, ◌≤◌, ◌<◌}
 use mathlib.Core.Path.{◌≡◌, refl, sym, ap, ◌∙◌}
 use mathlib.Core.Bool.{Bool, true, false}
 use mathlib.Core.List.{List}
@@ -11,7 +11,7 @@ use lib.Dec.{ltb}
 use lib.ListN.{length}
 use borrow.Author.Tests.{ltb-true, ltb-false}
 use Rattle.trees.specs.Tree.{Tree, size}
-use Rattle.trees.specs.Numbering.{parent, depth}
+use Rattle.trees.specs.Numbering.{parent}
 use Rattle.trees.specs.Jumps.{two_distances}
 use Rattle.trees.proofs.NodeLaws.{up, depth_small}
 use Rattle.colours.specs.marks.Marks.{marks_above}

@@ -6,7 +6,7 @@
 --
 -- near_value (crate tables, Maps) is the state at the parent, by labels ls, node table b, inner states inn and state
 -- table st.
-use Rattle.std.specs.Prelude.{ℕ, ◌+◌, ◌-◌, ◌*◌, ◌≤◌, ◌<◌, ◌≡◌, List, length, get_or}
+use Rattle.std.specs.Prelude.{ℕ, ◌+◌, ◌*◌, ◌≤◌, ◌<◌, ◌≡◌, List, length, get_or}
 use Rattle.tables.specs.node_tables.Cells.{parent_cell, size_cell}
 use Rattle.tables.specs.StateCells.{state_cell}
 

@@ -4,7 +4,7 @@
 --     keeps-labels             the plan itself is one of its relabellings
 --     told-early               the plan's root has the mark that is wanted: 0, and no change
 --     told-late                it has not: the number and the list as they are worked out
-use Prim.Native.Nat.{ℕ, ◌+◌, ◌-◌, ◌*◌, ◌≤◌}
+use Prim.Native.Nat.{ℕ, ◌+◌, ◌*◌}
 use mathlib.Core.Path.{◌≡◌, refl, sym, ap, ap₂, ◌∙◌, subst}
 use mathlib.Core.Bool.{true}
 use mathlib.Core.List.{List}
@@ -12,9 +12,8 @@ use native.Mathlib.Omega.{arith}
 use lib.ListN.{length, get_or, take}
 use borrow.Author.Tests.{eq-eqb}
 use Rattle.list_laws.specs.Tests.{all_below}
-use Rattle.trees.specs.Tree.{Tree, leaf, node, size, kinds_of, labels_of}
+use Rattle.trees.specs.Tree.{Tree, leaf, node, labels_of}
 use Rattle.trees.specs.Automaton.{state, accepts}
-use Rattle.trees.specs.Postorder.{tree_of}
 use Rattle.trees.specs.Changes.{changed}
 use Rattle.trees.proofs.PostorderLaws.{tree_of-is}
 use Rattle.formats.specs.Plan.{node_count, labels_within, kinds_in, plan_tree}
@@ -28,11 +27,10 @@ use Rattle.allowed.proofs.InputsLaws.{call-args, kinds_part, labels_part, leaves
 use Rattle.allowed.proofs.InputsLaws.{kinds-is, labels-is, leaves-is, inner-is, marks-is, parts-given}
 use Rattle.fewest.specs.Relabelling.{Relabelling}
 use Rattle.fewest.specs.Fewest.{IsFewest}
-use Rattle.fewest.specs.inner.Cost.{Problem}
 use Rattle.fewest.specs.inner.Marked.{RunArgs, RootMarked, PlanMarked}
 use Rattle.fewest.specs.inner.Parts.{parts_problem}
 use Rattle.fewest.specs.inner.list.Written.{FewestShown}
-use Rattle.fewest.specs.Answers.{wanted_mark, wanted_automaton, may_be, rising, fewest_checks, ListTold, LeastTold, FewestTold}
+use Rattle.fewest.specs.Answers.{wanted_mark, wanted_automaton, may_be, rising, fewest_checks, ListTold, FewestTold}
 use Rattle.fewest.proofs.costs.ListLaws.{differences-self, permitted-self}
 use Rattle.fewest.proofs.call.CallLaws.{table-yes, room-yes, done-written}
 use Rattle.fewest.proofs.call.Promise.{promised}

@@ -56,6 +56,8 @@ same_shape t u e = subst (Same t) is (same-relabelled (label_at u) t 0)
 
 pub same-kinds : (t u : Tree) → Same t u → kinds_of u ≡ kinds_of t
 same-kinds (leaf a) (leaf b) leaves = refl
+same-kinds (leaf a) (node m b s) x = elim x [ ]
+same-kinds (node l a r) (leaf b) x = elim x [ ]
 same-kinds (node l a r) (node m b s) (nodes p q) =
     ap₂ (λ (x y : List ℕ). x ++ (y ++ (1 ∷ []))) (same-kinds l m p) (same-kinds r s q)
 
@@ -146,6 +148,8 @@ module _ (P : Problem) where
       ap (λ (c : Bool). cond c (change_cost P lo a b) P.far) (eq-eqb (P.automaton.ι b) (P.automaton.ι b) refl)
       ∙ change-permitted lo a b m in
       omega (arith, f, e)
+  cost-least S (leaf a) (node m b s) x lo h = elim x [ ]
+  cost-least S (node l a r) (leaf b) x lo h = elim x [ ]
   cost-least S (node l a r) (node m b s) (nodes x y) lo h =
       go (cost-least S l m x lo) (cost-least S r s y (lo + size l)) (sym (node-permitted l r m s a b x y P.labels P.may lo) ∙ h)
     where

@@ -1,6 +1,6 @@
 -- A store to the first number of a node's row.
 --     col-same, col-other, col-cost, col-past   what it alters, and what not
-use Prim.Native.Nat.{ℕ, ◌+◌, ◌-◌, ◌*◌, ◌<◌}
+use Prim.Native.Nat.{ℕ, ◌+◌, ◌*◌, ◌<◌}
 use mathlib.Core.Path.{◌≡◌, ap}
 use mathlib.Core.List.{List}
 use native.Mathlib.Decide.{ℕ_discrete}

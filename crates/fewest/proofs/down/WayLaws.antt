@@ -4,7 +4,7 @@
 --     own_first, own-none           over states that cost c, the node's own label or none
 --     cost-none                     over states that cost neither c nor one less, none
 --     leaf-own-first, leaf-own-none the same of a leaf that keeps its label
-use Prim.Native.Nat.{ℕ, ◌+◌, ◌-◌, ◌*◌, ◌≤◌, ◌<◌}
+use Prim.Native.Nat.{ℕ, ◌+◌, ◌*◌, ◌≤◌, ◌<◌}
 use mathlib.Core.Path.{◌≡◌, refl, sym, ap, ap₂, ◌∙◌}
 use mathlib.Core.Bool.{Bool, true, false}
 use mathlib.Core.List.{List}

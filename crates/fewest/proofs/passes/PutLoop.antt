@@ -3,7 +3,7 @@
 --     row-filled                         a row lowered from 65,536s
 --     others-row, leaf-done              a leaf's costs by its labels, and its row with that of its own label
 --     every-stock                        the labels that a node may take where no sets are given
-use Prim.Native.Nat.{ℕ, ◌+◌, ◌-◌, ◌*◌, ◌≤◌, ◌<◌}
+use Prim.Native.Nat.{ℕ, ◌+◌, ◌*◌, ◌≤◌, ◌<◌}
 use mathlib.Core.Path.{◌≡◌, refl, sym, ap, ◌∙◌, subst}
 use mathlib.Core.Bool.{Bool, cond}
 use mathlib.Core.List.{List}

@@ -5,9 +5,9 @@
 --     set-start, set_next, set_all   a row lowered state by state
 --     image-cost, image-relaxed      the least over all labels, by the node's own label and the set
 --     image-args, images-fit         what the loops need of the sets; prefix-images   all of them, or none
-use Prim.Native.Nat.{ℕ, zero, suc, ◌+◌, ◌-◌, ◌*◌, ◌/◌, ◌%◌, ◌^◌, ◌≤◌, ◌<◌, min, max}
+use Prim.Native.Nat.{ℕ, ◌+◌, ◌*◌, ◌/◌, ◌%◌, ◌^◌, ◌≤◌, ◌<◌, min, max}
 use mathlib.Core.Path.{◌≡◌, refl, sym, ap, ap₂, ◌∙◌, subst}
-use mathlib.Core.Bool.{Bool, true, false, cond, ◌||◌}
+use mathlib.Core.Bool.{Bool, false, cond, ◌||◌}
 use mathlib.Core.List.{List}
 use native.Mathlib.Decide.{ℕ_discrete, dec_lt}
 use native.Mathlib.Numerals.{add-one}
@@ -27,8 +27,8 @@ use Rattle.state_sets.specs.StateSets.{member}
 use Rattle.state_sets.proofs.SetLaws.{member-single}
 use Rattle.fewest.specs.Least.{least_to, no_way_out}
 use Rattle.fewest.specs.Relabelling.{stock_of}
-use Rattle.fewest.specs.inner.Rows.{change_of, label_cost, labels_cost, Relaxed, CostRow, RowArgs}
-use Rattle.fewest.specs.inner.Images.{image_cost, Image, Images, ImagesArgs, ImageArgs, Imaged, ImagesFit, ImagesFor}
+use Rattle.fewest.specs.inner.Rows.{label_cost, labels_cost, Relaxed, RowArgs}
+use Rattle.fewest.specs.inner.Images.{image_cost, Image, Images, ImagesArgs, ImageArgs, ImagesFit, ImagesFor}
 use Rattle.fewest.specs.inner.down.Search.{any_of}
 use Rattle.fewest.proofs.costs.LeastLaws.{least-far, least-le}
 use Rattle.fewest.proofs.down.AnyLaws.{any-yes, any-no}

@@ -8,7 +8,6 @@
 use Rattle.std.specs.Prelude.{ℕ, ◌≤◌, ◌<◌, ◌≡◌, true, List, [], length, get_or}
 use Rattle.std.proofs.Math.Option.{some}
 use Rattle.trees.specs.Climb.{and_then}
-use Rattle.formats.specs.Plan.{node_count}
 use Rattle.formats.specs.Rules.{state_count, label_count, rule_length}
 use Rattle.formats.specs.Checks.{first_no}
 use Rattle.formats.specs.Buffers.{limits_fit, buffers_fit}

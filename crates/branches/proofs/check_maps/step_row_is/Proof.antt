@@ -74,7 +74,8 @@ loop-again c =
       omega arith,
       elim c.if-x-next.branch [
         | then-x-next w ↦ w.same-is ∙ every-other l.q (map_cell g.s g.state_table.now g.v) f w.if-x-next.true
-        | else-x-next w ↦ w.same-is ∙ every-same l.q (map_cell g.s g.state_table.now g.v) f l.same l.invariant.1 w.if-x-next.false
+        | else-x-next w ↦ w.same-is ∙ every-same l.q (map_cell g.s g.state_table.now g.v) f l.same
+            l.invariant.1 w.if-x-next.false
       ],
     )
 

@@ -80,7 +80,8 @@ loop-again c =
       c.node_map.auto.state_table ∙ c.loop-v.invariant.1,
       λ b d. map-iteration _ _ _ _ _ _ _ (entered s) (c.loop-v.v - 1) b c.loop-v.state_table
           c.node_map.new.state_table
-          (rw e (c.loop-v.invariant.2 b d)) (omega (arith, c.loop-v.invariant.0, c.loop-v-test.true)) c.node_map.ensures,
+          (rw e (c.loop-v.invariant.2 b d)) (omega (arith, c.loop-v.invariant.0, c.loop-v-test.true))
+          c.node_map.ensures,
     )
 
 same_length : tie.Need-shape_of-state_table invariant-loop decreases-loop

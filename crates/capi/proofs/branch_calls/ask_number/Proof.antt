@@ -8,10 +8,10 @@ use Rattle.capi.proofs.branch_calls.ask_number.Lts as lts
 use Rattle.capi.proofs.numbers.bit.Reads as bit-reads
 
 returns : tie.Need-returns-in-Answered
-returns c = result _ _ _ _ _ _ _ c.before.before.before.answer-1.given.1 c.bit.ensures
+returns c = result _ _ _ _ _ _ _ c.in-Answered.is c.bit.ensures
 
 returns-2 : tie.Need-returns-in-Refused
-returns-2 c = not_answer _ _ _ _ _ _ c.before.answer-in-Refused-1.given.1
+returns-2 c = not_answer _ _ _ _ _ _ c.in-Refused.is
 
 pub ask_number_spec : {M : Type 1} → statement M
 ask_number_spec =

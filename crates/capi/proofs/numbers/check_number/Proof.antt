@@ -7,13 +7,13 @@ use Rattle.capi.proofs.numbers.check_number.Reads as reads
 use Rattle.capi.proofs.numbers.check_number.Lts as lts
 
 returns : tie.Need-returns-in-Yes
-returns c = checked-yes _ _ c.enum_told-1.given.1
+returns c = checked-yes _ _ c.in-Yes.is
 
 returns-2 : tie.Need-returns-in-No
-returns-2 c = checked-no _ _ c.enum_told-in-No-1.given.1
+returns-2 c = checked-no _ _ c.in-No.is
 
 returns-3 : tie.Need-returns-in-Refused
-returns-3 c = not-checked _ _ _ c.before.answer-1.given.1
+returns-3 c = not-checked _ _ _ c.in-Refused.is
 
 pub check_number_spec : {M : Type 1} → statement M
 check_number_spec =

@@ -8,10 +8,10 @@ use Rattle.capi.proofs.table_calls.run_number.Lts as lts
 use Rattle.capi.proofs.numbers.bit.Reads as bit-reads
 
 returns : tie.Need-returns-in-Ended
-returns c = ended _ _ _ _ _ _ c.before.before.answer-1.given.1 c.bit.ensures
+returns c = ended _ _ _ _ _ _ c.in-Ended.is c.bit.ensures
 
 returns-2 : tie.Need-returns-in-Refused
-returns-2 c = not-run _ _ _ _ c.before.answer-in-Refused-1.given.1
+returns-2 c = not-run _ _ _ _ c.in-Refused.is
 
 pub run_number_spec : {M : Type 1} → statement M
 run_number_spec =

@@ -8,23 +8,18 @@ use Rattle.formats.specs.Buffers.{headers_fit}
 use Rattle.formats.proofs.BufferLaws.{Headers, headers-are, headers-no, headed-by}
 use Rattle.choices.proofs.checks.rule_headers_fit.Statement.{statement}
 use Rattle.choices.proofs.checks.rule_headers_fit.Tie as tie
-use Rattle.choices.proofs.checks.rule_headers_fit.Reads as reads
-use Rattle.choices.proofs.checks.rule_headers_fit.Lts as lts
-use Rattle.formats.proofs.buffers.headers_fit.Reads as headers-fit-reads
-use Rattle.formats.proofs.buffers.rule_buffers_fit.Reads as rule-buffers-fit-reads
-use Rattle.formats.proofs.bytes.read32.Reads as read32-reads
 
-yes : (c : tie.Else-not-headers_fit) → let g = c.before.before.before.before.before.before.args in
+yes : (c : tie.Else-not-headers_fit) → let g = c.args in
     headers_fit 20 g.plan.now g.rules.now ≡ true
-yes c = sym c.before.headers_fit.ensures ∙ not-false _ c.if-not-headers_fit.false-raw
+yes c = sym c.headers_fit.ensures ∙ not-false _ c.if-not-headers_fit.false-raw
 
-heads : (c : tie.Else-not-headers_fit) → let g = c.before.before.before.before.before.before.args in
+heads : (c : tie.Else-not-headers_fit) → let g = c.args in
     Headers 20 g.plan.now g.rules.now
 heads c = headers-are 20 _ _ (yes c)
 
 returns : tie.Need-returns-then-not-headers_fit
 returns c =
-    sym (headers-no _ _ _ _ _ (sym c.before.headers_fit.ensures ∙ not-true _ c.if-not-headers_fit.true-raw))
+    sym (headers-no _ _ _ _ _ (sym c.headers_fit.ensures ∙ not-true _ c.if-not-headers_fit.true-raw))
 
 read32-requires : tie.Need-read32-n-requires
 read32-requires c κs = omega (arith, (heads c).plan-long)
@@ -39,17 +34,16 @@ rule-buffers-fit-requires : tie.Need-rule_buffers_fit-requires
 rule-buffers-fit-requires c κs =
     let L = (heads c.before.before.before).in-limits in
     record {
-      most = omega (arith, L.most, c.before.before.read32-n.ensures);
-      few = omega (arith, L.few, c.before.read32-s.ensures);
+      most = omega (arith, L.most, c.read32-n.ensures);
+      few = omega (arith, L.few, c.read32-s.ensures);
       labels = omega (arith, L.labels_most, c.read32-k.ensures);
     }
 
 returns-2 : tie.Need-returns
 returns-2 c =
-    let x = c.before in
     c.rule_buffers_fit.ensures
-    ∙ headed-by _ _ _ _ _ _ _ _ _ x.before.before.read32-n.ensures x.before.read32-s.ensures
-    x.read32-k.ensures refl (yes x.before.before.before)
+    ∙ headed-by _ _ _ _ _ _ _ _ _ c.read32-n.ensures c.read32-s.ensures
+    c.read32-k.ensures refl (yes c.before.before.before.before)
 
 pub rule_headers_fit_spec : {M : Type 1} → statement M
 rule_headers_fit_spec =

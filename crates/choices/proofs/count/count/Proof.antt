@@ -12,19 +12,13 @@ use Rattle.choices.proofs.CountChecks.{count-refused, run-args, count_runs}
 use Rattle.choices.proofs.Theorem.{count-done}
 use Rattle.choices.proofs.count.count.Statement.{statement}
 use Rattle.choices.proofs.count.count.Tie as tie
-use Rattle.choices.proofs.count.count.Reads as reads
-use Rattle.choices.proofs.count.count.Lts as lts
-use Rattle.choices.proofs.checks.check_count.Reads as check-count-reads
-use Rattle.choices.proofs.count.count_runs.Reads as count-runs-reads
-use Rattle.choices.proofs.count.refused.Reads as refused-reads
-use Rattle.formats.proofs.bytes.read32.Reads as read32-reads
 
-passed : (c : tie.Else-no-ne0) → let g = c.before.before.before.before.before.before.before.args in
+passed : (c : tie.Else-no-ne0) → let g = c.args in
     first_no (listed_checks g.plan.now g.rules.now (length g.node_table.now) (length g.state_table.now)
     g.nodes.now) ≡ 0
-passed c = sym c.before.check_count-no.ensures ∙ c.if-no-ne0.false
+passed c = sym c.check_count-no.ensures ∙ c.if-no-ne0.false
 
-heads : (c : tie.Else-no-ne0) → let g = c.before.before.before.before.before.before.before.args in
+heads : (c : tie.Else-no-ne0) → let g = c.args in
     Headers 20 g.plan.now g.rules.now
 heads c = (headed-are rule_tables _ _ _ _ (fit-17 _ _ _ _ _ (passed c))).headers
 
@@ -32,7 +26,7 @@ returns : tie.Need-returns-then-no-ne0
 returns c =
     count-done _ _ _ _ _ _
     (c.refused.ensures
-    ∙ count-refused _ _ _ _ _ _ c.before.before.check_count-no.ensures c.before.if-no-ne0.true)
+    ∙ count-refused _ _ _ _ _ _ c.check_count-no.ensures c.if-no-ne0.true)
 
 read32-requires : tie.Need-read32-n-requires
 read32-requires c κs = omega (arith, (heads c).plan-long)
@@ -45,15 +39,14 @@ read32-requires-3 c κs = omega (arith, (heads c.before.before).table-long)
 
 count-runs-requires : tie.Need-count_runs-requires
 count-runs-requires c κs =
-    run-args _ _ _ _ _ (passed c.before.before.before) _ _ _ c.before.before.read32-n.ensures
-    c.before.read32-s.ensures c.read32-k.ensures
+    run-args _ _ _ _ _ (passed c.before.before.before) _ _ _ c.read32-n.ensures
+    c.read32-s.ensures c.read32-k.ensures
 
 returns-2 : tie.Need-returns
 returns-2 c =
-    let x = c.before in
     count-done _ _ _ _ _ _
-    (count_runs _ _ _ _ _ (passed x.before.before.before) _ _ _ x.before.before.read32-n.ensures
-    x.before.read32-s.ensures x.read32-k.ensures c.count_runs.result c.count_runs.ensures)
+    (count_runs _ _ _ _ _ (passed c.before.before.before.before) _ _ _ c.read32-n.ensures
+    c.read32-s.ensures c.read32-k.ensures c.count_runs.result c.count_runs.ensures)
 
 pub count_spec : {M : Type 1} → statement M
 count_spec =

@@ -1,50 +1,31 @@
 -- `count_parts` meets its contract.
-use native.Mathlib.Omega.{arith}
 use borrow.Author.Rules.{rules}
-use mathlib.Core.Path.{◌≡◌, refl, sym, ◌∙◌}
+use mathlib.Core.Path.{refl, sym, ◌∙◌}
 use lib.Seq.{length-take-le}
 use borrow.Author.Tests.{not-true, not-false}
-use Rattle.choices.proofs.CountCases.{all-args, parts-lost, last-args, parts-done}
+use Rattle.choices.proofs.CountCases.{parts-lost, last-args, parts-done}
 use Rattle.choices.proofs.count.count_parts.Statement.{statement}
 use Rattle.choices.proofs.count.count_parts.Tie as tie
-use Rattle.choices.proofs.count.count_parts.Reads as reads
-use Rattle.choices.proofs.count.count_parts.Lts as lts
-use Rattle.choices.proofs.count.refused.Reads as refused-reads
-use Rattle.choices.proofs.count.room_for_parts.Reads as room-for-parts-reads
-use Rattle.choices.proofs.parts.all_parts.Reads as all-parts-reads
-use Rattle.choices.proofs.part_steps.side.copy_row.Reads as copy-row-reads
 
 returns : tie.Need-returns-then-not-x
 returns c =
-    let b5 = c.before.before.before.before.before in
-    let b10 = b5.before.before.before.before.before in
-    let h = c.before.before.before.before in
-    let t = b10.before.before.before.before.before in
     c.refused.ensures
-    ∙ parts-lost _ _ _ _ _ _ _ _ _ _ _ t.requires _ _ h.all_parts-x.ensures
-    (not-true h.all_parts-x.result.ok c.before.if-not-x.true)
+    ∙ parts-lost _ _ _ _ _ _ _ _ _ _ _ c.requires _ _ c.all_parts-x.ensures
+    (not-true c.all_parts-x.result.ok c.if-not-x.true)
 
 slice-aggregate-copy-row : tie.Need-slice_bounds-copy_row-end
 slice-aggregate-copy-row c =
-    sym (length-take-le _ _ c.before.before.before.before.all_parts-x.ensures.room)
+    sym (length-take-le _ _ c.all_parts-x.ensures.room)
 
 copy-row-requires : tie.Need-copy_row-requires
 copy-row-requires c κs =
-    let b5 = c.before.before.before.before.before in
-    let b10 = b5.before.before.before.before.before in
-    let h = b5 in
-    let t = b10.before.before.before.before.before.before in
-    last-args _ _ _ _ _ _ _ _ _ _ _ t.requires _ _ h.all_parts-x.ensures
-    (not-false h.all_parts-x.result.ok c.before.before.if-not-x.false) _ refl
+    last-args _ _ _ _ _ _ _ _ _ _ _ c.requires _ _ c.all_parts-x.ensures
+    (not-false c.all_parts-x.result.ok c.if-not-x.false) _ refl
 
 returns-2 : tie.Need-returns
 returns-2 c =
-    let b5 = c.before.before.before.before.before in
-    let b10 = b5.before.before.before.before.before in
-    let h = b5.before in
-    let t = b10.before.before.before.before.before.before.before in
-    parts-done _ _ _ _ _ _ _ _ _ _ _ t.requires _ _ h.all_parts-x.ensures
-    (not-false h.all_parts-x.result.ok c.before.before.before.if-not-x.false) _ c.copy_row.ensures
+    parts-done _ _ _ _ _ _ _ _ _ _ _ c.requires _ _ c.all_parts-x.ensures
+    (not-false c.all_parts-x.result.ok c.if-not-x.false) _ c.copy_row.ensures
 
 pub count_parts_spec : {M : Type 1} → statement M
 count_parts_spec =

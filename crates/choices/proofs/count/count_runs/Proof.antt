@@ -1,14 +1,10 @@
 -- `count_runs` meets its contract.
 use native.Mathlib.Omega.{arith}
-use borrow.Author.Rules.{rules}
-use mathlib.Core.Path.{◌≡◌, sym}
+use mathlib.Core.Path.{sym}
 use lib.Seq.{length-take-le}
 use Rattle.choices.proofs.RunCases.{Fit, fit-by, on-args, on-answer}
 use Rattle.choices.proofs.count.count_runs.Statement.{statement}
 use Rattle.choices.proofs.count.count_runs.Tie as tie
-use Rattle.choices.proofs.count.count_runs.Reads as reads
-use Rattle.choices.proofs.count.count_runs.Lts as lts
-use Rattle.choices.proofs.count.count_on.Reads as count-on-reads
 
 fit : (s : tie.Start) → let g = s.args in
     Fit g.n g.s g.k g.plan.now g.rules.now g.node_table.now g.state_table.now g.nodes.now
@@ -79,39 +75,27 @@ mul-count-on-3 c = omega (arith, fit c.before.before.before.before.before.before
 
 slice-aggregate-count-on : tie.Need-slice_bounds-count_on-end-5
 slice-aggregate-count-on c =
-    let b5 = c.before.before.before.before.before in
-    let b10 = b5.before.before.before.before.before in
-    sym (length-take-le _ _ (fit (b10)).lengths.node_table_room)
+    sym (length-take-le _ _ (fit c.before.before.before.before.before.before.before.before.before).lengths.node_table_room)
 
 add-count-on-7 : tie.Need-overflow_add-s
 add-count-on-7 c =
-    let b5 = c.before.before.before.before.before in
-    let b10 = b5.before.before.before.before.before in
-    omega (arith, fit (b10))
+    omega (arith, fit c.before.before.before.before.before.before.before.before.before)
 
 mul-count-on-4 : tie.Need-overflow_mul-n-2
 mul-count-on-4 c =
-    let b5 = c.before.before.before.before.before in
-    let b10 = b5.before.before.before.before.before in
-    omega (arith, fit (b10))
+    omega (arith, fit c.before.before.before.before.before.before.before.before.before)
 
 slice-aggregate-count-on-2 : tie.Need-slice_bounds-count_on-end-6
 slice-aggregate-count-on-2 c =
-    let b5 = c.before.before.before.before.before in
-    let b10 = b5.before.before.before.before.before in
-    sym (length-take-le _ _ (fit b10.before).lengths.state_table_room)
+    sym (length-take-le _ _ (fit c.before.before.before.before.before.before.before.before.before).lengths.state_table_room)
 
 count-on-requires : tie.Need-count_on-requires
 count-on-requires c κs =
-    let b5 = c.before.before.before.before.before in
-    let b10 = b5.before.before.before.before.before in
-    on-args _ _ _ _ _ _ _ _ b10.before.requires
+    on-args _ _ _ _ _ _ _ _ c.requires
 
 returns : tie.Need-returns
 returns c =
-    let b5 = c.before.before.before.before.before in
-    let b10 = b5.before.before.before.before.before in
-    on-answer _ _ _ _ _ _ _ _ b10.before.before.requires _ c.count_on.ensures
+    on-answer _ _ _ _ _ _ _ _ c.requires _ c.count_on.ensures
 
 pub count_runs_spec : {M : Type 1} → statement M
 count_runs_spec =

@@ -1,7 +1,6 @@
 -- `part_counts` meets its contract.
-use native.Mathlib.Omega.{arith}
 use borrow.Author.Rules.{rules}
-use Prim.Native.Nat.{ℕ, ◌+◌}
+use Prim.Native.Nat.{◌+◌}
 use mathlib.Core.Path.{◌≡◌, ap}
 use mathlib.Core.Bool.{cond}
 use lib.ListN.{get_or}
@@ -10,11 +9,6 @@ use Rattle.choices.specs.declared.part.LabelRange.{LabelRange}
 use Rattle.choices.proofs.PartCases.{no_label, no-places, placed-args, placed-done}
 use Rattle.choices.proofs.part.part_counts.Statement.{statement}
 use Rattle.choices.proofs.part.part_counts.Tie as tie
-use Rattle.choices.proofs.part.part_counts.Reads as reads
-use Rattle.choices.proofs.part.part_counts.Lts as lts
-use Rattle.choices.proofs.part.label_range.Reads as label-range-reads
-use Rattle.choices.proofs.part.places_below.Reads as places-below-reads
-use Rattle.choices.proofs.part_steps.root.root_counts.Reads as root-counts-reads
 
 abbrev start : tie.After-label_range-b → tie.Start
 start a = a.before.before.before.before.before.before.before.before.before
@@ -29,30 +23,23 @@ end_is a = ap (λ (r : LabelRange). r.end) a.label_range-b.ensures
 
 returns : tie.Need-returns-then-k-b
 returns c =
-    let a = c.before.before in
-    no_label _ _ _ _ _ _ _ _ _ _ _ _ _ (start a).requires (start a).args.free _ _ (first-is a) (end_is a) c.if-k-b.true
+    no_label _ _ _ _ _ _ _ _ _ _ _ _ _ c.requires c.args.free _ _ (first-is c.before.before) (end_is c.before.before) c.if-k-b.true
 
 returns-2 : tie.Need-returns-then-not-p
 returns-2 c =
-    let h = c.before.before in
-    let a = c.before.before.before.before.before in
-    no-places _ _ _ _ _ _ _ _ _ _ _ _ _ (start a).requires (start a).args.free _ _ (first-is a) (end_is a)
-    h.before.if-k-b.false _ h.places_below-p.ensures (not-true h.places_below-p.result.ok c.if-not-p.true)
+    no-places _ _ _ _ _ _ _ _ _ _ _ _ _ c.requires c.args.free _ _ (first-is c.before.before.before.before.before) (end_is c.before.before.before.before.before)
+    c.if-k-b.false _ c.places_below-p.ensures (not-true c.places_below-p.result.ok c.if-not-p.true)
 
 root-counts-requires : tie.Need-root_counts-requires
 root-counts-requires c κs =
-    let h = c.before.before.before in
-    let a = c.before.before.before.before.before.before in
-    placed-args _ _ _ _ _ _ _ _ _ _ _ _ _ (start a).requires (start a).args.free _ _ (first-is a) (end_is a)
-    h.before.if-k-b.false _ h.places_below-p.ensures (not-false h.places_below-p.result.ok c.before.if-not-p.false)
+    placed-args _ _ _ _ _ _ _ _ _ _ _ _ _ c.requires c.args.free _ _ (first-is c.before.before.before.before.before.before) (end_is c.before.before.before.before.before.before)
+    c.if-k-b.false _ c.places_below-p.ensures (not-false c.places_below-p.result.ok c.if-not-p.false)
 
 returns-3 : tie.Need-returns
 returns-3 c =
-    let h = c.before.before.before.before in
-    let a = c.before.before.before.before.before.before.before in
-    placed-done _ _ _ _ _ _ _ _ _ _ _ _ _ (start a).requires (start a).args.free _ _ (first-is a) (end_is a)
-    h.before.if-k-b.false _ h.places_below-p.ensures
-    (not-false h.places_below-p.result.ok c.before.before.if-not-p.false) _ _ c.root_counts.ensures
+    placed-done _ _ _ _ _ _ _ _ _ _ _ _ _ c.requires c.args.free _ _ (first-is c.before.before.before.before.before.before.before) (end_is c.before.before.before.before.before.before.before)
+    c.if-k-b.false _ c.places_below-p.ensures
+    (not-false c.places_below-p.result.ok c.if-not-p.false) _ _ c.root_counts.ensures
 
 pub part_counts_spec : {M : Type 1} → statement M
 part_counts_spec =

@@ -1,45 +1,39 @@
 -- `places_below` meets its contract.
-use native.Mathlib.Omega.{arith}
 use borrow.Author.Rules.{rules}
-use mathlib.Core.Path.{◌≡◌, sym, subst}
+use mathlib.Core.Path.{sym, subst}
 use Rattle.choices.specs.declared.part.Places.{Places}
 use Rattle.choices.specs.inner.Part.{PlacesAre}
 use Rattle.choices.proofs.PartCases.{leaf-places, first-places, outside-places, inner-places}
 use Rattle.choices.proofs.part.places_below.Statement.{statement}
 use Rattle.choices.proofs.part.places_below.Tie as tie
-use Rattle.choices.proofs.part.places_below.Reads as reads
-use Rattle.choices.proofs.part.places_below.Lts as lts
-use Rattle.choices.proofs.part.no_places.Reads as no-places-reads
-use Rattle.tables.proofs.node_tables.moves.size_at.Reads as size-at-reads
-use Rattle.questions.proofs.part.last_below.Reads as last-below-reads
 
 returns : tie.Need-returns-then-kinds-v-eq0
 returns c =
-    let g = c.before.before.before.before.before.before.args in
+    let g = c.args in
     subst (λ (q : Places). PlacesAre g.kinds.now g.node_table.now g.earlier.now g.v q)
     (sym c.no_places.ensures)
-    (leaf-places _ _ _ _ c.before.if-kinds-v-eq0.true)
+    (leaf-places _ _ _ _ c.if-kinds-v-eq0.true)
 
 returns-2 : tie.Need-returns-then-v-eq0
 returns-2 c =
-    let g = c.before.before.before.before.before.before.before.args in
+    let g = c.args in
     subst (λ (q : Places). PlacesAre g.kinds.now g.node_table.now g.earlier.now g.v q)
     (sym c.no_places-then-v-eq0.ensures)
-    (first-places _ _ _ _ c.before.before.if-kinds-v-eq0.false c.before.if-v-eq0.true)
+    (first-places _ _ _ _ c.if-kinds-v-eq0.false c.if-v-eq0.true)
 
 returns-3 : tie.Need-returns-then-v-z
 returns-3 c =
-    let g = c.before.before.before.before.before.before.before.before.before.args in
+    let g = c.args in
     subst (λ (q : Places). PlacesAre g.kinds.now g.node_table.now g.earlier.now g.v q)
     (sym c.no_places-then-v-z.ensures)
-    (outside-places _ _ _ _ c.before.before.before.before.if-kinds-v-eq0.false c.before.before.before.if-v-eq0.false _
-    c.before.before.size_at-z.ensures c.before.if-v-z.true)
+    (outside-places _ _ _ _ c.if-kinds-v-eq0.false c.if-v-eq0.false _
+    c.size_at-z.ensures c.if-v-z.true)
 
 returns-4 : tie.Need-returns
 returns-4 c =
-    inner-places _ _ _ _ c.before.before.before.before.before.if-kinds-v-eq0.false
-    c.before.before.before.before.if-v-eq0.false _
-    c.before.before.before.size_at-z.ensures c.before.before.if-v-z.false _ _ c.before.last_below-left.ensures
+    inner-places _ _ _ _ c.if-kinds-v-eq0.false
+    c.if-v-eq0.false _
+    c.size_at-z.ensures c.if-v-z.false _ _ c.last_below-left.ensures
     c.last_below-right.ensures
 
 pub places_below_spec : {M : Type 1} → statement M

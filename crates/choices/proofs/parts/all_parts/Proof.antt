@@ -1,17 +1,13 @@
 -- `all_parts` meets its contract.
 use native.Mathlib.Omega.{arith}
-use borrow.Author.Rules.{rules}
-use Prim.Native.Nat.{◌+◌, ◌*◌, ◌-◌}
-use mathlib.Core.Path.{◌≡◌, sym, ◌∙◌}
+use Prim.Native.Nat.{◌-◌}
+use mathlib.Core.Path.{sym, ◌∙◌}
 use lib.Seq.{length-take-le}
 use borrow.Author.Tests.{not-true, not-false}
 use lib.ListN.{length}
 use Rattle.choices.proofs.AllLoop.{Going, going_start, next-args, going-lost, links_fit, going_next, going_done}
 use Rattle.choices.proofs.parts.all_parts.Statement.{statement}
 use Rattle.choices.proofs.parts.all_parts.Tie as tie
-use Rattle.choices.proofs.parts.all_parts.Reads as reads
-use Rattle.choices.proofs.parts.all_parts.Lts as lts
-use Rattle.choices.proofs.parts.next_part.Reads as next-part-reads
 
 abbrev invariant-loop : tie.invariant-loop-i
 invariant-loop labels kinds leaves inner node-table state-table n s k nodes roots table₀ links₀ i₀ table links i =
@@ -23,79 +19,65 @@ decreases-loop labels kinds leaves inner node-table state-table n s k nodes root
 
 loop-holds : tie.Need-loop-i-init invariant-loop decreases-loop
 loop-holds c =
-    let b5 = c.before.before.before.before.before in
-    going_start _ _ _ _ _ _ _ _ _ _ _ _ b5.before.before.before.before.requires
+    going_start _ _ _ _ _ _ _ _ _ _ _ _ c.requires
 
 slice-aggregate-next-part : tie.Need-slice_bounds-next_part-end invariant-loop decreases-loop
 slice-aggregate-next-part c =
-    sym (length-take-le _ _ (omega (arith, c.before.loop-i-test.true)))
+    sym (length-take-le _ _ (omega (arith, c.loop-i-test.true)))
 
 mul-next-part : tie.Need-offset_bounds-roots-i invariant-loop decreases-loop
 mul-next-part c =
-    omega (arith, c.before.loop-i-test.true, c.before.before.loop-i.invariant.args.few)
+    omega (arith, c.loop-i-test.true, c.loop-i.invariant.args.few)
 
 shared-slice-read-next-part : tie.Need-bounds-roots-i invariant-loop decreases-loop
-shared-slice-read-next-part c = c.before.before.loop-i-test.true
+shared-slice-read-next-part c = c.loop-i-test.true
 
 cast-next-part : tie.Need-overflow_cast-roots invariant-loop decreases-loop
 cast-next-part c =
-    omega (arith, c.shared_slice_known-in-loop-i-1.given c.before.before.before.loop-i.i)
+    omega (arith, c.shared_slice_known-in-loop-i-1.given c.loop-i.i)
 
 next-part-requires : tie.Need-next_part-x-requires invariant-loop decreases-loop
 next-part-requires c κs =
-    next-args _ _ _ _ _ _ _ _ _ _ _ _ _ _ _ c.before.before.before.before.loop-i.invariant
-    c.before.before.before.loop-i-test.true
+    next-args _ _ _ _ _ _ _ _ _ _ _ _ _ _ _ c.loop-i.invariant
+    c.loop-i-test.true
 
 same_length : tie.Need-shape_of-table-then-not-x invariant-loop decreases-loop
 same_length c =
-    let b5 = c.before.before.before.before.before in
-    c.before.before.before.before.next_part-x.ensures.same ∙ b5.before.before.before.before.loop-i.invariant.same
+    c.next_part-x.ensures.same ∙ c.loop-i.invariant.same
 
 returns : tie.Need-returns-then-not-x invariant-loop decreases-loop
 returns c =
-    let b5 = c.before.before.before.before.before in
-    let h = c.before.before.before.before in
     going-lost _ _ _ _ _ _ _ _ _ _ _ _ _ _ _
-    b5.before.before.before.before.loop-i.invariant b5.before.before.before.loop-i-test.true _ _
-    h.next_part-x.ensures (not-true h.next_part-x.result.ok c.if-not-x.true)
+    c.loop-i.invariant c.loop-i-test.true _ _
+    c.next_part-x.ensures (not-true c.next_part-x.result.ok c.if-not-x.true)
 
 add-links : tie.Need-overflow_add-links invariant-loop decreases-loop
 add-links c =
-    let b5 = c.before.before.before.before.before in
-    let b10 = b5.before.before.before.before.before in
-    let h = b5 in
-    let l = b10 in
     let f = links_fit _ _ _ _ _ _ _ _ _ _ _ _ _ _ _
-    b10.loop-i.invariant
-    b5.before.before.before.before.loop-i-test.true _ _ h.next_part-x.ensures
-    (not-false h.next_part-x.result.ok c.before.if-not-x.false) in
-    omega (arith, f, b5.before.before.before.before.loop-i-test.true, l.loop-i.invariant.args.few)
+    c.loop-i.invariant
+    c.loop-i-test.true _ _ c.next_part-x.ensures
+    (not-false c.next_part-x.result.ok c.if-not-x.false) in
+    omega (arith, f, c.loop-i-test.true, c.loop-i.invariant.args.few)
 
 add-i : tie.Need-overflow_add-i invariant-loop decreases-loop
 add-i c =
-    let b5 = c.before.before.before.before.before in
-    let b10 = b5.before.before.before.before.before in
-    let l = b10 in
-    omega (arith, b5.before.before.before.before.loop-i-test.true, l.loop-i.invariant.args.few)
+    omega (arith, c.loop-i-test.true, c.loop-i.invariant.args.few)
 
 loop-less : tie.Need-loop-i-smaller invariant-loop decreases-loop
-loop-less c = omega (arith, c.before.before.before.before.before.before.before.before.before.loop-i-test.true)
+loop-less c = omega (arith, c.loop-i-test.true)
 
 loop-again : tie.Need-loop-i-preserved invariant-loop decreases-loop
 loop-again c =
-    let b5 = c.before.before.before.before.before in
-    let b10 = b5.before.before.before.before.before in
-    let h = b5 in
     going_next _ _ _ _ _ _ _ _ _ _ _ _ _ _ _
-    b10.loop-i.invariant
-    b5.before.before.before.before.loop-i-test.true _ _ h.next_part-x.ensures
-    (not-false h.next_part-x.result.ok c.before.if-not-x.false)
+    c.loop-i.invariant
+    c.loop-i-test.true _ _ c.next_part-x.ensures
+    (not-false c.next_part-x.result.ok c.if-not-x.false)
 
 same-length-2 : tie.Need-shape_of-table invariant-loop decreases-loop
-same-length-2 c = c.before.loop-i.invariant.same
+same-length-2 c = c.loop-i.invariant.same
 
 returns-2 : tie.Need-returns invariant-loop decreases-loop
-returns-2 c = going_done _ _ _ _ _ _ _ _ _ _ _ _ _ _ _ c.before.loop-i.invariant c.loop-i-test.false
+returns-2 c = going_done _ _ _ _ _ _ _ _ _ _ _ _ _ _ _ c.loop-i.invariant c.loop-i-test.false
 
 pub all_parts_spec : {M : Type 1} → statement M
 all_parts_spec =

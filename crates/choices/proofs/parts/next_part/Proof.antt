@@ -1,52 +1,34 @@
 -- `next_part` meets its contract.
-use native.Mathlib.Omega.{arith}
 use borrow.Author.Rules.{rules}
-use mathlib.Core.Path.{◌≡◌, refl}
+use mathlib.Core.Path.{refl}
 use borrow.Author.Tests.{not-true, not-false}
 use Rattle.choices.proofs.part_steps.ForkLaws.{zeros-at}
 use Rattle.choices.proofs.NextCases.{row-args, next-lost, put-args, row-sixteen, next-done}
 use Rattle.choices.proofs.parts.next_part.Statement.{statement}
 use Rattle.choices.proofs.parts.next_part.Tie as tie
-use Rattle.choices.proofs.parts.next_part.Reads as reads
-use Rattle.choices.proofs.parts.next_part.Lts as lts
-use Rattle.choices.proofs.parts.part_row.Reads as part-row-reads
-use Rattle.choices.proofs.parts.put_row.Reads as put-row-reads
 
 part-row-requires : tie.Need-part_row-x-requires
 part-row-requires c κs =
-    let t = c.before.before.before.before.before.before.before.before.before.before.before in
-    row-args _ _ _ _ _ _ _ _ _ _ _ _ _ t.requires _ refl (zeros-at 16)
+    row-args _ _ _ _ _ _ _ _ _ _ _ _ _ c.requires _ refl (zeros-at 16)
 
 returns : tie.Need-returns-then-not-x
 returns c =
-    let b5 = c.before.before.before.before.before in
-    let b10 = b5.before.before.before.before.before in
-    let h = c.before.before in
-    let t = b10.before.before.before.before in
-    next-lost _ _ _ _ _ _ _ _ _ _ _ _ _ t.requires _ _ h.part_row-x.ensures
-    (not-true h.part_row-x.result.ok c.if-not-x.true)
+    next-lost _ _ _ _ _ _ _ _ _ _ _ _ _ c.requires _ _ c.part_row-x.ensures
+    (not-true c.part_row-x.result.ok c.if-not-x.true)
 
 put-row-requires : tie.Need-put_row-requires
 put-row-requires c κs =
-    let b5 = c.before.before.before.before.before in
-    let b10 = b5.before.before.before.before.before in
-    let h = c.before.before.before.before in
-    let t = b10.before.before.before.before.before.before in
-    put-args _ _ _ _ _ _ _ _ _ _ _ _ _ t.requires _
-    (row-sixteen _ _ _ _ _ _ _ _ _ _ _ _ _ t.requires _ _ h.part_row-x.ensures
-    (not-false h.part_row-x.result.ok c.before.before.if-not-x.false))
+    put-args _ _ _ _ _ _ _ _ _ _ _ _ _ c.requires _
+    (row-sixteen _ _ _ _ _ _ _ _ _ _ _ _ _ c.requires _ _ c.part_row-x.ensures
+    (not-false c.part_row-x.result.ok c.if-not-x.false))
 
 same-length-2 : tie.Need-shape_of-table
-same-length-2 c = c.before.before.put_row.ensures.same
+same-length-2 c = c.put_row.ensures.same
 
 returns-2 : tie.Need-returns
 returns-2 c =
-    let b5 = c.before.before.before.before.before in
-    let b10 = b5.before.before.before.before.before in
-    let h = b5.before.before in
-    let t = b10.before.before.before.before.before.before.before.before.before in
-    next-done _ _ _ _ _ _ _ _ _ _ _ _ _ t.requires _ _ h.part_row-x.ensures
-    (not-false h.part_row-x.result.ok b5.if-not-x.false) _ c.before.before.put_row.ensures
+    next-done _ _ _ _ _ _ _ _ _ _ _ _ _ c.requires _ _ c.part_row-x.ensures
+    (not-false c.part_row-x.result.ok c.if-not-x.false) _ c.put_row.ensures
 
 pub next_part_spec : {M : Type 1} → statement M
 next_part_spec =

@@ -1,30 +1,23 @@
 -- `part_row` meets its contract.
 use native.Mathlib.Omega.{arith}
 use borrow.Author.Rules.{rules}
-use Prim.Native.Nat.{◌*◌}
-use mathlib.Core.Path.{◌≡◌, sym}
+use mathlib.Core.Path.{sym}
 use lib.Seq.{length-take-le}
 use Rattle.choices.proofs.NextCases.{row-needs, by-open}
 use Rattle.choices.proofs.parts.part_row.Statement.{statement}
 use Rattle.choices.proofs.parts.part_row.Tie as tie
-use Rattle.choices.proofs.parts.part_row.Reads as reads
-use Rattle.choices.proofs.parts.part_row.Lts as lts
-use Rattle.choices.proofs.part.part_counts.Reads as part-counts-reads
-use Rattle.formats.proofs.lists.is_listed.Reads as is-listed-reads
 
 slice-aggregate-part-counts : tie.Need-slice_bounds-part_counts-end
 slice-aggregate-part-counts c =
-    let t = c.before.before.before.before.before.before.before.before.before.before.before in
-    sym (length-take-le _ _ (omega (arith, t.requires.next.room)))
+    sym (length-take-le _ _ (omega (arith, c.requires.next.room)))
 
 part-counts-requires : tie.Need-part_counts-requires
 part-counts-requires c κs =
-    let t = c.before.before.before.before.before.before.before.before.before.before.before.before in
-    row-needs _ _ _ _ _ _ _ _ _ _ _ _ _ t.requires.next _ t.requires
+    row-needs _ _ _ _ _ _ _ _ _ _ _ _ _ c.requires.next _ c.requires
 
 returns : tie.Need-returns
 returns c =
-    by-open _ _ _ _ _ _ _ _ c.before.before.before.is_listed-free.ensures c.part_counts.ensures
+    by-open _ _ _ _ _ _ _ _ c.is_listed-free.ensures c.part_counts.ensures
 
 pub part_row_spec : {M : Type 1} → statement M
 part_row_spec =

@@ -1,20 +1,15 @@
 -- `may_fits` meets its contract.
-use Prim.Native.Nat.{◌-◌}
 use Rattle.fewest.proofs.call.CallLaws.{may_none, may-some}
-use native.Mathlib.Omega.{arith}
-use borrow.Author.Rules.{rules}
 use Rattle.fewest.proofs.call.may_fits.Statement.{statement}
 use Rattle.fewest.proofs.call.may_fits.Tie as tie
-use Rattle.fewest.proofs.call.may_fits.Reads as reads
-use Rattle.fewest.proofs.call.may_fits.Lts as lts
 
 returns : tie.Need-returns-then-m-eq0
 returns c =
-    may_none c.before.args.m c.before.args.n c.if-m-eq0.true
+    may_none c.args.m c.args.n c.if-m-eq0.true
 
 returns-2 : tie.Need-returns
 returns-2 c =
-    may-some c.before.args.m c.before.args.n c.if-m-eq0.false
+    may-some c.args.m c.args.n c.if-m-eq0.false
 
 pub may_fits_spec : {M : Type 1} → statement M
 may_fits_spec =

@@ -1,13 +1,11 @@
 -- `room_fits` meets its contract.
-use Prim.Native.Nat.{◌+◌, ◌-◌, ◌≤◌}
+use Prim.Native.Nat.{◌+◌, ◌≤◌}
 use native.Mathlib.Nat.{mul-le-mul_right}
 use Rattle.fewest.proofs.call.CallLaws.{room-work, room-nodes, room-labels}
 use native.Mathlib.Omega.{arith}
 use borrow.Author.Rules.{rules}
 use Rattle.fewest.proofs.call.room_fits.Statement.{statement}
 use Rattle.fewest.proofs.call.room_fits.Tie as tie
-use Rattle.fewest.proofs.call.room_fits.Reads as reads
-use Rattle.fewest.proofs.call.room_fits.Lts as lts
 
 mul-if1 : tie.Need-overflow_mul-n
 mul-if1 c =
@@ -18,18 +16,18 @@ mul-if1 c =
 
 returns : tie.Need-returns-then-work-n
 returns c =
-    let g = c.before.args in
+    let g = c.args in
     room-work g.n g.s g.work g.nodes g.labels c.if-work-n.true
 
 returns-2 : tie.Need-returns-then-nodes-lt-CHANGE_LIMIT
 returns-2 c =
-    let g = c.before.before.args in
-    room-nodes g.n g.s g.work g.nodes g.labels (omega (arith, c.before.if-work-n.false)) c.if-nodes-lt-CHANGE_LIMIT.true
+    let g = c.args in
+    room-nodes g.n g.s g.work g.nodes g.labels (omega (arith, c.if-work-n.false)) c.if-nodes-lt-CHANGE_LIMIT.true
 
 returns-3 : tie.Need-returns
 returns-3 c =
-    let g = c.before.before.args in
-    room-labels g.n g.s g.work g.nodes g.labels (omega (arith, c.before.if-work-n.false)) (omega (arith, c.if-nodes-lt-CHANGE_LIMIT.false))
+    let g = c.args in
+    room-labels g.n g.s g.work g.nodes g.labels (omega (arith, c.if-work-n.false)) (omega (arith, c.if-nodes-lt-CHANGE_LIMIT.false))
 
 pub room_fits_spec : {M : Type 1} → statement M
 room_fits_spec =

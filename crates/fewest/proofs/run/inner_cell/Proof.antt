@@ -1,14 +1,9 @@
 -- `inner_cell` meets its contract.
-use Prim.Native.Nat.{ℕ, ◌+◌, ◌*◌, ◌-◌}
-use mathlib.Core.Path.{◌≡◌}
 use Rattle.allowed.specs.inner.masks.Up.{inner_cell}
 use native.Mathlib.Omega.{arith}
 use borrow.Author.Rules.{rules}
 use Rattle.fewest.proofs.run.inner_cell.Statement.{statement}
 use Rattle.fewest.proofs.run.inner_cell.Tie as tie
-use Rattle.fewest.proofs.run.inner_cell.Reads as reads
-use Rattle.fewest.proofs.run.inner_cell.Lts as lts
-use Rattle.formats.proofs.rules.rule.Reads as rule-reads
 
 returns : tie.Need-returns
 unfolding inner_cell

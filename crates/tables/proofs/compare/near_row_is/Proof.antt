@@ -43,7 +43,8 @@ loop-again c =
       omega arith,
       elim c.if-x-y.branch [
         | then-x-y w ↦ w.same-is ∙ every-other l.q (map_cell a.s a.state_table.now a.v) g w.if-x-y.true
-        | else-x-y w ↦ w.same-is ∙ every-same l.q (map_cell a.s a.state_table.now a.v) g l.same l.invariant.1 w.if-x-y.false
+        | else-x-y w ↦ w.same-is ∙ every-same l.q (map_cell a.s a.state_table.now a.v) g l.same l.invariant.1
+            w.if-x-y.false
       ],
     )
 

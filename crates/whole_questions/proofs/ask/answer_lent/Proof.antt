@@ -8,17 +8,9 @@ use Rattle.whole_questions.proofs.AskChecks.{passed_are}
 use Rattle.whole_questions.proofs.AnswerLaws.{lent-passed, lent-lost, rooted-room, root-args, lent-answer}
 use Rattle.whole_questions.proofs.ask.answer_lent.Statement.{statement}
 use Rattle.whole_questions.proofs.ask.answer_lent.Tie as tie
-use Rattle.whole_questions.proofs.ask.answer_lent.Reads as reads
-use Rattle.whole_questions.proofs.ask.answer_lent.Lts as lts
-use Rattle.formats.proofs.bytes.read32.Reads as read32-reads
-use Rattle.whole_questions.proofs.ask.answer_roots.Reads as answer-roots-reads
-use Rattle.questions.proofs.changed_roots.roots_left.Reads as roots-left-reads
 
 heads : (s : tie.Start) → let g = s.args in Headers 20 g.plan.now g.rules.now
 heads s = (passed_are _ _ _ _ _ _ s.requires.passed).headed.headers
-
-abbrev of : tie.After-read32-k → tie.Start
-of c = c.before.before.before.before.before.before.before.before.before
 
 read32-requires : tie.Need-read32-n-requires
 read32-requires c κs = omega (arith, (heads c.before.before.before.before.before.before).plan-long)
@@ -32,69 +24,43 @@ read32-requires-3 c κs =
 
 roots-left-requires : tie.Need-roots_left-found-requires
 roots-left-requires c κs =
-    let y = c.before in
-    let x = y.before in
-    let h = (lent-passed _ _ _ _ _ _ (of c).requires x.read32-n.result y.read32-s.result c.read32-k.result
-    x.read32-n.ensures y.read32-s.ensures c.read32-k.ensures).headed in
+    let h = (lent-passed _ _ _ _ _ _ c.requires c.read32-n.result c.read32-s.result c.read32-k.result
+    c.read32-n.ensures c.read32-s.ensures c.read32-k.ensures).headed in
     record {
-      most = omega (arith, h.headers.in-limits.most, x.read32-n.ensures);
-      labels = omega (arith, h.plan_exact, x.read32-n.ensures);
-      numbers = omega (arith, h.node_table_room, x.read32-n.ensures);
+      most = omega (arith, h.headers.in-limits.most, c.read32-n.ensures);
+      labels = omega (arith, h.plan_exact, c.read32-n.ensures);
+      numbers = omega (arith, h.node_table_room, c.read32-n.ensures);
     }
 
 returns : tie.Need-returns-then-not-found
 returns c =
-    let q = c.before.before in
-    let z = q.before in
-    let y = z.before in
-    let x = y.before in
-    lent-lost _ _ _ _ _ _ (of z).requires x.read32-n.result y.read32-s.result z.read32-k.result x.read32-n.ensures
-    y.read32-s.ensures z.read32-k.ensures q.roots_left-found.result q.roots_left-found.ensures
+    lent-lost _ _ _ _ _ _ c.requires c.read32-n.result c.read32-s.result c.read32-k.result c.read32-n.ensures
+    c.read32-s.ensures c.read32-k.ensures c.roots_left-found.result c.roots_left-found.ensures
     (not-true _ c.if-not-found.true)
 
 array-share-prefix-list : tie.Need-slice_bounds-list-end
 array-share-prefix-list c =
-    let e = c.before in
-    let q = e.before.before in
-    let z = q.before in
-    let y = z.before in
-    let x = y.before in
-    rooted-room _ _ _ _ _ _ (of z).requires x.read32-n.result y.read32-s.result z.read32-k.result
-    x.read32-n.ensures y.read32-s.ensures z.read32-k.ensures q.roots_left-found.result q.roots_left-found.ensures
-    (not-false _ e.if-not-found.false)
+    rooted-room _ _ _ _ _ _ c.requires c.read32-n.result c.read32-s.result c.read32-k.result
+    c.read32-n.ensures c.read32-s.ensures c.read32-k.ensures c.roots_left-found.result c.roots_left-found.ensures
+    (not-false _ c.if-not-found.false)
 
 slice-aggregate-answer-roots : tie.Need-slice_bounds-answer_roots-end
 slice-aggregate-answer-roots c =
-    let e = c.before.before in
-    let q = e.before.before in
-    let z = q.before in
-    let y = z.before in
-    let x = y.before in
-    sym (length-take-le _ _ (rooted-room _ _ _ _ _ _ (of z).requires x.read32-n.result y.read32-s.result
-    z.read32-k.result x.read32-n.ensures y.read32-s.ensures z.read32-k.ensures q.roots_left-found.result
-    q.roots_left-found.ensures (not-false _ e.if-not-found.false)))
+    sym (length-take-le _ _ (rooted-room _ _ _ _ _ _ c.requires c.read32-n.result c.read32-s.result
+    c.read32-k.result c.read32-n.ensures c.read32-s.ensures c.read32-k.ensures c.roots_left-found.result
+    c.roots_left-found.ensures (not-false _ c.if-not-found.false)))
 
 answer-roots-requires : tie.Need-answer_roots-requires
 answer-roots-requires c κs =
-    let e = c.before.before in
-    let q = e.before.before in
-    let z = q.before in
-    let y = z.before in
-    let x = y.before in
-    root-args _ _ _ _ _ _ (of z).requires x.read32-n.result y.read32-s.result z.read32-k.result x.read32-n.ensures
-    y.read32-s.ensures z.read32-k.ensures q.roots_left-found.result q.roots_left-found.ensures
-    (not-false _ e.if-not-found.false)
+    root-args _ _ _ _ _ _ c.requires c.read32-n.result c.read32-s.result c.read32-k.result c.read32-n.ensures
+    c.read32-s.ensures c.read32-k.ensures c.roots_left-found.result c.roots_left-found.ensures
+    (not-false _ c.if-not-found.false)
 
 returns-2 : tie.Need-returns
 returns-2 c =
-    let e = c.before.before.before in
-    let q = e.before.before in
-    let z = q.before in
-    let y = z.before in
-    let x = y.before in
-    lent-answer _ _ _ _ _ _ (of z).requires x.read32-n.result y.read32-s.result z.read32-k.result
-    x.read32-n.ensures y.read32-s.ensures z.read32-k.ensures q.roots_left-found.result q.roots_left-found.ensures
-    (not-false _ e.if-not-found.false) c.answer_roots.result c.answer_roots.ensures
+    lent-answer _ _ _ _ _ _ c.requires c.read32-n.result c.read32-s.result c.read32-k.result
+    c.read32-n.ensures c.read32-s.ensures c.read32-k.ensures c.roots_left-found.result c.roots_left-found.ensures
+    (not-false _ c.if-not-found.false) c.answer_roots.result c.answer_roots.ensures
 
 pub answer_lent_spec : {M : Type 1} → statement M
 answer_lent_spec =

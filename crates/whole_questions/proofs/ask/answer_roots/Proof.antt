@@ -1,75 +1,55 @@
 -- `answer_roots` meets its contract.
-use mathlib.Core.Path.{sym}
 use native.Mathlib.Omega.{arith}
 use borrow.Author.Rules.{rules}
-use Rattle.formats.proofs.BufferLaws.{Limits, limits-are, lengths-are}
+use Rattle.formats.proofs.BufferLaws.{limits-are, lengths-are}
 use Rattle.whole_questions.proofs.AnswerLaws.{climbed-state, roots-lost, roots-answer}
 use Rattle.whole_questions.proofs.ask.answer_roots.Statement.{statement}
 use Rattle.whole_questions.proofs.ask.answer_roots.Tie as tie
-use Rattle.whole_questions.proofs.ask.answer_roots.Reads as reads
-use Rattle.whole_questions.proofs.ask.answer_roots.Lts as lts
-use Rattle.formats.proofs.rules.inner_count.Reads as inner-count-reads
-use Rattle.whole_questions.proofs.parts.all_parts.Reads as all-parts-reads
-
-abbrev of : tie.After-all_parts → tie.Start
-of a = a.before.before.before.before.before.before.before.before
-
-limits : (a : tie.After-all_parts) → let g = (of a).args in Limits g.n g.s g.k
-limits a = limits-are _ _ _ (of a).requires.all.limits
 
 all-parts-requires : tie.Need-all_parts-requires
-all-parts-requires c κs = c.before.before.before.before.before.before.before.requires.all
+all-parts-requires c κs = c.requires.all
 
 add-yes : tie.Need-overflow_add-yes
-add-yes c = omega (arith, (limits c.before.before.before).labels_most)
+add-yes c = omega (arith, (limits-are _ _ _ c.requires.all.limits).labels_most)
 
 inner-count-requires : tie.Need-inner_count-requires
 inner-count-requires c κs =
-    let l = limits c.before.before.before in
+    let l = limits-are _ _ _ c.requires.all.limits in
     record { states = l.few; labels = l.labels_most }
 
 add-yes-2 : tie.Need-overflow_add-yes-in-Reached
-add-yes-2 c = omega (arith, (limits c.before.before.before.before).labels_most, c.inner_count.ensures.fits)
+add-yes-2 c = omega (arith, (limits-are _ _ _ c.requires.all.limits).labels_most, c.inner_count.ensures.fits)
 
 add-yes-3 : tie.Need-overflow_add-yes-in-Reached-2
 add-yes-3 c =
-    let x = c.before.before in
-    let a = x.before.before in
-    let q = climbed-state _ _ _ _ _ _ _ _ _ _ (of a).requires a.all_parts.result a.all_parts.ensures
-    x.x-1.given.0.0 x.x-1.given.1 in
-    omega (arith, q, (limits a).few, (limits a).labels_most, c.inner_count.ensures.fits)
+    let q = climbed-state _ _ _ _ _ _ _ _ _ _ c.requires c.all_parts.result c.all_parts.ensures
+    c.in-Reached.x c.in-Reached.is in
+    let l = limits-are _ _ _ c.requires.all.limits in
+    omega (arith, q, l.few, l.labels_most, c.inner_count.ensures.fits)
 
 shared-slice-read-yes : tie.Need-bounds-rules-k
 shared-slice-read-yes c =
-    let i = c.before in
-    let x = i.before.before in
-    let a = x.before.before in
-    let q = climbed-state _ _ _ _ _ _ _ _ _ _ (of a).requires a.all_parts.result a.all_parts.ensures
-    x.x-1.given.0.0 x.x-1.given.1 in
+    let q = climbed-state _ _ _ _ _ _ _ _ _ _ c.requires c.all_parts.result c.all_parts.ensures
+    c.in-Reached.x c.in-Reached.is in
     omega (
       arith,
       q,
-      i.inner_count.ensures.value,
-      (lengths-are _ _ _ _ _ _ _ (of a).requires.all.lengths).table_is,
+      c.inner_count.ensures.value,
+      (lengths-are _ _ _ _ _ _ _ c.requires.all.lengths).table_is,
     )
 
 cast-t22 : tie.Need-overflow_cast-result
 cast-t22 c =
-    let a = c.before.before.before.before.before in
-    omega (arith, (of a).requires.all.few, (of a).requires.all.many_list)
+    omega (arith, c.requires.all.few, c.requires.all.many_list)
 
 returns : tie.Need-returns-in-Reached
 returns c =
-    let i = c.before in
-    let x = i.before.before in
-    let a = x.before.before in
-    roots-answer _ _ _ _ _ _ _ _ _ _ (of a).requires a.all_parts.result a.all_parts.ensures x.x-1.given.0.0
-    x.x-1.given.1 i.inner_count.result i.inner_count.ensures.value
+    roots-answer _ _ _ _ _ _ _ _ _ _ c.requires c.all_parts.result c.all_parts.ensures c.in-Reached.x
+    c.in-Reached.is c.inner_count.result c.inner_count.ensures.value
 
 returns-2 : tie.Need-returns-in-OutOfRange
 returns-2 c =
-    let a = c.before.before in
-    roots-lost _ _ _ _ _ _ _ _ _ _ (of a).requires a.all_parts.result a.all_parts.ensures c.enum_told-1.given.1
+    roots-lost _ _ _ _ _ _ _ _ _ _ c.requires c.all_parts.result c.all_parts.ensures c.in-OutOfRange.is
 
 pub answer_roots_spec : {M : Type 1} → statement M
 answer_roots_spec =

@@ -5,31 +5,26 @@ use Rattle.whole_questions.proofs.AskNumbers.{refused-is, lent_is}
 use Rattle.whole_questions.proofs.AskTheorem.{ask-done}
 use Rattle.whole_questions.proofs.ask.ask.Statement.{statement}
 use Rattle.whole_questions.proofs.ask.ask.Tie as tie
-use Rattle.whole_questions.proofs.ask.ask.Reads as reads
-use Rattle.whole_questions.proofs.ask.ask.Lts as lts
-use Rattle.whole_questions.proofs.ask.answer_lent.Reads as answer-lent-reads
-use Rattle.whole_questions.proofs.checks.check_asked.Reads as check-asked-reads
 
 returns : tie.Need-returns-then-no-ne0
 returns c =
-    let g = c.before.before.before.before.before.before.before.before.args in
+    let g = c.args in
     ask-done g.plan.now g.rules.now g.node_table.now g.state_table.now g.nodes.now g.labels.now _
     (refused-is g.plan.now g.rules.now g.node_table.now g.state_table.now g.nodes.now
-    g.labels.now c.before.check_asked-no.result c.before.check_asked-no.ensures c.if-no-ne0.true)
+    g.labels.now c.check_asked-no.result c.check_asked-no.ensures c.if-no-ne0.true)
 
 answer-lent-requires : tie.Need-answer_lent-requires
 answer-lent-requires c κs =
-    let z : c.before.check_asked-no.result ≡ 0 = c.if-no-ne0.false in
-    record { passed = sym c.before.check_asked-no.ensures ∙ z }
+    let z : c.check_asked-no.result ≡ 0 = c.if-no-ne0.false in
+    record { passed = sym c.check_asked-no.ensures ∙ z }
 
 returns-2 : tie.Need-returns
 returns-2 c =
-    let e = c.before in
-    let z : e.before.check_asked-no.result ≡ 0 = e.if-no-ne0.false in
-    let g = e.before.before.before.before.before.before.before.before.args in
+    let z : c.check_asked-no.result ≡ 0 = c.if-no-ne0.false in
+    let g = c.args in
     ask-done g.plan.now g.rules.now g.node_table.now g.state_table.now g.nodes.now g.labels.now _
     (lent_is g.plan.now g.rules.now g.node_table.now g.state_table.now g.nodes.now g.labels.now
-    c.answer_lent.result (sym e.before.check_asked-no.ensures ∙ z) c.answer_lent.ensures)
+    c.answer_lent.result (sym c.check_asked-no.ensures ∙ z) c.answer_lent.ensures)
 
 pub ask_spec : {M : Type 1} → statement M
 ask_spec = tie.close (tie.spec (λ c κs. search rules) returns answer-lent-requires returns-2)

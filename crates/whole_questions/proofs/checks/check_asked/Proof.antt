@@ -9,23 +9,17 @@ use Rattle.formats.proofs.BufferLaws.{Headers, headers-are}
 use Rattle.whole_questions.proofs.AskChecks.{no-17, no-17-lengths, then-list}
 use Rattle.whole_questions.proofs.checks.check_asked.Statement.{statement}
 use Rattle.whole_questions.proofs.checks.check_asked.Tie as tie
-use Rattle.whole_questions.proofs.checks.check_asked.Reads as reads
-use Rattle.whole_questions.proofs.checks.check_asked.Lts as lts
-use Rattle.formats.proofs.buffers.headers_fit.Reads as headers-fit-reads
-use Rattle.formats.proofs.buffers.rule_buffers_fit.Reads as rule-buffers-fit-reads
-use Rattle.formats.proofs.bytes.read32.Reads as read32-reads
-use Rattle.formats.proofs.lists.check_list.Reads as check-list-reads
 
-yes : (c : tie.Else-not-headers_fit) → let g = c.before.before.before.before.before.before.args in
+yes : (c : tie.Else-not-headers_fit) → let g = c.args in
     headers_fit 20 g.plan.now g.rules.now ≡ true
-yes c = sym c.before.headers_fit.ensures ∙ not-false _ c.if-not-headers_fit.false-raw
+yes c = sym c.headers_fit.ensures ∙ not-false _ c.if-not-headers_fit.false-raw
 
-heads : (c : tie.Else-not-headers_fit) → let g = c.before.before.before.before.before.before.args in
+heads : (c : tie.Else-not-headers_fit) → let g = c.args in
     Headers 20 g.plan.now g.rules.now
 heads c = headers-are 20 _ _ (yes c)
 
 returns : tie.Need-returns-then-not-headers_fit
-returns c = no-17 _ _ _ _ _ _ (sym c.before.headers_fit.ensures ∙ not-true _ c.if-not-headers_fit.true-raw)
+returns c = no-17 _ _ _ _ _ _ (sym c.headers_fit.ensures ∙ not-true _ c.if-not-headers_fit.true-raw)
 
 read32-requires : tie.Need-read32-n-requires
 read32-requires c κs = omega (arith, (heads c).plan-long)
@@ -40,34 +34,25 @@ rule-buffers-fit-requires : tie.Need-rule_buffers_fit-requires
 rule-buffers-fit-requires c κs =
     let l = (heads c.before.before.before).in-limits in
     record {
-      most = omega (arith, l.most, c.before.before.read32-n.ensures);
-      few = omega (arith, l.few, c.before.read32-s.ensures);
+      most = omega (arith, l.most, c.read32-n.ensures);
+      few = omega (arith, l.few, c.read32-s.ensures);
       labels = omega (arith, l.labels_most, c.read32-k.ensures);
     }
 
 returns-2 : tie.Need-returns-then-not-rule_buffers_fit
 returns-2 c =
-    let t = c.before in
-    let z = t.before in
-    let y = z.before in
-    let x = y.before in
-    let g = x.before.before.before.before.before.before.before.args in
+    let g = c.args in
     no-17-lengths g.plan.now g.rules.now g.node_table g.state_table g.nodes.now g.labels.now
-    (yes x.before) x.read32-n.result y.read32-s.result z.read32-k.result x.read32-n.ensures
-    y.read32-s.ensures z.read32-k.ensures (sym t.rule_buffers_fit.ensures ∙ not-true _ c.if-not-rule_buffers_fit.true-raw)
+    (yes c.before.before.before.before.before) c.read32-n.result c.read32-s.result c.read32-k.result c.read32-n.ensures
+    c.read32-s.ensures c.read32-k.ensures (sym c.rule_buffers_fit.ensures ∙ not-true _ c.if-not-rule_buffers_fit.true-raw)
 
 returns-3 : tie.Need-returns
 returns-3 c =
-    let u = c.before in
-    let t = u.before in
-    let z = t.before in
-    let y = z.before in
-    let x = y.before in
-    let g = x.before.before.before.before.before.before.before.args in
+    let g = c.args in
     c.check_list.ensures
     ∙ then-list g.plan.now g.rules.now g.node_table g.state_table g.nodes.now g.labels.now
-    (yes x.before) x.read32-n.result y.read32-s.result z.read32-k.result x.read32-n.ensures
-    y.read32-s.ensures z.read32-k.ensures (sym t.rule_buffers_fit.ensures ∙ not-false _ u.if-not-rule_buffers_fit.false-raw)
+    (yes c.before.before.before.before.before.before) c.read32-n.result c.read32-s.result c.read32-k.result c.read32-n.ensures
+    c.read32-s.ensures c.read32-k.ensures (sym c.rule_buffers_fit.ensures ∙ not-false _ c.if-not-rule_buffers_fit.false-raw)
 
 pub check_asked_spec : {M : Type 1} → statement M
 check_asked_spec =

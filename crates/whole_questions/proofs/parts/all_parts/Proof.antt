@@ -8,9 +8,6 @@ use Rattle.whole_questions.proofs.PartsLoop.{Going, going_start, states_length, 
 use Rattle.whole_questions.proofs.PartsLoop.{going-lost, going_done}
 use Rattle.whole_questions.proofs.parts.all_parts.Statement.{statement}
 use Rattle.whole_questions.proofs.parts.all_parts.Tie as tie
-use Rattle.whole_questions.proofs.parts.all_parts.Reads as reads
-use Rattle.whole_questions.proofs.parts.all_parts.Lts as lts
-use Rattle.questions.proofs.part.part.Reads as part-reads
 
 abbrev invariant-loop : tie.invariant-loop-i
 invariant-loop n s k plan rules nt st roots nodes labels states₀ last₀ links₀ passed₀ i₀ states last links passed i =
@@ -22,79 +19,64 @@ decreases-loop n s k plan rules nt st roots nodes labels states₀ last₀ links
 
 loop-holds : tie.Need-loop-i-init invariant-loop decreases-loop
 loop-holds c =
-    going_start _ _ _ _ _ _ _ _ _ _ c.before.before.before.before.before.before.before.requires
+    going_start _ _ _ _ _ _ _ _ _ _ c.requires
 
 array-share-prefix-states : tie.Need-slice_bounds-states-end invariant-loop decreases-loop
 array-share-prefix-states c =
-    let o = c.before.loop-i in
+    let o = c.loop-i in
     omega (arith, c.loop-i-test.true, o.invariant.long, o.invariant.args.few)
 
 slice-aggregate-part : tie.Need-slice_bounds-part-end invariant-loop decreases-loop
 slice-aggregate-part c =
-    let e = c.before in
-    let o = e.before.loop-i in
+    let o = c.loop-i in
     sym (states_length _ _ _ _ _ _ _ _ _ _ o.states o.last o.links o.passed o.i o.invariant
-    e.loop-i-test.true)
+    c.loop-i-test.true)
 
 array-write-states : tie.Need-bounds-states-i invariant-loop decreases-loop
 array-write-states c =
-    let e = c.before.before.before.before.before in
-    let o = e.before.loop-i in
-    omega (arith, e.loop-i-test.true, o.invariant.args.few)
+    let o = c.loop-i in
+    omega (arith, c.loop-i-test.true, o.invariant.args.few)
 
 add-links : tie.Need-overflow_add-links invariant-loop decreases-loop
 add-links c =
-    let x = c.before.before in
-    let f = x.before.before in
-    let e = f.before.before in
-    let o = e.before.loop-i in
+    let o = c.loop-i in
     let l = next-links _ _ _ _ _ _ _ _ _ _ o.states o.last o.links o.passed o.i o.invariant
-    e.loop-i-test.true f.part.result f.part.ensures x.x-1.given.0.0 x.x-1.given.1 in
+    c.loop-i-test.true c.part.result c.part.ensures c.in-Reached.x c.in-Reached.is in
     let d = next-passed _ _ _ _ _ _ _ _ _ _ o.states o.last o.links o.passed o.i o.invariant
-    e.loop-i-test.true f.part.result f.part.ensures x.x-1.given.0.0 x.x-1.given.1 in
-    omega (arith, l, d, o.invariant.few-links, e.loop-i-test.true, o.invariant.args.few)
+    c.loop-i-test.true c.part.result c.part.ensures c.in-Reached.x c.in-Reached.is in
+    omega (arith, l, d, o.invariant.few-links, c.loop-i-test.true, o.invariant.args.few)
 
 add-passed : tie.Need-overflow_add-passed invariant-loop decreases-loop
 add-passed c =
-    let x = c.before.before.before in
-    let f = x.before.before in
-    let e = f.before.before in
-    let o = e.before.loop-i in
+    let o = c.loop-i in
     let l = next-passed _ _ _ _ _ _ _ _ _ _ o.states o.last o.links o.passed o.i o.invariant
-    e.loop-i-test.true f.part.result f.part.ensures x.x-1.given.0.0 x.x-1.given.1 in
-    omega (arith, l, e.loop-i-test.true, o.invariant.args.few)
+    c.loop-i-test.true c.part.result c.part.ensures c.in-Reached.x c.in-Reached.is in
+    omega (arith, l, c.loop-i-test.true, o.invariant.args.few)
 
 returns : tie.Need-returns-in-OutOfRange invariant-loop decreases-loop
 returns c =
-    let f = c.before.before in
-    let e = f.before.before in
-    let o = e.before.loop-i in
-    going-lost _ _ _ _ _ _ _ _ _ _ o.states o.last o.links o.passed o.i o.invariant e.loop-i-test.true
-    f.part.result f.part.ensures c.enum_told-1.given.1
+    let o = c.loop-i in
+    going-lost _ _ _ _ _ _ _ _ _ _ o.states o.last o.links o.passed o.i o.invariant c.loop-i-test.true
+    c.part.result c.part.ensures c.in-OutOfRange.is
 
 add-i : tie.Need-overflow_add-i invariant-loop decreases-loop
 add-i c =
-    let e = c.before.before.before.before.before.before.before in
-    let o = e.before.loop-i in
-    omega (arith, e.loop-i-test.true, o.invariant.args.few)
+    let o = c.loop-i in
+    omega (arith, c.loop-i-test.true, o.invariant.args.few)
 
 loop-less : tie.Need-loop-i-smaller invariant-loop decreases-loop
 loop-less c =
-    let e = c.before.before.before.before.before.before.before in
-    omega (arith, e.loop-i-test.true)
+    omega (arith, c.loop-i-test.true)
 
 loop-again : tie.Need-loop-i-preserved invariant-loop decreases-loop
 loop-again c =
-    let x = c.before.before.before in
-    let f = x.before.before in
-    let e = f.before.before in
-    let o = e.before.loop-i in
-    going_next _ _ _ _ _ _ _ _ _ _ o.states o.last o.links o.passed o.i o.invariant e.loop-i-test.true
-    f.part.result f.part.ensures x.x-1.given.0.0 x.x-1.given.1
+    let o = c.loop-i in
+    going_next _ _ _ _ _ _ _ _ _ _ o.states o.last o.links o.passed o.i o.invariant c.loop-i-test.true
+    c.part.result c.part.ensures c.in-Reached.x c.in-Reached.is
 
 returns-2 : tie.Need-returns invariant-loop decreases-loop
 returns-2 c =
-    let o = c.before.loop-i in
+    let o = c.loop-i in
     going_done _ _ _ _ _ _ _ _ _ _ o.states o.last o.links o.passed o.i o.invariant c.loop-i-test.false
 
 pub all_parts_spec : {M : Type 1} → statement M

@@ -1,14 +1,10 @@
 -- `join_row` meets its contract.
 use native.Mathlib.Omega.{arith}
 use borrow.Author.Rules.{rules}
-use Prim.Native.Nat.{◌+◌, ◌*◌, ◌-◌}
+use Prim.Native.Nat.{◌-◌}
 use Rattle.choices.proofs.node_counts.JoinLoop.{RowJoining, row-start, row-args, row-accumulated, row_done}
 use Rattle.choices.proofs.node_counts.join.join_row.Statement.{statement}
 use Rattle.choices.proofs.node_counts.join.join_row.Tie as tie
-use Rattle.choices.proofs.node_counts.join.join_row.Reads as reads
-use Rattle.choices.proofs.node_counts.join.join_row.Lts as lts
-use Rattle.choices.proofs.node_counts.join.accumulate.Reads as accumulate-reads
-use Rattle.choices.proofs.node_counts.sums.capped_times.Reads as capped-times-reads
 
 abbrev invariant-loop : tie.invariant-loop-q
 invariant-loop inner s k from to p x right out₀ q₀ out q = RowJoining inner s k from to p x right out₀ out q
@@ -17,41 +13,41 @@ abbrev decreases-loop : tie.decreases-loop-q
 decreases-loop inner s k from to p x right out₀ q₀ out q = s - q
 
 loop-holds : tie.Need-loop-q-init invariant-loop decreases-loop
-loop-holds c = row-start _ _ _ _ _ _ _ _ _ c.before.requires
+loop-holds c = row-start _ _ _ _ _ _ _ _ _ c.requires
 
 mul-capped-times : tie.Need-offset_bounds-right-q invariant-loop decreases-loop
 mul-capped-times c =
-    omega (arith, c.loop-q-test.true, c.before.loop-q.invariant.args.table.states_most)
+    omega (arith, c.loop-q-test.true, c.loop-q.invariant.args.table.states_most)
 
 element-copy-out-capped-times : tie.Need-bounds-right-q invariant-loop decreases-loop
 element-copy-out-capped-times c =
-    omega (arith, c.loop-q-test.true, c.before.loop-q.invariant.args.table.states_most)
+    omega (arith, c.loop-q-test.true, c.loop-q.invariant.args.table.states_most)
 
 accumulate-requires : tie.Need-accumulate-requires invariant-loop decreases-loop
 accumulate-requires c κs =
-    row-args _ _ _ _ _ _ _ _ _ _ _ c.before.before.before.before.loop-q.invariant
-    c.before.before.before.loop-q-test.true c.before.capped_times-y.result
-    c.before.capped_times-y.ensures
+    row-args _ _ _ _ _ _ _ _ _ _ _ c.loop-q.invariant
+    c.loop-q-test.true c.capped_times-y.result
+    c.capped_times-y.ensures
 
 add-q : tie.Need-overflow_add-q invariant-loop decreases-loop
 add-q c =
     omega (
       arith,
-      c.before.before.before.before.loop-q-test.true,
-      c.before.before.before.before.before.loop-q.invariant.args.table.states_most,
+      c.loop-q-test.true,
+      c.loop-q.invariant.args.table.states_most,
     )
 
 loop-less : tie.Need-loop-q-smaller invariant-loop decreases-loop
-loop-less c = omega (arith, c.before.before.before.before.loop-q-test.true)
+loop-less c = omega (arith, c.loop-q-test.true)
 
 loop-again : tie.Need-loop-q-preserved invariant-loop decreases-loop
 loop-again c =
-    row-accumulated _ _ _ _ _ _ _ _ _ _ _ c.before.before.before.before.before.loop-q.invariant
-    c.before.before.before.before.loop-q-test.true c.before.before.capped_times-y.result
-    c.before.before.capped_times-y.ensures _ c.accumulate.ensures
+    row-accumulated _ _ _ _ _ _ _ _ _ _ _ c.loop-q.invariant
+    c.loop-q-test.true c.capped_times-y.result
+    c.capped_times-y.ensures _ c.accumulate.ensures
 
 returns : tie.Need-returns invariant-loop decreases-loop
-returns c = row_done _ _ _ _ _ _ _ _ _ _ _ c.before.loop-q.invariant c.loop-q-test.false
+returns c = row_done _ _ _ _ _ _ _ _ _ _ _ c.loop-q.invariant c.loop-q-test.false
 
 pub join_row_spec : {M : Type 1} → statement M
 join_row_spec =

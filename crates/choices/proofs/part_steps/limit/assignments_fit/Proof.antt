@@ -5,8 +5,6 @@ use Prim.Native.Nat.{◌-◌}
 use Rattle.choices.proofs.part_steps.LimitLoop.{Powering, power-start, power-fits, power-next, power-over, power-done}
 use Rattle.choices.proofs.part_steps.limit.assignments_fit.Statement.{statement}
 use Rattle.choices.proofs.part_steps.limit.assignments_fit.Tie as tie
-use Rattle.choices.proofs.part_steps.limit.assignments_fit.Reads as reads
-use Rattle.choices.proofs.part_steps.limit.assignments_fit.Lts as lts
 
 abbrev invariant-loop : tie.invariant-loop-i
 invariant-loop k m p₀ i₀ p i = Powering k m p i
@@ -18,23 +16,23 @@ loop-holds : tie.Need-loop-i-init invariant-loop decreases-loop
 loop-holds c = power-start _ _ c.requires
 
 returns : tie.Need-returns-then-k-p invariant-loop decreases-loop
-returns c = power-over _ _ _ _ c.before.before.loop-i.invariant c.before.loop-i-test.true c.if-k-p.true
+returns c = power-over _ _ _ _ c.loop-i.invariant c.loop-i-test.true c.if-k-p.true
 
 mul-p : tie.Need-overflow_mul-p invariant-loop decreases-loop
 mul-p c = omega (
   arith,
-  power-fits _ _ _ _ c.before.before.loop-i.invariant c.before.loop-i-test.true
+  power-fits _ _ _ _ c.loop-i.invariant c.loop-i-test.true
       c.if-k-p.false,
 )
 
 loop-less : tie.Need-loop-i-smaller invariant-loop decreases-loop
-loop-less c = omega (arith, c.before.loop-i-test.true)
+loop-less c = omega (arith, c.loop-i-test.true)
 
 loop-again : tie.Need-loop-i-preserved invariant-loop decreases-loop
-loop-again c = power-next _ _ _ _ c.before.before.loop-i.invariant c.before.loop-i-test.true c.if-k-p.false
+loop-again c = power-next _ _ _ _ c.loop-i.invariant c.loop-i-test.true c.if-k-p.false
 
 returns-2 : tie.Need-returns invariant-loop decreases-loop
-returns-2 c = power-done _ _ _ _ c.before.loop-i.invariant c.loop-i-test.false
+returns-2 c = power-done _ _ _ _ c.loop-i.invariant c.loop-i-test.false
 
 pub assignments_fit_spec : {M : Type 1} → statement M
 assignments_fit_spec =

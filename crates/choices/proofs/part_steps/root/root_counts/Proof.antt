@@ -1,54 +1,46 @@
 -- `root_counts` meets its contract.
 use native.Mathlib.Omega.{arith}
 use borrow.Author.Rules.{rules}
-use Prim.Native.Nat.{ℕ, zero, suc, ◌+◌, ◌*◌, ◌-◌, ◌≤◌, ◌<◌}
-use mathlib.Core.Path.{◌≡◌, refl, sym, ap, ◌∙◌, subst}
+use Prim.Native.Nat.{ℕ, ◌+◌, ◌*◌}
+use mathlib.Core.Path.{ap}
 use Rattle.choices.proofs.part_steps.RootLaws.{leaf-args, leaf-done, inner-done}
 use Rattle.choices.proofs.part_steps.root.root_counts.Statement.{statement}
 use Rattle.choices.proofs.part_steps.root.root_counts.Tie as tie
-use Rattle.choices.proofs.part_steps.root.root_counts.Reads as reads
-use Rattle.choices.proofs.part_steps.root.root_counts.Lts as lts
-use Rattle.choices.proofs.part_steps.fork.fork_counts.Reads as fork-counts-reads
-use Rattle.choices.proofs.node_counts.join.accumulate.Reads as accumulate-reads
-use Rattle.tables.proofs.node_tables.moves.depth_at.Reads as depth-at-reads
 
 accumulate-requires : tie.Need-accumulate-requires
 accumulate-requires c κs =
     leaf-args _ _ _ _ _ _ _ _ _ _ _ _ _ _ _ _ _ _
-    c.before.before.before.before.before.before.before.before.before.before.before.requires
+    c.requires
 
 returns : tie.Need-returns-then-kinds-v-eq0
 returns c =
     leaf-done _ _ _ _ _ _ _ _ _ _ _ _ _ _ _ _ _ _
-    c.before.before.before.before.before.before.before.before.before.before.before.before.requires
-    c.before.before.if-kinds-v-eq0.true _ c.accumulate.ensures
+    c.requires
+    c.if-kinds-v-eq0.true _ c.accumulate.ensures
 
 add-to : tie.Need-overflow_add-to
 add-to c =
-    let k = c.before.before.before.before.before.before in
     omega (
       arith,
       c.depth_at-to.ensures,
-      k.shared_slice_known-5-1.given
-          (k.before.before.before.before.before.args.v * 4 + 2),
+      c.shared_slice_known-5-1.given
+          (c.args.v * 4 + 2),
     )
 
 sub-fork-counts : tie.Need-overflow_sub-v
 sub-fork-counts c =
-    let s = c.before.before.before.before.before.before.before.before.before.before.before in
-    omega (arith, s.requires.inside c.before.if-kinds-v-eq0.false)
+    omega (arith, c.requires.inside c.if-kinds-v-eq0.false)
 
 fork-counts-requires : tie.Need-fork_counts-requires
 fork-counts-requires c κs =
-    c.before.before.before.before.before.before.before.before.before.before.before.before.requires.fork
-    c.before.before.if-kinds-v-eq0.false
+    c.requires.fork
+    c.if-kinds-v-eq0.false
 
 returns-2 : tie.Need-returns
 returns-2 c =
-    let d = c.before.before in
     inner-done _ _ _ _ _ _ _ _ _ _ _ _ _ _ _ _ _ _
-    d.before.before.before.before.before.before.before.before.before.before.before.requires
-    d.before.if-kinds-v-eq0.false _ (ap (λ (x : ℕ). x + 1) d.depth_at-to.ensures) _ _
+    c.requires
+    c.if-kinds-v-eq0.false _ (ap (λ (x : ℕ). x + 1) c.depth_at-to.ensures) _ _
     c.fork_counts.ensures
 
 pub root_counts_spec : {M : Type 1} → statement M

@@ -1,12 +1,9 @@
 -- `copy_row` meets its contract.
 use native.Mathlib.Omega.{arith}
-use borrow.Author.Rules.{rules}
-use Prim.Native.Nat.{◌+◌, ◌*◌, ◌-◌}
+use Prim.Native.Nat.{◌-◌}
 use Rattle.choices.proofs.part_steps.SideLaws.{Copying, copy_start, copy-next, copy_done}
 use Rattle.choices.proofs.part_steps.side.copy_row.Statement.{statement}
 use Rattle.choices.proofs.part_steps.side.copy_row.Tie as tie
-use Rattle.choices.proofs.part_steps.side.copy_row.Reads as reads
-use Rattle.choices.proofs.part_steps.side.copy_row.Lts as lts
 
 abbrev invariant-loop : tie.invariant-loop-c
 invariant-loop table i out₀ c₀ out c = Copying table i out₀ out c
@@ -20,43 +17,43 @@ loop-holds c =
 
 mul-out : tie.Need-overflow_mul-out invariant-loop decreases-loop
 mul-out c =
-    omega (arith, c.before.loop-c.invariant.args.few, c.loop-c-test.true)
+    omega (arith, c.loop-c.invariant.args.few, c.loop-c-test.true)
 
 add-out : tie.Need-overflow_add-out invariant-loop decreases-loop
 add-out c =
-    omega (arith, c.before.loop-c.invariant.args.few, c.loop-c-test.true)
+    omega (arith, c.loop-c.invariant.args.few, c.loop-c-test.true)
 
 mul-out-2 : tie.Need-offset_bounds-table-i invariant-loop decreases-loop
 mul-out-2 c =
-    omega (arith, c.before.loop-c.invariant.args.few, c.loop-c-test.true)
+    omega (arith, c.loop-c.invariant.args.few, c.loop-c-test.true)
 
 shared-slice-read-out : tie.Need-bounds-table-i invariant-loop decreases-loop
 shared-slice-read-out c =
-    omega (arith, c.before.before.loop-c.invariant.args.room, c.before.loop-c-test.true)
+    omega (arith, c.loop-c.invariant.args.room, c.loop-c-test.true)
 
 mul-out-3 : tie.Need-offset_bounds-out-c invariant-loop decreases-loop
 mul-out-3 c =
-    omega (arith, c.before.loop-c-test.true)
+    omega (arith, c.loop-c-test.true)
 
 element-write-out : tie.Need-bounds-out-c invariant-loop decreases-loop
 element-write-out c =
-    omega (arith, c.before.loop-c-test.true)
+    omega (arith, c.loop-c-test.true)
 
 add-c : tie.Need-overflow_add-c invariant-loop decreases-loop
 add-c c =
-    omega (arith, c.before.loop-c-test.true)
+    omega (arith, c.loop-c-test.true)
 
 loop-less : tie.Need-loop-c-smaller invariant-loop decreases-loop
 loop-less c =
-    omega (arith, c.before.loop-c-test.true)
+    omega (arith, c.loop-c-test.true)
 
 loop-again : tie.Need-loop-c-preserved invariant-loop decreases-loop
 loop-again c =
-    copy-next _ _ _ _ _ c.before.before.loop-c.invariant c.before.loop-c-test.true
+    copy-next _ _ _ _ _ c.loop-c.invariant c.loop-c-test.true
 
 returns : tie.Need-returns invariant-loop decreases-loop
 returns c =
-    copy_done _ _ _ _ _ c.before.loop-c.invariant c.loop-c-test.false
+    copy_done _ _ _ _ _ c.loop-c.invariant c.loop-c-test.false
 
 pub copy_row_spec : {M : Type 1} → statement M
 copy_row_spec =

@@ -2,72 +2,61 @@
 use native.Mathlib.Omega.{arith}
 use borrow.Author.Rules.{rules}
 use Rattle.tables.proofs.LookupLaws.{state-place}
-use lib.ListN.{length}
-use Prim.Native.Nat.{ℕ, suc, ◌+◌, ◌*◌, ◌-◌, ◌≤◌, ◌<◌}
-use mathlib.Core.Path.{◌≡◌, refl, sym, ap, ◌∙◌, subst}
+use Prim.Native.Nat.{ℕ, suc, ◌-◌}
+use mathlib.Core.Path.{◌≡◌}
 use Rattle.choices.proofs.part_steps.SideLaws.{run-lost, run-kept, own-kept, carry-args, carried-side}
 use Rattle.choices.proofs.part_steps.side.side_counts.Statement.{statement}
 use Rattle.choices.proofs.part_steps.side.side_counts.Tie as tie
-use Rattle.choices.proofs.part_steps.side.side_counts.Reads as reads
-use Rattle.choices.proofs.part_steps.side.side_counts.Lts as lts
-use Rattle.choices.proofs.part_steps.carry.carry_counts.Reads as carry-counts-reads
-use Rattle.choices.proofs.part_steps.side.copy_row.Reads as copy-row-reads
-use Rattle.tables.proofs.lookups.run_on.Reads as run-on-reads
 
 one_more : (m : ℕ) → (m ≡ 0 → ⊥) → m ≡ suc (m - 1)
 one_more m n = omega arith
 
 run-on-requires : tie.Need-run_on-x-requires
 run-on-requires c κs =
-    let s = c.before.before.before.before.before.before.before in
     record {
-      few = s.requires.path.few;
-      at = state-place _ _ _ _ s.requires.at
-          s.requires.path.state_table_room;
+      few = c.requires.path.few;
+      at = state-place _ _ _ _ c.requires.at
+          c.requires.path.state_table_room;
     }
 
 returns : tie.Need-returns-then-s-x
 returns c =
     run-lost _ _ _ _ _ _ _ _ _ _ _ _ _ _
-    c.before.before.before.before.before.before.before.before.before.requires c.before.before.if-own-eq0.true _
-    c.before.run_on-x.ensures c.if-s-x.true
+    c.requires c.if-own-eq0.true _
+    c.run_on-x.ensures c.if-s-x.true
 
 returns-2 : tie.Need-returns-then-own-eq0
 returns-2 c =
     run-kept _ _ _ _ _ _ _ _ _ _ _ _ _ _
-    c.before.before.before.before.before.before.before.before.before.requires c.before.before.if-own-eq0.true _
-    c.before.run_on-x.ensures c.if-s-x.false
+    c.requires c.if-own-eq0.true _
+    c.run_on-x.ensures c.if-s-x.false
 
 returns-3 : tie.Need-returns-then-other-ne0
 returns-3 c =
-    let s = c.before.before.before.before.before.before.before.before.before.before in
-    own-kept _ _ _ _ _ _ _ _ _ _ _ _ _ (s.args.own - 1) _
-    (one_more _ c.before.before.before.if-own-eq0.false) s.requires (s.args.other - 1)
-    (one_more _ c.before.before.if-other-ne0.true) _ c.copy_row.ensures
+    own-kept _ _ _ _ _ _ _ _ _ _ _ _ _ (c.args.own - 1) _
+    (one_more _ c.if-own-eq0.false) c.requires (c.args.other - 1)
+    (one_more _ c.if-other-ne0.true) _ c.copy_row.ensures
 
 cast-from : tie.Need-overflow_cast-from
 cast-from c =
     omega (
       arith,
       c.shared_slice_known-7-1.given
-          (c.before.before.before.before.before.before.before.before.before.before.before.args.own - 1),
+          (c.args.own - 1),
     )
 
 carry-counts-requires : tie.Need-carry_counts-requires
 carry-counts-requires c κs =
-    let s = c.before.before.before.before.before.before.before.before.before.before.before.before.before in
-    carry-args _ _ _ _ _ _ _ _ _ s.args.to _ _ _ (s.args.own - 1) s.args.other
-    (one_more s.args.own c.before.before.before.before.before.before.if-own-eq0.false) s.requires _
-    c.before.before.before.copy_row-2.ensures
+    carry-args _ _ _ _ _ _ _ _ _ c.args.to _ _ _ (c.args.own - 1) c.args.other
+    (one_more c.args.own c.if-own-eq0.false) c.requires _
+    c.copy_row-2.ensures
 
 returns-4 : tie.Need-returns
 returns-4 c =
-    let h = c.before.before.before.before.before.before.before in
-    let s = h.before.before.before.before.before.before.before in
-    carried-side _ _ _ _ _ _ _ _ _ _ _ _ _ (s.args.own - 1) _
-    (one_more _ c.before.before.before.before.before.before.before.if-own-eq0.false) s.requires
-    c.before.before.before.before.before.before.if-other-ne0.false _
-    c.before.before.before.before.copy_row-2.ensures _ _ c.carry_counts.ensures
+    carried-side _ _ _ _ _ _ _ _ _ _ _ _ _ (c.args.own - 1) _
+    (one_more _ c.if-own-eq0.false) c.requires
+    c.if-other-ne0.false _
+    c.copy_row-2.ensures _ _ c.carry_counts.ensures
 
 pub side_counts_spec : {M : Type 1} → statement M
 side_counts_spec =

@@ -11,45 +11,41 @@ use Rattle.colour_questions.proofs.branch.FitLaws.{fits-are}
 use Rattle.colour_questions.proofs.branch.AskChecks.{ask-17, ask-13-upper, ask-13-lower, ask-16, ask-on}
 use Rattle.colour_questions.proofs.branch.AskTheorem.{ask-done}
 use borrow.Author.Rules.{rules}
-use Rattle.formats.proofs.bytes.read32.Reads as read32-reads
 use Rattle.colour_questions.proofs.branch.ask.ask.Statement.{statement}
 use Rattle.colour_questions.proofs.branch.ask.ask.Tie as tie
-use Rattle.colour_questions.proofs.branch.ask.ask.Reads as reads
-use Rattle.colour_questions.proofs.branch.ask.ask.Lts as lts
-use Rattle.colour_questions.proofs.branch.ask.answer_colours.Reads as answer-colours-reads
 
 -- 17 passes
-fits : (c : tie.Else-not-colour_buffers_fit) → let g = c.before.before.before.before.before.before.before.args in
+fits : (c : tie.Else-not-colour_buffers_fit) → let g = c.args in
     colour_buffers_fit g.plan.now g.branch.now (length g.node_table.now) (length g.numbers.now)
     (length g.bytes.now) ≡ true
-fits c = sym c.before.colour_buffers_fit.ensures ∙ not-false _ c.if-not-colour_buffers_fit.false-raw
+fits c = sym c.colour_buffers_fit.ensures ∙ not-false _ c.if-not-colour_buffers_fit.false-raw
 
 -- 13 passes
-upper_in : (c : tie.Else-n-u) → let g = c.before.before.before.before.before.before.before.before.before.args in
+upper_in : (c : tie.Else-n-u) → let g = c.args in
     g.upper < node_count g.plan.now
-upper_in c = omega (arith, c.if-n-u.false, c.before.read32-n.ensures)
+upper_in c = omega (arith, c.if-n-u.false, c.read32-n.ensures)
 
 lower_in : (c : tie.Else-n-l) → let g =
-    c.before.before.before.before.before.before.before.before.before.before.args in
+    c.args in
     g.lower < node_count g.plan.now
-lower_in c = omega (arith, c.if-n-l.false, c.before.before.read32-n.ensures)
+lower_in c = omega (arith, c.if-n-l.false, c.read32-n.ensures)
 
 returns : tie.Need-returns-then-not-colour_buffers_fit
 returns c = ask-done _ _ _ _ _ _ _ _ _
-    (ask-17 _ _ _ _ _ _ _ _ (sym c.before.colour_buffers_fit.ensures ∙ not-true _ c.if-not-colour_buffers_fit.true-raw))
+    (ask-17 _ _ _ _ _ _ _ _ (sym c.colour_buffers_fit.ensures ∙ not-true _ c.if-not-colour_buffers_fit.true-raw))
 
 read32-requires : tie.Need-read32-n-requires
 read32-requires c κs = omega (arith, (fits-are _ _ _ _ _ (fits c)).headers.plan-long)
 
 returns-2 : tie.Need-returns-then-n-u
 returns-2 c = ask-done _ _ _ _ _ _ _ _ _
-    (ask-13-upper _ _ _ _ _ _ _ _ (fits c.before.before) (omega (arith, c.if-n-u.true, c.before.read32-n.ensures)))
+    (ask-13-upper _ _ _ _ _ _ _ _ (fits c.before.before) (omega (arith, c.if-n-u.true, c.read32-n.ensures)))
 
 returns-3 : tie.Need-returns-then-n-l
 returns-3 c =
     ask-done _ _ _ _ _ _ _ _ _
     (ask-13-lower _ _ _ _ _ _ _ _ (fits c.before.before.before)
-    (omega (arith, c.if-n-l.true, c.before.before.read32-n.ensures)))
+    (omega (arith, c.if-n-l.true, c.read32-n.ensures)))
 
 is-below-requires : tie.Need-is_below-requires
 is-below-requires c κs =
@@ -60,7 +56,7 @@ returns-4 c =
     let e = c.before.before in
     ask-done _ _ _ _ _ _ _ _ _
     (ask-16 _ _ _ _ _ _ _ _ (fits e.before.before.before) (upper_in e.before) (lower_in e)
-    (sym c.before.is_below.ensures ∙ not-true _ c.if-not-is_below.true-raw))
+    (sym c.is_below.ensures ∙ not-true _ c.if-not-is_below.true-raw))
 
 answer-colours-requires : tie.Need-answer_colours-requires
 answer-colours-requires c κs =
@@ -73,7 +69,7 @@ returns-5 c =
     ask-done _ _ _ _ _ _ _ _ c.answer_colours.result
     (c.answer_colours.ensures
     ∙ sym (ask-on _ _ _ _ _ _ _ _ (fits e.before.before.before) (upper_in e.before) (lower_in e)
-    (sym c.before.before.is_below.ensures ∙ not-false _ c.before.if-not-is_below.false-raw)))
+    (sym c.is_below.ensures ∙ not-false _ c.if-not-is_below.false-raw)))
 
 pub ask_spec : {M : Type 1} → statement M
 ask_spec =

@@ -11,35 +11,30 @@ use native.Mathlib.Omega.{arith}
 use borrow.Author.Rules.{rules}
 use Rattle.colour_questions.proofs.branch.ask.colour_buffers_fit.Statement.{statement}
 use Rattle.colour_questions.proofs.branch.ask.colour_buffers_fit.Tie as tie
-use Rattle.colour_questions.proofs.branch.ask.colour_buffers_fit.Reads as reads
-use Rattle.colour_questions.proofs.branch.ask.colour_buffers_fit.Lts as lts
-use Rattle.colour_tables.proofs.branch.build.colours_fit.Reads as colours-fit-reads
-use Rattle.formats.proofs.buffers.headers_fit.Reads as headers-fit-reads
-use Rattle.formats.proofs.bytes.read32.Reads as read32-reads
 
 -- the headers are whole, with N, S and K in their limits
-head : (c : tie.Else-not-headers_fit) → let g = c.before.before.before.before.args in
+head : (c : tie.Else-not-headers_fit) → let g = c.args in
     headers_fit 16 g.plan.now g.branch.now ≡ true
-head c = sym c.before.headers_fit.ensures ∙ not-false _ c.if-not-headers_fit.false-raw
+head c = sym c.headers_fit.ensures ∙ not-false _ c.if-not-headers_fit.false-raw
 
-heads : (c : tie.Else-not-headers_fit) → let g = c.before.before.before.before.args in Headers 16 g.plan.now g.branch.now
-heads c = let g = c.before.before.before.before.args in headers-are 16 g.plan.now g.branch.now (head c)
+heads : (c : tie.Else-not-headers_fit) → let g = c.args in Headers 16 g.plan.now g.branch.now
+heads c = let g = c.args in headers-are 16 g.plan.now g.branch.now (head c)
 
 limits : (m : tie.After-read32-k)
-    → (m.before.before.read32-n.result ≤ 65535) × (m.before.read32-s.result ≤ 16) × (m.read32-k.result ≤ 64)
+    → (m.read32-n.result ≤ 65535) × (m.read32-s.result ≤ 16) × (m.read32-k.result ≤ 64)
 limits m =
     let h = (heads m.before.before.before).in-limits in (
-      omega (arith, h.most, m.before.before.read32-n.ensures),
-      omega (arith, h.few, m.before.read32-s.ensures),
+      omega (arith, h.most, m.read32-n.ensures),
+      omega (arith, h.few, m.read32-s.ensures),
       omega (arith, h.labels_most, m.read32-k.ensures),
     )
 
-product : (m : tie.After-read32-k) → m.before.read32-s.result * m.read32-k.result ≤ 1024
-product m = mul-le-mul {n₁ = m.before.read32-s.result} {m₁ = m.read32-k.result} {n₂ = 16} {m₂ = 64} (limits m).1
+product : (m : tie.After-read32-k) → m.read32-s.result * m.read32-k.result ≤ 1024
+product m = mul-le-mul {n₁ = m.read32-s.result} {m₁ = m.read32-k.result} {n₂ = 16} {m₂ = 64} (limits m).1
     (limits m).2
 
 returns : tie.Need-returns-then-not-headers_fit
-returns c = headers-no _ _ _ _ _ (sym c.before.headers_fit.ensures ∙ not-true _ c.if-not-headers_fit.true-raw)
+returns c = headers-no _ _ _ _ _ (sym c.headers_fit.ensures ∙ not-true _ c.if-not-headers_fit.true-raw)
 
 read32-requires : tie.Need-read32-n-requires
 read32-requires c κs = omega (arith, (heads c).plan-long)
@@ -60,7 +55,7 @@ returns-2 : tie.Need-returns-then-plan-n
 returns-2 c =
     let m = c.before in
     plan-no _ _ _ _ _ (head m.before.before.before) _ _ _
-    m.before.before.read32-n.ensures m.before.read32-s.ensures m.read32-k.ensures c.if-plan-n.true
+    c.read32-n.ensures c.read32-s.ensures c.read32-k.ensures c.if-plan-n.true
 
 mul-if3 : tie.Need-overflow_mul-s
 mul-if3 c = omega (arith, product c.before)
@@ -75,16 +70,16 @@ returns-3 : tie.Need-returns-then-branch-s
 returns-3 c =
     let e = c.before in
     let m = e.before in
-    table-no _ _ _ _ _ (head m.before.before.before) _ _ _ m.before.before.read32-n.ensures
-    m.before.read32-s.ensures m.read32-k.ensures e.if-plan-n.false c.if-branch-s.true
+    table-no _ _ _ _ _ (head m.before.before.before) _ _ _ c.read32-n.ensures
+    c.read32-s.ensures c.read32-k.ensures c.if-plan-n.false c.if-branch-s.true
 
 returns-4 : tie.Need-returns-then-node_table-n
 returns-4 c =
     let f = c.before in
     let e = f.before in
     let m = e.before in
-    links-no _ _ _ _ _ (head m.before.before.before) _ _ _ m.before.before.read32-n.ensures
-    m.before.read32-s.ensures m.read32-k.ensures e.if-plan-n.false f.if-branch-s.false c.if-node_table-n.true
+    links-no _ _ _ _ _ (head m.before.before.before) _ _ _ c.read32-n.ensures
+    c.read32-s.ensures c.read32-k.ensures c.if-plan-n.false c.if-branch-s.false c.if-node_table-n.true
 
 colours-fit-requires : tie.Need-colours_fit-requires
 colours-fit-requires c κs =
@@ -98,8 +93,8 @@ returns-5 c =
     let e = f.before in
     let m = e.before in
     c.colours_fit.ensures ∙ fit-end _ _ _ _ _ (head m.before.before.before) _ _ _
-    m.before.before.read32-n.ensures
-    m.before.read32-s.ensures m.read32-k.ensures e.if-plan-n.false f.if-branch-s.false d.if-node_table-n.false
+    c.read32-n.ensures
+    c.read32-s.ensures c.read32-k.ensures c.if-plan-n.false c.if-branch-s.false c.if-node_table-n.false
 
 pub colour_buffers_fit_spec : {M : Type 1} → statement M
 colour_buffers_fit_spec =

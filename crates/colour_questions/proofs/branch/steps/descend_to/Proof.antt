@@ -7,25 +7,20 @@ use Rattle.colour_questions.proofs.branch.StepLaws.{place-top, place-node}
 use borrow.Author.Rules.{rules}
 use Rattle.colour_questions.proofs.branch.steps.descend_to.Statement.{statement}
 use Rattle.colour_questions.proofs.branch.steps.descend_to.Tie as tie
-use Rattle.colour_questions.proofs.branch.steps.descend_to.Reads as reads
-use Rattle.colour_questions.proofs.branch.steps.descend_to.Lts as lts
-use Rattle.colour_questions.proofs.path_drops.descend.descend_from.Reads as descend-from-reads
 
 returns : tie.Need-returns-then-z-n
 returns c =
-    let i = c.before in
-    let g = i.before.before.args in
+    let g = c.args in
     c.descend_from.ensures
     ∙ ap (λ (z : Place). descended_of (descend (cell_table g.n g.numbers.now) g.c z g.l g.c))
-    (place-top g.n g.z i.if-z-n.true)
+    (place-top g.n g.z c.if-z-n.true)
 
 returns-2 : tie.Need-returns
 returns-2 c =
-    let i = c.before in
-    let g = i.before.before.args in
+    let g = c.args in
     c.descend_from-2.ensures
     ∙ ap (λ (z : Place). descended_of (descend (cell_table g.n g.numbers.now) g.c z g.l g.c))
-    (place-node g.n g.z i.if-z-n.false)
+    (place-node g.n g.z c.if-z-n.false)
 
 pub descend_to_spec : {M : Type 1} → statement M
 descend_to_spec =

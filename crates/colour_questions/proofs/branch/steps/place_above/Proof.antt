@@ -3,22 +3,17 @@ use Rattle.colour_questions.proofs.branch.StepLaws.{place-root, place-outside, p
 use borrow.Author.Rules.{rules}
 use Rattle.colour_questions.proofs.branch.steps.place_above.Statement.{statement}
 use Rattle.colour_questions.proofs.branch.steps.place_above.Tie as tie
-use Rattle.colour_questions.proofs.branch.steps.place_above.Reads as reads
-use Rattle.colour_questions.proofs.branch.steps.place_above.Lts as lts
-use Rattle.tables.proofs.node_tables.moves.parent_at.Reads as parent-at-reads
 
 returns : tie.Need-returns-then-u-n
 returns c = place-root _ _ _ c.if-u-n.true
 
 returns-2 : tie.Need-returns-then-n-p
 returns-2 c =
-    let m = c.before in
-    place-outside _ _ _ _ m.parent_at-p.ensures m.before.if-u-n.false c.if-n-p.true
+    place-outside _ _ _ _ c.parent_at-p.ensures c.if-u-n.false c.if-n-p.true
 
 returns-3 : tie.Need-returns
 returns-3 c =
-    let m = c.before in
-    place-parent _ _ _ _ m.parent_at-p.ensures m.before.if-u-n.false c.if-n-p.false
+    place-parent _ _ _ _ c.parent_at-p.ensures c.if-u-n.false c.if-n-p.false
 
 pub place_above_spec : {M : Type 1} → statement M
 place_above_spec =

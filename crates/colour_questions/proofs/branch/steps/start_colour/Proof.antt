@@ -6,18 +6,14 @@ use native.Mathlib.Omega.{arith}
 use borrow.Author.Rules.{rules}
 use Rattle.colour_questions.proofs.branch.steps.start_colour.Statement.{statement}
 use Rattle.colour_questions.proofs.branch.steps.start_colour.Tie as tie
-use Rattle.colour_questions.proofs.branch.steps.start_colour.Reads as reads
-use Rattle.colour_questions.proofs.branch.steps.start_colour.Lts as lts
-use Rattle.colour_tables.proofs.rows.places.place_of.Reads as place-of-reads
 
-inside : (c : tie.Else-z-n) → let g = c.before.before.args in g.z * g.s + g.s ≤ length g.bytes.now
+inside : (c : tie.Else-z-n) → let g = c.args in g.z * g.s + g.s ≤ length g.bytes.now
 inside c =
-    let s = c.before.before in
-    row_in s.args.bytes.now s.args.n s.args.s s.args.z s.requires c.if-z-n.false
+    row_in c.args.bytes.now c.args.n c.args.s c.args.z c.requires c.if-z-n.false
 
 returns : tie.Need-returns-then-z-n
 returns c =
-    let g = c.before.before.args in colour-top g.s g.bytes.now g.n g.z c.if-z-n.true
+    let g = c.args in colour-top g.s g.bytes.now g.n g.z c.if-z-n.true
 
 mul-place-of : tie.Need-overflow_mul-z
 mul-place-of c = omega (arith, inside c)
@@ -33,9 +29,8 @@ part-place-of-end c = omega (arith, inside c)
 
 returns-2 : tie.Need-returns
 returns-2 c =
-    let e = c.before.before in
-    let g = e.before.before.args in
-    colour-node g.s g.bytes.now g.n g.z c.place_of.result e.if-z-n.false c.place_of.ensures.0
+    let g = c.args in
+    colour-node g.s g.bytes.now g.n g.z c.place_of.result c.if-z-n.false c.place_of.ensures.0
 
 pub start_colour_spec : {M : Type 1} → statement M
 start_colour_spec =

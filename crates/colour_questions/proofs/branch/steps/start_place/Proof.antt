@@ -3,17 +3,13 @@ use Rattle.colour_questions.proofs.branch.StepLaws.{place_here}
 use borrow.Author.Rules.{rules}
 use Rattle.colour_questions.proofs.branch.steps.start_place.Statement.{statement}
 use Rattle.colour_questions.proofs.branch.steps.start_place.Tie as tie
-use Rattle.colour_questions.proofs.branch.steps.start_place.Reads as reads
-use Rattle.colour_questions.proofs.branch.steps.start_place.Lts as lts
-use Rattle.colour_questions.proofs.branch.steps.place_above.Reads as place-above-reads
 
 returns : tie.Need-returns-in-WithUpper
-returns c = rw c.before.enum_told-1.given.1 c.place_above.ensures
+returns c = rw c.in-WithUpper.is c.place_above.ensures
 
 returns-2 : tie.Need-returns-in-BelowUpper
 returns-2 c =
-    let g = c.before.before.before in
-    rw c.enum_told-in-BelowUpper-1.given.1 (place_here g.args.n g.args.node_table.now g.args.u g.requires.upper)
+    rw c.in-BelowUpper.is (place_here c.args.n c.args.node_table.now c.args.u c.requires.upper)
 
 pub start_place_spec : {M : Type 1} → statement M
 start_place_spec =

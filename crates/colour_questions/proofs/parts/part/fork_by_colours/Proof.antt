@@ -9,148 +9,108 @@ use native.Mathlib.Omega.{arith}
 use borrow.Author.Rules.{rules}
 use Rattle.colour_questions.proofs.parts.part.fork_by_colours.Statement.{statement}
 use Rattle.colour_questions.proofs.parts.part.fork_by_colours.Tie as tie
-use Rattle.colour_questions.proofs.parts.part.fork_by_colours.Reads as reads
-use Rattle.colour_questions.proofs.parts.part.fork_by_colours.Lts as lts
-use Rattle.colour_questions.proofs.parts.part.side_by_colours.Reads as side-by-colours-reads
-use Rattle.questions.proofs.part.last_below.Reads as last-below-reads
-use Rattle.tables.proofs.lookups.rule_on.Reads as rule-on-reads
 
 side-by-colours-requires : tie.Need-side_by_colours-left-requires
 side-by-colours-requires c κs =
-    let b = c in
-    let s = b.before.before.before.before.before.before.before.before.before in
-    let g = s.args in
+    let g = c.args in
     record {
-      reads = s.requires.reads;
-      at = omega (arith, s.requires.left, s.requires.at);
-      same = s.requires.same;
+      reads = c.requires.reads;
+      at = omega (arith, c.requires.left, c.requires.at);
+      same = c.requires.same;
       place = omega (
         arith,
-        b.before.last_below-i.ensures,
+        c.last_below-i.ensures,
         last-bound g.l (size_cell g.node_table.now g.l) g.earlier.now,
       );
       inside = λ i z.
           omega (
             arith,
-            s.requires.at,
-            s.requires.left,
-            last-covers g.l (size_cell g.node_table.now g.l) g.earlier.now i (sym b.before.last_below-i.ensures ∙ z),
+            c.requires.at,
+            c.requires.left,
+            last-covers g.l (size_cell g.node_table.now g.l) g.earlier.now i (sym c.last_below-i.ensures ∙ z),
           );
     }
 
 side-by-colours-requires-2 : tie.Need-side_by_colours-right-requires
 side-by-colours-requires-2 c κs =
-    let x = c.before.before.before in
-    let b = x.before in
-    let s = b.before.before.before.before.before.before.before.before.before in
-    let g = s.args in
+    let g = c.args in
     record {
-      reads = s.requires.reads;
-      at = omega (arith, s.requires.left, s.requires.at);
-      same = s.requires.same;
+      reads = c.requires.reads;
+      at = omega (arith, c.requires.left, c.requires.at);
+      same = c.requires.same;
       place = omega (
         arith,
-        b.last_below-j.ensures,
+        c.last_below-j.ensures,
         last-bound (g.v - 1) (size_cell g.node_table.now (g.v - 1))
             g.earlier.now,
       );
       inside = λ i z.
           omega (
             arith,
-            s.requires.at,
-            s.requires.left,
-            last-covers (g.v - 1) (size_cell g.node_table.now (g.v - 1)) g.earlier.now i (sym b.last_below-j.ensures ∙ z),
+            c.requires.at,
+            c.requires.left,
+            last-covers (g.v - 1) (size_cell g.node_table.now (g.v - 1)) g.earlier.now i (sym
+                c.last_below-j.ensures ∙ z),
           );
     }
 
 -- both sides were found
-left_low : (c : tie.In-State-right) → let y = c.before.before.before in
-    let x = y.before.before.before.before in
-    y.before.before.left-1.given.0.0 < x.before.before.before.before.before.before.before.before.before.before.args.s
+left_low : (c : tie.In-State-right) →
+    c.in-State.x < c.args.s
 left_low c =
-    let w = c.before.right-1.given in
-    let y = c.before.before.before in
-    let u = y.before.before.left-1.given in
-    let x = y.before.before.before.before in
-    let b = x.before in
-    let s = b.before.before.before.before.before.before.before.before.before in
-    let g = s.args in
+    let g = c.args in
     (left_few (sides_of g.n g.s g.m g.state_table.now g.numbers.now g.copies.now) g.k g.inner.now
-    g.node_table.now g.earlier.now g.states.now g.v g.l g.a b.before.last_below-i.result
-    b.last_below-j.result s.requires.same b.before.last_below-i.ensures b.last_below-j.ensures
-    x.side_by_colours-left.result x.side_by_colours-left.ensures
-    u.0.0 u.0.1.0 u.0.1.1.0 u.1 y.side_by_colours-right.result
-    y.side_by_colours-right.ensures).state
+    g.node_table.now g.earlier.now g.states.now g.v g.l g.a c.last_below-i.result
+    c.last_below-j.result c.requires.same c.last_below-i.ensures c.last_below-j.ensures
+    c.side_by_colours-left.result c.side_by_colours-left.ensures
+    c.in-State.x c.in-State.b c.in-State.c c.in-State.is c.side_by_colours-right.result
+    c.side_by_colours-right.ensures).state
 
-right_low : (c : tie.In-State-right) → let y = c.before.before.before in
-    let x = y.before.before.before.before in
-    c.before.right-1.given.0.0 < x.before.before.before.before.before.before.before.before.before.before.args.s
+right_low : (c : tie.In-State-right) →
+    c.in-State-right.y < c.args.s
 right_low c =
-    let w = c.before.right-1.given in
-    let y = c.before.before.before in
-    let u = y.before.before.left-1.given in
-    let x = y.before.before.before.before in
-    let b = x.before in
-    let s = b.before.before.before.before.before.before.before.before.before in
-    let g = s.args in
+    let g = c.args in
     (right_few (sides_of g.n g.s g.m g.state_table.now g.numbers.now g.copies.now) g.k g.inner.now
-    g.node_table.now g.earlier.now g.states.now g.v g.l g.a b.before.last_below-i.result
-    b.last_below-j.result s.requires.same b.before.last_below-i.ensures b.last_below-j.ensures
-    x.side_by_colours-left.result x.side_by_colours-left.ensures
-    u.0.0 u.0.1.0 u.0.1.1.0 u.1 y.side_by_colours-right.result
-    y.side_by_colours-right.ensures
-    w.0.0 w.0.1.0 w.0.1.1.0 w.1).state
+    g.node_table.now g.earlier.now g.states.now g.v g.l g.a c.last_below-i.result
+    c.last_below-j.result c.requires.same c.last_below-i.ensures c.last_below-j.ensures
+    c.side_by_colours-left.result c.side_by_colours-left.ensures
+    c.in-State.x c.in-State.b c.in-State.c c.in-State.is c.side_by_colours-right.result
+    c.side_by_colours-right.ensures
+    c.in-State-right.y c.in-State-right.d c.in-State-right.e c.in-State-right.is).state
 
 rule-on-requires : tie.Need-rule_on-q-requires
 rule-on-requires c κs =
-    let x = c.before.before.before.before.before.before.before in
-    let s = x.before.before.before.before.before.before.before.before.before.before in
     record {
-      few = omega (arith, s.requires.reads.states);
-      labels = s.requires.labels;
+      few = omega (arith, c.requires.reads.states);
+      labels = c.requires.labels;
       left = left_low c;
       right = right_low c;
-      room = s.requires.inner_room;
+      room = c.requires.inner_room;
     }
 
 returns : tie.Need-returns-then-s-q
 returns c =
-    let w = c.before.before.before.right-1.given in
-    let y = c.before.before.before.before.before in
-    let u = y.before.before.left-1.given in
-    let x = y.before.before.before.before in
-    let b = x.before in
-    let s = b.before.before.before.before.before.before.before.before.before in
-    fork_rule _ _ _ _ _ _ _ _ _ _ _ s.requires.same b.before.last_below-i.ensures b.last_below-j.ensures
-    _ x.side_by_colours-left.ensures u.0.0 u.0.1.0 u.0.1.1.0 u.1 _ y.side_by_colours-right.ensures
-    w.0.0 w.0.1.0 w.0.1.1.0 w.1 _ c.before.rule_on-q.ensures c.if-s-q.true
+    fork_rule _ _ _ _ _ _ _ _ _ _ _ c.requires.same c.last_below-i.ensures c.last_below-j.ensures
+    _ c.side_by_colours-left.ensures c.in-State.x c.in-State.b c.in-State.c c.in-State.is _
+    c.side_by_colours-right.ensures
+    c.in-State-right.y c.in-State-right.d c.in-State-right.e c.in-State-right.is _ c.rule_on-q.ensures c.if-s-q.true
 
 cast-t32 : tie.Need-overflow_cast-result
 cast-t32 c =
-    let r = c.before in
-    let x = r.before.before.before.before.before.before.before.before in
-    let s = x.before.before.before.before.before.before.before.before.before.before in
-    let h : r.rule_on-q.result < s.args.s = c.if-s-q.false in
-    omega (arith, h, s.requires.reads.states)
+    let h : c.rule_on-q.result < c.args.s = c.if-s-q.false in
+    omega (arith, h, c.requires.reads.states)
 
-falls : (c : tie.After-rule_on-q) → let k = c.before in
-    let y = k.before.before.before in
-    y.before.before.left-1.given.0.1.0 + k.before.right-1.given.0.1.0 ≤ 60
+falls : (c : tie.After-rule_on-q) →
+    c.in-State.b + c.in-State-right.d ≤ 60
 falls c =
-    let w = c.before.before.right-1.given in
-    let y = c.before.before.before.before in
-    let u = y.before.before.left-1.given in
-    let x = y.before.before.before.before in
-    let b = x.before in
-    let s = b.before.before.before.before.before.before.before.before.before in
-    let g = s.args in
+    let g = c.args in
     fork-falls (sides_of g.n g.s g.m g.state_table.now g.numbers.now g.copies.now) g.k g.inner.now
-    g.node_table.now g.earlier.now g.states.now g.v g.l g.a b.before.last_below-i.result
-    b.last_below-j.result s.requires.same b.before.last_below-i.ensures b.last_below-j.ensures
-    x.side_by_colours-left.result x.side_by_colours-left.ensures
-    u.0.0 u.0.1.0 u.0.1.1.0 u.1 y.side_by_colours-right.result
-    y.side_by_colours-right.ensures
-    w.0.0 w.0.1.0 w.0.1.1.0 w.1 c.rule_on-q.result c.rule_on-q.ensures
+    g.node_table.now g.earlier.now g.states.now g.v g.l g.a c.last_below-i.result
+    c.last_below-j.result c.requires.same c.last_below-i.ensures c.last_below-j.ensures
+    c.side_by_colours-left.result c.side_by_colours-left.ensures
+    c.in-State.x c.in-State.b c.in-State.c c.in-State.is c.side_by_colours-right.result
+    c.side_by_colours-right.ensures
+    c.in-State-right.y c.in-State-right.d c.in-State-right.e c.in-State-right.is c.rule_on-q.result c.rule_on-q.ensures
 
 add-t33 : tie.Need-overflow_add-result
 add-t33 c = omega (arith, falls c.before)
@@ -158,52 +118,34 @@ add-t33 c = omega (arith, falls c.before)
 add-t34 : tie.Need-overflow_add-result-in-State-right
 add-t34 c =
     let r = c.before in
-    let w = c.before.before.before.right-1.given in
-    let y = c.before.before.before.before.before in
-    let u = y.before.before.left-1.given in
-    let x = y.before.before.before.before in
-    let b = x.before in
-    let s = b.before.before.before.before.before.before.before.before.before in
-    let g = s.args in
+    let g = c.args in
     let f = fork-few (sides_of g.n g.s g.m g.state_table.now g.numbers.now g.copies.now) g.k g.inner.now
-    g.node_table.now g.earlier.now g.states.now g.v g.l g.a b.before.last_below-i.result
-    b.last_below-j.result s.requires.same b.before.last_below-i.ensures b.last_below-j.ensures
-    x.side_by_colours-left.result x.side_by_colours-left.ensures
-    u.0.0 u.0.1.0 u.0.1.1.0 u.1 y.side_by_colours-right.result
-    y.side_by_colours-right.ensures
-    w.0.0 w.0.1.0 w.0.1.1.0 w.1 r.rule_on-q.result r.rule_on-q.ensures in
+    g.node_table.now g.earlier.now g.states.now g.v g.l g.a c.last_below-i.result
+    c.last_below-j.result c.requires.same c.last_below-i.ensures c.last_below-j.ensures
+    c.side_by_colours-left.result c.side_by_colours-left.ensures
+    c.in-State.x c.in-State.b c.in-State.c c.in-State.is c.side_by_colours-right.result
+    c.side_by_colours-right.ensures
+    c.in-State-right.y c.in-State-right.d c.in-State-right.e c.in-State-right.is c.rule_on-q.result
+    c.rule_on-q.ensures in
     omega (arith, falls r, f)
 
 returns-2 : tie.Need-returns-in-NoState
 returns-2 c =
-    let x = c.before.before in
-    let b = x.before in
-    let s = b.before.before.before.before.before.before.before.before.before in
-    fork-left _ _ _ _ _ _ _ _ _ _ _ s.requires.same b.before.last_below-i.ensures b.last_below-j.ensures
-    _ x.side_by_colours-left.ensures c.enum_told-1.given.1
+    fork-left _ _ _ _ _ _ _ _ _ _ _ c.requires.same c.last_below-i.ensures c.last_below-j.ensures
+    _ c.side_by_colours-left.ensures c.in-NoState.is
 
 returns-3 : tie.Need-returns-in-NoState-right
 returns-3 c =
-    let y = c.before.before in
-    let u = y.before.before.left-1.given in
-    let x = y.before.before.before.before in
-    let b = x.before in
-    let s = b.before.before.before.before.before.before.before.before.before in
-    fork-right _ _ _ _ _ _ _ _ _ _ _ s.requires.same b.before.last_below-i.ensures b.last_below-j.ensures
-    _ x.side_by_colours-left.ensures u.0.0 u.0.1.0 u.0.1.1.0 u.1 _
-    y.side_by_colours-right.ensures c.enum_told-in-NoState-right-1.given.1
+    fork-right _ _ _ _ _ _ _ _ _ _ _ c.requires.same c.last_below-i.ensures c.last_below-j.ensures
+    _ c.side_by_colours-left.ensures c.in-State.x c.in-State.b c.in-State.c c.in-State.is _
+    c.side_by_colours-right.ensures c.in-NoState-right.is
 
 returns-4 : tie.Need-returns-else-s-q
 returns-4 c =
-    let w = c.before.before.before.right-1.given in
-    let y = c.before.before.before.before.before in
-    let u = y.before.before.left-1.given in
-    let x = y.before.before.before.before in
-    let b = x.before in
-    let s = b.before.before.before.before.before.before.before.before.before in
-    fork-made _ _ _ _ _ _ _ _ _ _ _ s.requires.same b.before.last_below-i.ensures b.last_below-j.ensures
-    _ x.side_by_colours-left.ensures u.0.0 u.0.1.0 u.0.1.1.0 u.1 _ y.side_by_colours-right.ensures
-    w.0.0 w.0.1.0 w.0.1.1.0 w.1 _ c.before.rule_on-q.ensures c.if-s-q.false
+    fork-made _ _ _ _ _ _ _ _ _ _ _ c.requires.same c.last_below-i.ensures c.last_below-j.ensures
+    _ c.side_by_colours-left.ensures c.in-State.x c.in-State.b c.in-State.c c.in-State.is _
+    c.side_by_colours-right.ensures
+    c.in-State-right.y c.in-State-right.d c.in-State-right.e c.in-State-right.is _ c.rule_on-q.ensures c.if-s-q.false
 
 pub fork_by_colours_spec : {M : Type 1} → statement M
 fork_by_colours_spec =

@@ -5,24 +5,20 @@ use native.Mathlib.Omega.{arith}
 use borrow.Author.Rules.{rules}
 use Rattle.colour_questions.proofs.parts.part.leaf_state.Statement.{statement}
 use Rattle.colour_questions.proofs.parts.part.leaf_state.Tie as tie
-use Rattle.colour_questions.proofs.parts.part.leaf_state.Reads as reads
-use Rattle.colour_questions.proofs.parts.part.leaf_state.Lts as lts
-use Rattle.colour_questions.proofs.parts.part.untried_state.Reads as untried-state-reads
 
 returns : tie.Need-returns-then-k-a
 returns c =
-    let g = c.before.before.args in
+    let g = c.args in
     leaf-outside g.s g.k g.leaves.now g.a c.if-k-a.true
 
 cast-untried-state : tie.Need-overflow_cast-leaves
 cast-untried-state c =
-    omega (arith, c.shared_slice_known-2-1.given c.before.before.before.args.a)
+    omega (arith, c.shared_slice_known-2-1.given c.args.a)
 
 returns-2 : tie.Need-returns
 returns-2 c =
-    let e = c.before.before in
-    let g = e.before.before.args in
-    c.untried_state.ensures ∙ leaf-at g.s g.k g.leaves.now g.a e.if-k-a.false
+    let g = c.args in
+    c.untried_state.ensures ∙ leaf-at g.s g.k g.leaves.now g.a c.if-k-a.false
 
 pub leaf_state_spec : {M : Type 1} → statement M
 leaf_state_spec =

@@ -1,48 +1,30 @@
 -- `part_by_colours` meets its contract.
-use Prim.Native.Nat.{◌-◌}
-use Rattle.colour_questions.specs.parts.inner.Args.{colour_view}
 use Rattle.colour_questions.proofs.parts.TrialLaws.{leaf-few}
 use Rattle.colour_questions.proofs.parts.ForkCases.{part-leaf, part-first, part-outside, part-fork}
 use native.Mathlib.Omega.{arith}
 use borrow.Author.Rules.{rules}
 use Rattle.colour_questions.proofs.parts.part.part_by_colours.Statement.{statement}
 use Rattle.colour_questions.proofs.parts.part.part_by_colours.Tie as tie
-use Rattle.colour_questions.proofs.parts.part.part_by_colours.Reads as reads
-use Rattle.colour_questions.proofs.parts.part.part_by_colours.Lts as lts
-use Rattle.tables.proofs.node_tables.moves.size_at.Reads as size-at-reads
-use Rattle.colour_questions.proofs.parts.part.fork_by_colours.Reads as fork-by-colours-reads
-use Rattle.colour_questions.proofs.parts.part.leaf_state.Reads as leaf-state-reads
-use Rattle.questions.proofs.part.label_on.Reads as label-on-reads
 
 returns : tie.Need-returns-then-kinds-v-eq0
 returns c =
-    let a = c.before.before.before in
-    part-leaf _ _ _ _ _ _ _ a.label_on-a.ensures _ c.before.if-kinds-v-eq0.true c.leaf_state.ensures
-    (leaf-few _ _ _ a.label_on-a.result _ c.leaf_state.ensures)
+    part-leaf _ _ _ _ _ _ _ c.label_on-a.ensures _ c.if-kinds-v-eq0.true c.leaf_state.ensures
+    (leaf-few _ _ _ c.label_on-a.result _ c.leaf_state.ensures)
 
 returns-2 : tie.Need-returns-then-v-eq0
 returns-2 c =
-    part-first _ _ _ _ _ _ _ c.before.before.before.label_on-a.ensures c.before.if-kinds-v-eq0.false c.if-v-eq0.true
+    part-first _ _ _ _ _ _ _ c.label_on-a.ensures c.if-kinds-v-eq0.false c.if-v-eq0.true
 
 returns-3 : tie.Need-returns-then-v-z
 returns-3 c =
-    let z = c.before in
-    let e2 = z.before in
-    let e1 = e2.before in
-    part-outside _ _ _ _ _ _ _ e1.before.before.label_on-a.ensures
-    e1.if-kinds-v-eq0.false e2.if-v-eq0.false (omega (arith, c.if-v-z.true, z.size_at-z.ensures))
+    part-outside _ _ _ _ _ _ _ c.label_on-a.ensures
+    c.if-kinds-v-eq0.false c.if-v-eq0.false (omega (arith, c.if-v-z.true, c.size_at-z.ensures))
 
 returns-4 : tie.Need-returns
 returns-4 c =
-    let e3 = c.before in
-    let z = e3.before in
-    let e2 = z.before in
-    let e1 = e2.before in
-    let a = e1.before.before in
-    let s = a.before.before.before.before.before.before.before.before.before.before.before.before.before in
-    let g = s.args in
-    part-fork _ _ _ _ _ _ _ a.label_on-a.ensures e1.if-kinds-v-eq0.false e2.if-v-eq0.false g.m _ _ s.requires.reads.sets
-    z.size_at-z.ensures e3.if-v-z.false c.fork_by_colours.ensures
+    let g = c.args in
+    part-fork _ _ _ _ _ _ _ c.label_on-a.ensures c.if-kinds-v-eq0.false c.if-v-eq0.false g.m _ _ c.requires.reads.sets
+    c.size_at-z.ensures c.if-v-z.false c.fork_by_colours.ensures
 
 pub part_by_colours_spec : {M : Type 1} → statement M
 part_by_colours_spec =

@@ -1,92 +1,75 @@
 -- `side_by_colours` meets its contract.
 use Prim.Native.Nat.{◌+◌, ◌-◌, ◌<◌}
 use mathlib.Core.Path.{◌≡◌}
-use lib.ListN.{length, get_or}
+use lib.ListN.{get_or}
 use Rattle.tables.proofs.LookupLaws.{state-place}
-use Rattle.colour_questions.specs.parts.Part.{sides_of}
 use Rattle.colour_questions.proofs.parts.SideCases.{side-run, side-own, side-outside, side-found}
 use native.Mathlib.Omega.{arith}
 use borrow.Author.Rules.{rules}
 use Rattle.colour_questions.proofs.parts.part.side_by_colours.Statement.{statement}
 use Rattle.colour_questions.proofs.parts.part.side_by_colours.Tie as tie
-use Rattle.colour_questions.proofs.parts.part.side_by_colours.Reads as reads
-use Rattle.colour_questions.proofs.parts.part.side_by_colours.Lts as lts
-use Rattle.colour_questions.proofs.parts.part.untried_state.Reads as untried-state-reads
-use Rattle.tables.proofs.lookups.run_on.Reads as run-on-reads
-use Rattle.colour_questions.proofs.target_states.trials.try_targets.Reads as try-targets-reads
 
 run-on-requires : tie.Need-run_on-requires
 run-on-requires c κs =
-    let s = c.before.before.before.before.before.before in
     record {
-      few = omega (arith, s.requires.reads.states);
-      at = state-place _ _ _ _ s.requires.at s.requires.reads.state_table_room;
+      few = omega (arith, c.requires.reads.states);
+      at = state-place _ _ _ _ c.requires.at c.requires.reads.state_table_room;
     }
 
 returns : tie.Need-returns-then-own-eq0
 returns c =
-    let r = c.before in
-    side-run _ _ _ _ _ _ _ _ r.before.if-own-eq0.true r.run_on.ensures c.untried_state.ensures
+    side-run _ _ _ _ _ _ _ _ c.if-own-eq0.true c.run_on.ensures c.untried_state.ensures
 
 cast-untried-state : tie.Need-overflow_cast-q
 cast-untried-state c =
     omega (
       arith,
-      c.before.shared_slice_known-6-1.given (c.before.before.before.before.before.before.before.before.args.own - 1),
+      c.shared_slice_known-6-1.given (c.args.own - 1),
     )
 
 returns-2 : tie.Need-returns-then-other-ne0
 returns-2 c =
-    let t = c.before in
-    side-own _ _ _ _ _ _ t.before.before.if-own-eq0.false _ t.if-other-ne0.true c.untried_state-then-other-ne0.ensures
+    side-own _ _ _ _ _ _ c.if-own-eq0.false _ c.if-other-ne0.true c.untried_state-then-other-ne0.ensures
 
 cast-if3 : tie.Need-overflow_cast-q-2
 cast-if3 c =
     omega (
       arith,
-      c.before.shared_slice_known-6-1.given (c.before.before.before.before.before.before.before.before.args.own - 1),
+      c.shared_slice_known-6-1.given (c.args.own - 1),
     )
 
 returns-3 : tie.Need-returns-then-s-q
 returns-3 c =
-    let e2 = c.before in
-    side-outside _ _ _ _ _ _ e2.before.before.if-own-eq0.false e2.if-other-ne0.false c.if-s-q.true
+    side-outside _ _ _ _ _ _ c.if-own-eq0.false c.if-other-ne0.false c.if-s-q.true
 
 cast-try-targets : tie.Need-overflow_cast-earlier
 cast-try-targets c =
     omega (
       arith,
-      c.shared_slice_known-7-1.given (c.before.before.before.before.before.before.before.before.before.before.args.own - 1),
+      c.shared_slice_known-7-1.given (c.args.own - 1),
     )
 
 try-targets-requires : tie.Need-try_targets-requires
 try-targets-requires c κs =
-    let e3 = c.before in
-    let e = e3.before.before.before in
-    let s = e.before.before.before.before.before.before in
-    let g = s.args in
-    let z : ¬ (g.own ≡ 0) = e.if-own-eq0.false in
+    let g = c.args in
+    let z : ¬ (g.own ≡ 0) = c.if-own-eq0.false in
     let h : g.own ≡ g.own - 1 + 1 = omega arith in
-    let q : get_or g.states.now (g.own - 1) 0 < g.s = e3.if-s-q.false in
+    let q : get_or g.states.now (g.own - 1) 0 < g.s = c.if-s-q.false in
     record {
-      most = s.requires.reads.most;
-      states = s.requires.reads.states;
-      few = s.requires.reads.few;
-      room = s.requires.reads.room;
-      copies_room = s.requires.reads.copies_room;
-      upper = s.requires.at;
-      lower = s.requires.inside (g.own - 1) h;
-      state = omega (arith, q, s.requires.reads.states);
+      most = c.requires.reads.most;
+      states = c.requires.reads.states;
+      few = c.requires.reads.few;
+      room = c.requires.reads.room;
+      copies_room = c.requires.reads.copies_room;
+      upper = c.requires.at;
+      lower = c.requires.inside (g.own - 1) h;
+      state = omega (arith, q, c.requires.reads.states);
     }
 
 returns-4 : tie.Need-returns
 returns-4 c =
-    let e3 = c.before.before in
-    let e2 = e3.before in
-    let e = e2.before.before in
-    let s = e.before.before.before.before.before.before in
-    side-found _ _ _ _ _ _ e.if-own-eq0.false e2.if-other-ne0.false
-    _ s.requires.reads.states e3.if-s-q.false c.try_targets.ensures
+    side-found _ _ _ _ _ _ c.if-own-eq0.false c.if-other-ne0.false
+    _ c.requires.reads.states c.if-s-q.false c.try_targets.ensures
 
 pub side_by_colours_spec : {M : Type 1} → statement M
 side_by_colours_spec =

@@ -15,10 +15,6 @@ use Rattle.colour_questions.proofs.path_drops.DescendLoop.{part_gives}
 use borrow.Author.Rules.{rules}
 use Rattle.colour_questions.proofs.path_drops.descend.drop_in.Statement.{statement}
 use Rattle.colour_questions.proofs.path_drops.descend.drop_in.Tie as tie
-use Rattle.colour_questions.proofs.path_drops.descend.drop_in.Reads as reads
-use Rattle.colour_questions.proofs.path_drops.descend.drop_in.Lts as lts
-use Rattle.colour_questions.proofs.path_drops.drops.next_drop.Reads as next-drop-reads
-use Rattle.colour_questions.proofs.path_drops.drops.seen_at.Reads as seen-at-reads
 
 -- the part handed on
 abbrev part : tie.Start → List ℕ
@@ -35,22 +31,21 @@ part-is s =
 returns : tie.Need-returns-then-top
 returns c =
     let s = c.before.before.before.before in
-    let g = s.args in
+    let g = c.args in
     subst (λ (b : Bool). DropDone g.n g.nums.now g.c (start_place b g.z) g.l c.next_drop.result)
-    (sym c.before.if-top.true)
+    (sym c.if-top.true)
     (part_gives g.n g.nums.now (part s) g.c none 0 g.l c.next_drop.result (part-is s) refl
     c.next_drop.ensures)
 
 returns-2 : tie.Need-returns
 returns-2 c =
-    let e = c.before in
     let s = c.before.before.before.before.before in
-    let g = s.args in
+    let g = c.args in
     subst (λ (b : Bool). DropDone g.n g.nums.now g.c (start_place b g.z) g.l c.next_drop-2.result)
-    (sym e.before.if-top.false)
-    (part_gives g.n g.nums.now (part s) g.c (some g.z) e.seen_at-seen.result g.l c.next_drop-2.result
+    (sym c.if-top.false)
+    (part_gives g.n g.nums.now (part s) g.c (some g.z) c.seen_at-seen.result g.l c.next_drop-2.result
     (part-is s)
-    (e.seen_at-seen.ensures.0 ∙ ap (λ (p : List ℕ). seen_at (cell_forest g.n p) (size_cell p) g.c g.z) (part-is s))
+    (c.seen_at-seen.ensures.0 ∙ ap (λ (p : List ℕ). seen_at (cell_forest g.n p) (size_cell p) g.c g.z) (part-is s))
     c.next_drop-2.ensures)
 
 pub drop_in_spec : {M : Type 1} → statement M

@@ -6,35 +6,30 @@ use Rattle.colour_questions.proofs.path_drops.DropCases.{seen-fell, seen-kept}
 use borrow.Author.Rules.{rules}
 use Rattle.colour_questions.proofs.path_drops.drops.seen_at.Statement.{statement}
 use Rattle.colour_questions.proofs.path_drops.drops.seen_at.Tie as tie
-use Rattle.colour_questions.proofs.path_drops.drops.seen_at.Reads as reads
-use Rattle.colour_questions.proofs.path_drops.drops.seen_at.Lts as lts
-use Rattle.tables.proofs.node_tables.moves.depth_at.Reads as depth-at-reads
-use Rattle.tables.proofs.node_tables.moves.size_at.Reads as size-at-reads
 
 -- a depth is a 16-bit number
 bound : (c : tie.After-depth_at-d) → c.depth_at-d.result ≤ 65535
 bound c =
-    let s = c.before.before in
-    omega (arith, c.depth_at-d.ensures, c.before.shared_slice_known-1.given (s.args.v * 4 + 2))
+    omega (arith, c.depth_at-d.ensures, c.shared_slice_known-1.given (c.args.v * 4 + 2))
 
 add-result : tie.Need-overflow_add-result
 add-result c = omega (arith, bound c.before.before)
 
 returns : tie.Need-returns-then-size_at-c
 returns c =
-    let g = c.before.before.before.before.args in (
+    let g = c.args in (
       seen-fell (cell_forest g.n g.table.now) (size_cell g.table.now) g.c g.v _
-          c.before.size_at.ensures _
-          c.before.before.depth_at-d.ensures c.if-size_at-c.true,
+          c.size_at.ensures _
+          c.depth_at-d.ensures c.if-size_at-c.true,
       omega (arith, bound c.before.before),
     )
 
 returns-2 : tie.Need-returns
 returns-2 c =
-    let g = c.before.before.before.before.args in (
+    let g = c.args in (
       seen-kept (cell_forest g.n g.table.now) (size_cell g.table.now) g.c g.v _
-          c.before.size_at.ensures _
-          c.before.before.depth_at-d.ensures c.if-size_at-c.false,
+          c.size_at.ensures _
+          c.depth_at-d.ensures c.if-size_at-c.false,
       omega (arith, bound c.before.before),
     )
 

@@ -8,11 +8,6 @@ use Rattle.colour_questions.proofs.rule.AnswerLaws.{lent-passed, lent-lost, root
 use native.Mathlib.Omega.{arith}
 use Rattle.colour_questions.proofs.rule.ask.answer_lent.Statement.{statement}
 use Rattle.colour_questions.proofs.rule.ask.answer_lent.Tie as tie
-use Rattle.colour_questions.proofs.rule.ask.answer_lent.Reads as reads
-use Rattle.colour_questions.proofs.rule.ask.answer_lent.Lts as lts
-use Rattle.formats.proofs.bytes.read32.Reads as read32-reads
-use Rattle.colour_questions.proofs.rule.ask.answer_roots.Reads as answer-roots-reads
-use Rattle.questions.proofs.changed_roots.roots_left.Reads as roots-left-reads
 
 heads : (s : tie.Start) → let g = s.args in Headers 20 g.plan.now g.rules.now
 heads s = (passed_are _ _ _ _ _ _ _ _ s.requires.passed).fits.headed.headers
@@ -34,69 +29,43 @@ read32-requires-3 c κs =
 
 roots-left-requires : tie.Need-roots_left-found-requires
 roots-left-requires c κs =
-    let y = c.before in
-    let x = y.before in
-    let s = x.before.before.before.before.before.before.before.before.before in
-    let h = (lent-passed _ _ _ _ _ _ _ _ s.requires _ _ _ x.read32-n.ensures y.read32-s.ensures c.read32-k.ensures).fits.headed in
+    let h = (lent-passed _ _ _ _ _ _ _ _ c.requires _ _ _ c.read32-n.ensures c.read32-s.ensures
+    c.read32-k.ensures).fits.headed in
     record {
-      most = omega (arith, h.headers.in-limits.most, x.read32-n.ensures);
-      labels = omega (arith, h.plan_exact, x.read32-n.ensures);
-      numbers = omega (arith, h.node_table_room, x.read32-n.ensures);
+      most = omega (arith, h.headers.in-limits.most, c.read32-n.ensures);
+      labels = omega (arith, h.plan_exact, c.read32-n.ensures);
+      numbers = omega (arith, h.node_table_room, c.read32-n.ensures);
     }
 
 returns : tie.Need-returns-then-not-found
-returns c =
-    let q = c.before.before in
-    let z = q.before in
-    let y = z.before in
-    let x = y.before in
-    let s = x.before.before.before.before.before.before.before.before.before in (
-      lent-lost _ _ _ _ _ _ _ _ s.requires x.read32-n.result _ _ x.read32-n.ensures y.read32-s.ensures z.read32-k.ensures _ q.roots_left-found.ensures (not-true _ c.if-not-found.true),
-      tt,
-    )
+returns c = (
+  lent-lost _ _ _ _ _ _ _ _ c.requires c.read32-n.result _ _ c.read32-n.ensures c.read32-s.ensures
+      c.read32-k.ensures _ c.roots_left-found.ensures (not-true _ c.if-not-found.true),
+  tt,
+)
 
 array-share-prefix-list : tie.Need-slice_bounds-list-end
 array-share-prefix-list c =
-    let e = c.before in
-    let q = e.before.before in
-    let z = q.before in
-    let y = z.before in
-    let x = y.before in
-    let s = x.before.before.before.before.before.before.before.before.before in
-    rooted-room _ _ _ _ _ _ _ _ s.requires _ _ _ x.read32-n.ensures y.read32-s.ensures z.read32-k.ensures _ q.roots_left-found.ensures (not-false _ e.if-not-found.false)
+    rooted-room _ _ _ _ _ _ _ _ c.requires _ _ _ c.read32-n.ensures c.read32-s.ensures c.read32-k.ensures _
+    c.roots_left-found.ensures (not-false _ c.if-not-found.false)
 
 slice-aggregate-answer-roots : tie.Need-slice_bounds-answer_roots-end
 slice-aggregate-answer-roots c =
-    let e = c.before.before in
-    let q = e.before.before in
-    let z = q.before in
-    let y = z.before in
-    let x = y.before in
-    let s = x.before.before.before.before.before.before.before.before.before in
-    sym (length-take-le _ _ (rooted-room _ _ _ _ _ _ _ _ s.requires _ _ _ x.read32-n.ensures y.read32-s.ensures z.read32-k.ensures _ q.roots_left-found.ensures (not-false _ e.if-not-found.false)))
+    sym (length-take-le _ _ (rooted-room _ _ _ _ _ _ _ _ c.requires _ _ _ c.read32-n.ensures c.read32-s.ensures
+    c.read32-k.ensures _ c.roots_left-found.ensures (not-false _ c.if-not-found.false)))
 
 answer-roots-requires : tie.Need-answer_roots-requires
 answer-roots-requires c κs =
-    let e = c.before.before in
-    let q = e.before.before in
-    let z = q.before in
-    let y = z.before in
-    let x = y.before in
-    let s = x.before.before.before.before.before.before.before.before.before in
-    root-args _ _ _ _ _ _ _ _ s.requires _ _ _ x.read32-n.ensures y.read32-s.ensures z.read32-k.ensures _ q.roots_left-found.ensures (not-false _ e.if-not-found.false)
+    root-args _ _ _ _ _ _ _ _ c.requires _ _ _ c.read32-n.ensures c.read32-s.ensures c.read32-k.ensures _
+    c.roots_left-found.ensures (not-false _ c.if-not-found.false)
 
 returns-2 : tie.Need-returns
-returns-2 c =
-    let e = c.before.before.before in
-    let q = e.before.before in
-    let z = q.before in
-    let y = z.before in
-    let x = y.before in
-    let s = x.before.before.before.before.before.before.before.before.before in (
-      lent-answer _ _ _ _ _ _ _ _ s.requires x.read32-n.result _ _ x.read32-n.ensures y.read32-s.ensures z.read32-k.ensures _ q.roots_left-found.ensures (not-false _ e.if-not-found.false)
-          _ c.answer_roots.ensures.0,
-      c.answer_roots.ensures.1,
-    )
+returns-2 c = (
+  lent-answer _ _ _ _ _ _ _ _ c.requires c.read32-n.result _ _ c.read32-n.ensures c.read32-s.ensures
+      c.read32-k.ensures _ c.roots_left-found.ensures (not-false _ c.if-not-found.false)
+      _ c.answer_roots.ensures.0,
+  c.answer_roots.ensures.1,
+)
 
 pub answer_lent_spec : {M : Type 1} → statement M
 answer_lent_spec =

@@ -5,33 +5,28 @@ use Rattle.colour_questions.proofs.rule.AskTheorem.{ask-done}
 use borrow.Author.Rules.{rules}
 use Rattle.colour_questions.proofs.rule.ask.ask_rule_colours.Statement.{statement}
 use Rattle.colour_questions.proofs.rule.ask.ask_rule_colours.Tie as tie
-use Rattle.colour_questions.proofs.rule.ask.ask_rule_colours.Reads as reads
-use Rattle.colour_questions.proofs.rule.ask.ask_rule_colours.Lts as lts
-use Rattle.colour_questions.proofs.rule.ask.answer_lent.Reads as answer-lent-reads
-use Rattle.colour_questions.proofs.rule.checks.check_asked.Reads as check-asked-reads
 
 returns : tie.Need-returns-then-no-ne0
 returns c =
-    let g = c.before.before.before.before.before.before.before.before.before.before.args in
+    let g = c.args in
     ask-done g.plan.now g.rules.now g.node_table.now g.state_table.now g.numbers.now g.bytes.now
     g.nodes.now g.labels.now _
     (refused-is g.plan.now g.rules.now g.node_table.now g.state_table.now g.numbers.now g.bytes.now
-    g.nodes.now g.labels.now c.before.check_asked-no.result c.before.check_asked-no.ensures c.if-no-ne0.true) tt
+    g.nodes.now g.labels.now c.check_asked-no.result c.check_asked-no.ensures c.if-no-ne0.true) tt
 
 answer-lent-requires : tie.Need-answer_lent-requires
 answer-lent-requires c κs =
-    let z : c.before.check_asked-no.result ≡ 0 = c.if-no-ne0.false in
-    record { passed = sym c.before.check_asked-no.ensures ∙ z }
+    let z : c.check_asked-no.result ≡ 0 = c.if-no-ne0.false in
+    record { passed = sym c.check_asked-no.ensures ∙ z }
 
 returns-2 : tie.Need-returns
 returns-2 c =
-    let e = c.before in
-    let z : e.before.check_asked-no.result ≡ 0 = e.if-no-ne0.false in
-    let g = c.before.before.before.before.before.before.before.before.before.before.before.args in
+    let z : c.check_asked-no.result ≡ 0 = c.if-no-ne0.false in
+    let g = c.args in
     ask-done g.plan.now g.rules.now g.node_table.now g.state_table.now g.numbers.now g.bytes.now
     g.nodes.now g.labels.now _
     (lent_is g.plan.now g.rules.now g.node_table.now g.state_table.now g.numbers.now g.bytes.now
-    g.nodes.now g.labels.now c.answer_lent.result (sym e.before.check_asked-no.ensures
+    g.nodes.now g.labels.now c.answer_lent.result (sym c.check_asked-no.ensures
     ∙ z) c.answer_lent.ensures.0) c.answer_lent.ensures.1
 
 pub ask_rule_colours_spec : {M : Type 1} → statement M

@@ -9,25 +9,20 @@ use native.Mathlib.Omega.{arith}
 use borrow.Author.Rules.{rules}
 use Rattle.colour_questions.proofs.rule.checks.check_asked.Statement.{statement}
 use Rattle.colour_questions.proofs.rule.checks.check_asked.Tie as tie
-use Rattle.colour_questions.proofs.rule.checks.check_asked.Reads as reads
-use Rattle.colour_questions.proofs.rule.checks.check_asked.Lts as lts
-use Rattle.formats.proofs.bytes.read32.Reads as read32-reads
-use Rattle.formats.proofs.lists.check_list.Reads as check-list-reads
-use Rattle.colour_questions.proofs.rule.checks.tables_fit.Reads as tables-fit-reads
 
-fits : (c : tie.Else-not-tables_fit) → let g = c.before.before.before.before.before.before.args in
+fits : (c : tie.Else-not-tables_fit) → let g = c.args in
     rule_colours_fit g.plan.now g.rules.now g.node_table g.state_table g.numbers g.bytes ≡ true
-fits c = sym c.before.tables_fit.ensures ∙ not-false _ c.if-not-tables_fit.false-raw
+fits c = sym c.tables_fit.ensures ∙ not-false _ c.if-not-tables_fit.false-raw
 
-heads : (c : tie.Else-not-tables_fit) → let g = c.before.before.before.before.before.before.args in
+heads : (c : tie.Else-not-tables_fit) → let g = c.args in
     Headers 20 g.plan.now g.rules.now
 heads c = (fits-are _ _ _ _ _ _ (fits c)).headed.headers
 
 returns : tie.Need-returns-then-not-tables_fit
 returns c =
-    let g = c.before.before.before.before.before.before.args in
+    let g = c.args in
     no-17 g.plan.now g.rules.now g.node_table g.state_table g.numbers g.bytes g.nodes.now g.labels.now
-    (sym c.before.tables_fit.ensures ∙ not-true _ c.if-not-tables_fit.true-raw)
+    (sym c.tables_fit.ensures ∙ not-true _ c.if-not-tables_fit.true-raw)
 
 read32-requires : tie.Need-read32-n-requires
 read32-requires c κs =
@@ -47,8 +42,9 @@ returns-2 c =
     let y = z.before in
     let x = y.before in
     let e = x.before in
-    let g = e.before.before.before.before.before.before.args in
-    no-27 g.plan.now g.rules.now g.node_table g.state_table g.numbers g.bytes g.nodes.now g.labels.now (fits e) y.read32-s.result y.read32-s.ensures c.if-s-gt4.true
+    let g = c.args in
+    no-27 g.plan.now g.rules.now g.node_table g.state_table g.numbers g.bytes g.nodes.now g.labels.now (fits e)
+    c.read32-s.result c.read32-s.ensures c.if-s-gt4.true
 
 returns-3 : tie.Need-returns
 returns-3 c =
@@ -56,11 +52,11 @@ returns-3 c =
     let y = z.before in
     let x = y.before in
     let e = x.before in
-    let g = e.before.before.before.before.before.before.args in
+    let g = c.args in
     c.check_list.ensures
     ∙ then-list g.plan.now g.rules.now g.node_table g.state_table g.numbers g.bytes g.nodes.now
-    g.labels.now (fits e) y.read32-s.result
-    y.read32-s.ensures x.read32-n.result z.read32-k.result x.read32-n.ensures z.read32-k.ensures c.before.if-s-gt4.false
+    g.labels.now (fits e) c.read32-s.result
+    c.read32-s.ensures c.read32-n.result c.read32-k.result c.read32-n.ensures c.read32-k.ensures c.if-s-gt4.false
 
 pub check_asked_spec : {M : Type 1} → statement M
 check_asked_spec =

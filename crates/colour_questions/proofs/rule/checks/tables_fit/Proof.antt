@@ -9,22 +9,16 @@ use native.Mathlib.Omega.{arith}
 use borrow.Author.Rules.{rules}
 use Rattle.colour_questions.proofs.rule.checks.tables_fit.Statement.{statement}
 use Rattle.colour_questions.proofs.rule.checks.tables_fit.Tie as tie
-use Rattle.colour_questions.proofs.rule.checks.tables_fit.Reads as reads
-use Rattle.colour_questions.proofs.rule.checks.tables_fit.Lts as lts
-use Rattle.formats.proofs.buffers.headers_fit.Reads as headers-fit-reads
-use Rattle.formats.proofs.buffers.rule_buffers_fit.Reads as rule-buffers-fit-reads
-use Rattle.formats.proofs.bytes.read32.Reads as read32-reads
-use Rattle.colour_tables.proofs.rule.build.set_colours_fit.Reads as set-colours-fit-reads
 
-fits : (c : tie.Else-not-headers_fit) → let g = c.before.before.before.before.args in
+fits : (c : tie.Else-not-headers_fit) → let g = c.args in
     headers_fit 20 g.plan.now g.rules.now ≡ true
-fits c = sym c.before.headers_fit.ensures ∙ not-false _ c.if-not-headers_fit.false-raw
+fits c = sym c.headers_fit.ensures ∙ not-false _ c.if-not-headers_fit.false-raw
 
-heads : (c : tie.Else-not-headers_fit) → let g = c.before.before.before.before.args in Headers 20 g.plan.now g.rules.now
+heads : (c : tie.Else-not-headers_fit) → let g = c.args in Headers 20 g.plan.now g.rules.now
 heads c = headers-are 20 _ _ (fits c)
 
 returns : tie.Need-returns-then-not-headers_fit
-returns c = fit-no _ _ _ _ _ _ (sym c.before.headers_fit.ensures ∙ not-true _ c.if-not-headers_fit.true-raw)
+returns c = fit-no _ _ _ _ _ _ (sym c.headers_fit.ensures ∙ not-true _ c.if-not-headers_fit.true-raw)
 
 read32-requires : tie.Need-read32-n-requires
 read32-requires c κs =
@@ -42,8 +36,8 @@ rule-buffers-fit-requires : tie.Need-rule_buffers_fit-requires
 rule-buffers-fit-requires c κs =
     let l = (heads c.before.before.before).in-limits in
     record {
-      most = omega (arith, l.most, c.before.before.read32-n.ensures);
-      few = omega (arith, l.few, c.before.read32-s.ensures);
+      most = omega (arith, l.most, c.read32-n.ensures);
+      few = omega (arith, l.few, c.read32-s.ensures);
       labels = omega (arith, l.labels_most, c.read32-k.ensures);
     }
 
@@ -53,7 +47,8 @@ returns-2 c =
     let z = t.before in
     let y = z.before in
     let x = y.before in
-    lengths-no _ _ _ _ _ _ (fits x.before) x.read32-n.result _ _ x.read32-n.ensures y.read32-s.ensures z.read32-k.ensures (sym t.rule_buffers_fit.ensures ∙ not-true _ c.if-not-rule_buffers_fit.true-raw)
+    lengths-no _ _ _ _ _ _ (fits x.before) c.read32-n.result _ _ c.read32-n.ensures c.read32-s.ensures
+    c.read32-k.ensures (sym c.rule_buffers_fit.ensures ∙ not-true _ c.if-not-rule_buffers_fit.true-raw)
 
 returns-3 : tie.Need-returns-then-s-gt4
 returns-3 c =
@@ -62,7 +57,9 @@ returns-3 c =
     let z = t.before in
     let y = z.before in
     let x = y.before in
-    many-states _ _ _ _ _ _ (fits x.before) x.read32-n.result _ _ x.read32-n.ensures y.read32-s.ensures z.read32-k.ensures (sym t.rule_buffers_fit.ensures ∙ not-false _ u.if-not-rule_buffers_fit.false-raw) c.if-s-gt4.true
+    many-states _ _ _ _ _ _ (fits x.before) c.read32-n.result _ _ c.read32-n.ensures c.read32-s.ensures
+    c.read32-k.ensures (sym c.rule_buffers_fit.ensures ∙ not-false _ c.if-not-rule_buffers_fit.false-raw)
+    c.if-s-gt4.true
 
 set-colours-fit-requires : tie.Need-set_colours_fit-requires
 set-colours-fit-requires c κs =
@@ -72,8 +69,8 @@ set-colours-fit-requires c κs =
     let y = z.before in
     let x = y.before in
     let e = x.before in
-    let g = e.before.before.before.before.args in
-    record { nodes = omega (arith, (heads e).in-limits.most, x.read32-n.ensures); states = c.if-s-gt4.false }
+    let g = c.args in
+    record { nodes = omega (arith, (heads e).in-limits.most, c.read32-n.ensures); states = c.if-s-gt4.false }
 
 returns-4 : tie.Need-returns
 returns-4 c =
@@ -83,7 +80,9 @@ returns-4 c =
     let z = t.before in
     let y = z.before in
     let x = y.before in
-    c.set_colours_fit.ensures ∙ few-states _ _ _ _ _ _ (fits x.before) x.read32-n.result _ _ x.read32-n.ensures y.read32-s.ensures z.read32-k.ensures (sym t.rule_buffers_fit.ensures ∙ not-false _ u.if-not-rule_buffers_fit.false-raw) w.if-s-gt4.false
+    c.set_colours_fit.ensures ∙ few-states _ _ _ _ _ _ (fits x.before) c.read32-n.result _ _ c.read32-n.ensures
+    c.read32-s.ensures c.read32-k.ensures (sym c.rule_buffers_fit.ensures ∙ not-false _
+    c.if-not-rule_buffers_fit.false-raw) c.if-s-gt4.false
 
 pub tables_fit_spec : {M : Type 1} → statement M
 tables_fit_spec =

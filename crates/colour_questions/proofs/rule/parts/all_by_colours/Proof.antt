@@ -8,9 +8,6 @@ use native.Mathlib.Omega.{arith}
 use borrow.Author.Rules.{rules}
 use Rattle.colour_questions.proofs.rule.parts.all_by_colours.Statement.{statement}
 use Rattle.colour_questions.proofs.rule.parts.all_by_colours.Tie as tie
-use Rattle.colour_questions.proofs.rule.parts.all_by_colours.Reads as reads
-use Rattle.colour_questions.proofs.rule.parts.all_by_colours.Lts as lts
-use Rattle.colour_questions.proofs.parts.part.part_by_colours.Reads as part-by-colours-reads
 
 abbrev invariant-loop : tie.invariant-loop-i
 invariant-loop ls ks lv inn nt st nums cps n s k m rs vs bs t₀ q₀ d₀ l₀ i₀ t q d l i =
@@ -22,136 +19,116 @@ decreases-loop ls ks lv inn nt st nums cps n s k m rs vs bs t₀ q₀ d₀ l₀ 
 loop-holds : tie.Need-loop-i-init invariant-loop decreases-loop
 loop-holds c =
     going_start _ _ _ _ _ _ _ _ _ _ _ _ _ _ _
-    c.before.before.before.before.before.before.before.before.before.before.before.requires
+    c.requires
 
 slice-aggregate-part-by-colours : tie.Need-slice_bounds-part_by_colours-end invariant-loop decreases-loop
 slice-aggregate-part-by-colours c =
-    let e = c.before in
-    let o = e.before.loop-i in
-    let g = e.before.before.before.before.before.before.before.before.before.before.before.before.before.args in
+    let o = c.loop-i in
+    let g = c.args in
     sym (earlier-length g.n g.s g.k g.m g.labels.now g.kinds.now g.leaves.now g.inner.now
     g.node_table.now
-    g.state_table.now g.numbers.now g.copies.now g.nodes.now g.changes.now g.roots.now o.states o.last o.drops o.links o.i o.invariant e.loop-i-test.true)
+    g.state_table.now g.numbers.now g.copies.now g.nodes.now g.changes.now g.roots.now o.states o.last o.drops
+    o.links o.i o.invariant c.loop-i-test.true)
 
 array-share-prefix-states : tie.Need-slice_bounds-states-end invariant-loop decreases-loop
 array-share-prefix-states c =
-    let e = c.before in
-    let o = e.before.loop-i in
-    let g = e.before.before.before.before.before.before.before.before.before.before.before.before.before.args in
-    let h = e.loop-i-test.true in
+    let o = c.loop-i in
+    let g = c.args in
+    let h = c.loop-i-test.true in
     omega (arith, h, o.invariant.long, o.invariant.args.few)
 
 slice-aggregate-part-by-colours-2 : tie.Need-slice_bounds-part_by_colours-end-in-loop-i invariant-loop decreases-loop
 slice-aggregate-part-by-colours-2 c =
-    let e = c.before.before in
-    let o = e.before.loop-i in
-    let g = e.before.before.before.before.before.before.before.before.before.before.before.before.before.args in
+    let o = c.loop-i in
+    let g = c.args in
     sym (states_length g.n g.s g.k g.m g.labels.now g.kinds.now g.leaves.now g.inner.now g.node_table.now
-    g.state_table.now g.numbers.now g.copies.now g.nodes.now g.changes.now g.roots.now o.states o.last o.drops o.links o.i o.invariant e.loop-i-test.true)
+    g.state_table.now g.numbers.now g.copies.now g.nodes.now g.changes.now g.roots.now o.states o.last o.drops
+    o.links o.i o.invariant c.loop-i-test.true)
 
 mul-part-by-colours : tie.Need-offset_bounds-roots-i invariant-loop decreases-loop
 mul-part-by-colours c =
-    let e = c.before.before in
-    let o = e.before.loop-i in
-    let g = e.before.before.before.before.before.before.before.before.before.before.before.before.before.args in
-    let h = e.loop-i-test.true in
+    let o = c.loop-i in
+    let g = c.args in
+    let h = c.loop-i-test.true in
     omega (arith, h, o.invariant.args.few)
 
 shared-slice-read-part-by-colours : tie.Need-bounds-roots-i invariant-loop decreases-loop
 shared-slice-read-part-by-colours c =
-    c.before.before.before.loop-i-test.true
+    c.loop-i-test.true
 
 cast-part-by-colours : tie.Need-overflow_cast-roots invariant-loop decreases-loop
 cast-part-by-colours c =
-    omega (arith, c.shared_slice_known-in-loop-i-1.given c.before.before.before.before.loop-i.i)
+    omega (arith, c.shared_slice_known-in-loop-i-1.given c.loop-i.i)
 
 part-by-colours-requires : tie.Need-part_by_colours-t-requires invariant-loop decreases-loop
 part-by-colours-requires c κs =
-    let e = c.before.before.before in
-    let o = e.before.loop-i in
-    let g = e.before.before.before.before.before.before.before.before.before.before.before.before.before.args in
+    let o = c.loop-i in
+    let g = c.args in
     next-args g.n g.s g.k g.m g.labels.now g.kinds.now g.leaves.now g.inner.now g.node_table.now
-    g.state_table.now g.numbers.now g.copies.now g.nodes.now g.changes.now g.roots.now o.states o.last o.drops o.links o.i o.invariant e.loop-i-test.true
+    g.state_table.now g.numbers.now g.copies.now g.nodes.now g.changes.now g.roots.now o.states o.last o.drops
+    o.links o.i o.invariant c.loop-i-test.true
 
 returns : tie.Need-returns-in-NoState invariant-loop decreases-loop
 returns c =
-    let r = c.before.before in
-    let e = r.before.before.before.before in
-    let o = e.before.loop-i in
-    let g = e.before.before.before.before.before.before.before.before.before.before.before.before.before.args in
+    let o = c.loop-i in
+    let g = c.args in
     going-lost g.n g.s g.k g.m g.labels.now g.kinds.now g.leaves.now g.inner.now
     g.node_table.now g.state_table.now g.numbers.now g.copies.now g.nodes.now g.changes.now
-    g.roots.now o.states o.last o.drops o.links o.i o.invariant e.loop-i-test.true
-    _ r.part_by_colours-t.ensures c.enum_told-1.given.1
+    g.roots.now o.states o.last o.drops o.links o.i o.invariant c.loop-i-test.true
+    _ c.part_by_colours-t.ensures c.in-NoState.is
 
--- where the part has a state
-abbrev iteration : tie.In-State invariant-loop decreases-loop → tie.In-loop-i invariant-loop decreases-loop
-iteration c = c.before.before.before.before.before.before.before
-
-falls : (c : tie.In-State invariant-loop decreases-loop) → let o = (iteration c).before.loop-i in
-    o.drops + c.before.t-1.given.0.1.0 ≤ (o.i + 1) * 60
+falls : (c : tie.In-State invariant-loop decreases-loop) → let o = c.loop-i in
+    o.drops + c.in-State.d ≤ (o.i + 1) * 60
 falls c =
-    let w = c.before.t-1.given in
-    let r = c.before.before.before in
-    let e = r.before.before.before.before in
-    let o = e.before.loop-i in
-    let g = e.before.before.before.before.before.before.before.before.before.before.before.before.before.args in
+    let o = c.loop-i in
+    let g = c.args in
     next-falls g.n g.s g.k g.m g.labels.now g.kinds.now g.leaves.now g.inner.now
     g.node_table.now g.state_table.now g.numbers.now g.copies.now g.nodes.now g.changes.now
-    g.roots.now o.states o.last o.drops o.links o.i o.invariant e.loop-i-test.true
-    _ r.part_by_colours-t.ensures w.0.0 w.0.1.0 w.0.1.1.0 w.1
+    g.roots.now o.states o.last o.drops o.links o.i o.invariant c.loop-i-test.true
+    _ c.part_by_colours-t.ensures c.in-State.q c.in-State.d c.in-State.l c.in-State.is
 
 array-write-states : tie.Need-bounds-states-i invariant-loop decreases-loop
 array-write-states c =
-    let e = iteration c in
-    let h = e.loop-i-test.taken in
-    omega (arith, h, e.before.loop-i.invariant.args.few)
+    let h = c.loop-i-test.true in
+    omega (arith, h, c.loop-i.invariant.args.few)
 
 add-drops : tie.Need-overflow_add-drops invariant-loop decreases-loop
 add-drops c =
-    let e = iteration c in
-    let h = e.loop-i-test.taken in
-    omega (arith, falls c, h, e.before.loop-i.invariant.args.few)
+    let h = c.loop-i-test.true in
+    omega (arith, falls c, h, c.loop-i.invariant.args.few)
 
 add-links : tie.Need-overflow_add-links invariant-loop decreases-loop
 add-links c =
-    let w = c.before.t-1.given in
-    let r = c.before.before.before in
-    let e = r.before.before.before.before in
-    let o = e.before.loop-i in
-    let g = e.before.before.before.before.before.before.before.before.before.before.before.before.before.args in
-    let h = e.loop-i-test.true in
+    let o = c.loop-i in
+    let g = c.args in
+    let h = c.loop-i-test.true in
     let f = next-few g.n g.s g.k g.m g.labels.now g.kinds.now g.leaves.now g.inner.now
     g.node_table.now g.state_table.now g.numbers.now g.copies.now g.nodes.now g.changes.now
     g.roots.now o.states o.last o.drops o.links o.i o.invariant h
-    _ r.part_by_colours-t.ensures w.0.0 w.0.1.0 w.0.1.1.0 w.1 in
+    _ c.part_by_colours-t.ensures c.in-State.q c.in-State.d c.in-State.l c.in-State.is in
     omega (arith, falls c, f, h, o.invariant.args.few)
 
 add-i : tie.Need-overflow_add-i invariant-loop decreases-loop
 add-i c =
-    let e = iteration c in
-    let h = e.loop-i-test.taken in
-    omega (arith, h, e.before.loop-i.invariant.args.few)
+    let h = c.loop-i-test.true in
+    omega (arith, h, c.loop-i.invariant.args.few)
 
 loop-less : tie.Need-loop-i-smaller invariant-loop decreases-loop
-loop-less c = omega (arith, (iteration c).loop-i-test.true)
+loop-less c = omega (arith, c.loop-i-test.true)
 
 loop-again : tie.Need-loop-i-preserved invariant-loop decreases-loop
 loop-again c =
-    let w = c.before.t-1.given in
-    let r = c.before.before.before in
-    let e = r.before.before.before.before in
-    let o = e.before.loop-i in
-    let g = e.before.before.before.before.before.before.before.before.before.before.before.before.before.args in
+    let o = c.loop-i in
+    let g = c.args in
     going_next g.n g.s g.k g.m g.labels.now g.kinds.now g.leaves.now g.inner.now
     g.node_table.now g.state_table.now g.numbers.now g.copies.now g.nodes.now g.changes.now
-    g.roots.now o.states o.last o.drops o.links o.i o.invariant e.loop-i-test.true
-    _ r.part_by_colours-t.ensures w.0.0 w.0.1.0 w.0.1.1.0 w.1
+    g.roots.now o.states o.last o.drops o.links o.i o.invariant c.loop-i-test.true
+    _ c.part_by_colours-t.ensures c.in-State.q c.in-State.d c.in-State.l c.in-State.is
 
 returns-2 : tie.Need-returns invariant-loop decreases-loop
 returns-2 c =
-    let o = c.before.loop-i in
-    let g = c.before.before.before.before.before.before.before.before.before.before.before.before.before.args in
+    let o = c.loop-i in
+    let g = c.args in
     going_done g.n g.s g.k g.m g.labels.now g.kinds.now g.leaves.now g.inner.now
     g.node_table.now g.state_table.now g.numbers.now g.copies.now g.nodes.now g.changes.now
     g.roots.now o.states o.last o.drops o.links o.i o.invariant c.loop-i-test.false

@@ -5,8 +5,6 @@ use native.Mathlib.Omega.{arith}
 use borrow.Author.Rules.{rules}
 use Rattle.colour_questions.proofs.target_states.trials.single.Statement.{statement}
 use Rattle.colour_questions.proofs.target_states.trials.single.Tie as tie
-use Rattle.colour_questions.proofs.target_states.trials.single.Reads as reads
-use Rattle.colour_questions.proofs.target_states.trials.single.Lts as lts
 
 returns : tie.Need-returns
 returns c = rw one-mul (mod-eq_of_lt (omega (arith, pow-lt {i = c.args.x} {j = 8} c.requires)))

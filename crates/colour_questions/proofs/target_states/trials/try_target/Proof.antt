@@ -8,12 +8,6 @@ use native.Mathlib.Omega.{arith}
 use borrow.Author.Rules.{rules}
 use Rattle.colour_questions.proofs.target_states.trials.try_target.Statement.{statement}
 use Rattle.colour_questions.proofs.target_states.trials.try_target.Tie as tie
-use Rattle.colour_questions.proofs.target_states.trials.try_target.Reads as reads
-use Rattle.colour_questions.proofs.target_states.trials.try_target.Lts as lts
-use Rattle.colour_tables.proofs.rows.places.place_of.Reads as place-of-reads
-use Rattle.colour_questions.proofs.path_drops.descend.descend_from.Reads as descend-from-reads
-use Rattle.colour_tables.proofs.sets.bits.bit_of.Reads as bit-of-reads
-use Rattle.colour_questions.proofs.target_states.trials.single.Reads as single-Reads
 
 -- products of a node and the number of sets
 product : (s : tie.Start) (v : ℕ) → v < s.args.n → v * s.args.m ≤ 1048560
@@ -27,69 +21,60 @@ mul-place-of : tie.Need-overflow_mul-c
 mul-place-of c =
     omega (
       arith,
-      product c.before.before c.before.before.args.c c.before.before.requires.all.upper,
-      c.before.before.requires.all.few,
+      product c.before.before c.args.c c.requires.all.upper,
+      c.requires.all.few,
     )
 
 mul-place-of-2 : tie.Need-overflow_mul-c-2
 mul-place-of-2 c =
     omega (
       arith,
-      product c.before.before c.before.before.args.c c.before.before.requires.all.upper,
-      c.before.before.requires.all.few,
+      product c.before.before c.args.c c.requires.all.upper,
+      c.requires.all.few,
     )
 
 add-place-of : tie.Need-overflow_add-c
 add-place-of c =
     omega (
       arith,
-      product c.before.before c.before.before.args.c c.before.before.requires.all.upper,
-      c.before.before.requires.all.few,
+      product c.before.before c.args.c c.requires.all.upper,
+      c.requires.all.few,
     )
 
 part-place-of-end : tie.Need-slice_bounds-place_of-end
-part-place-of-end c = inside c.before.before c.before.before.args.c c.before.before.requires.all.upper
+part-place-of-end c = inside c.before.before c.args.c c.requires.all.upper
 
 returns : tie.Need-returns-then-m-k
 returns c =
-    let p = c.before in
-    test-uncoloured _ _ _ _ _ _ _ _ p.before.before.before.before.before.requires
-    _ _ p.before.single.ensures p.place_of-k.ensures.0 c.if-m-k.true
+    test-uncoloured _ _ _ _ _ _ _ _ c.requires
+    _ _ c.single.ensures c.place_of-k.ensures.0 c.if-m-k.true
 
 descend-from-requires : tie.Need-descend_from-requires
 descend-from-requires c κs =
-    let p = c.before in
-    let s = p.before.before.before.before.before in
-    let g = s.args in
-    let h : p.place_of-k.result < g.m = c.if-m-k.false in
+    let g = c.args in
+    let h : c.place_of-k.result < g.m = c.if-m-k.false in
     record {
-      most = s.requires.all.most;
-      few = omega (arith, h, s.requires.all.few);
-      room = omega (arith, stride (g.n * 4) p.place_of-k.result g.m h, s.requires.all.room);
-      upper = s.requires.all.upper;
-      lower = s.requires.all.lower;
+      most = c.requires.all.most;
+      few = omega (arith, h, c.requires.all.few);
+      room = omega (arith, stride (g.n * 4) c.place_of-k.result g.m h, c.requires.all.room);
+      upper = c.requires.all.upper;
+      lower = c.requires.all.lower;
     }
 
 returns-2 : tie.Need-returns-in-NotReached
 returns-2 c =
-    let d = c.before.before in
-    let e = d.before in
-    let p = e.before in
-    test-lost _ _ _ _ _ _ _ _ p.before.before.before.before.before.requires
-    _ _ p.before.single.ensures p.place_of-k.ensures.0 e.if-m-k.false _ d.descend_from.ensures c.enum_told-1.given.1
+    test-lost _ _ _ _ _ _ _ _ c.requires
+    _ _ c.single.ensures c.place_of-k.ensures.0 c.if-m-k.false _ c.descend_from.ensures c.in-NotReached.is
 
 -- where the descent has an end
 abbrev start : tie.In-Reached → tie.Start
-start c = c.before.before.before.before.before.before.before.before.before.before
+start c = c.before.before.before.before.before.before.before.before
 
-low : (c : tie.In-Reached) → c.before.colour-1.given.0.0 < (start c).args.m
+low : (c : tie.In-Reached) → c.in-Reached.colour < (start c).args.m
 low c =
-    let v = c.before.colour-1.given in
-    let d = c.before.before.before in
-    let e = d.before in
-    let p = e.before in
-    end_low _ _ _ _ _ _ _ _ p.before.before.before.before.before.requires
-    _ _ p.before.single.ensures p.place_of-k.ensures.0 e.if-m-k.false _ d.descend_from.ensures v.0.0 v.0.1.0 v.0.1.1.0 v.1
+    end_low _ _ _ _ _ _ _ _ c.requires
+    _ _ c.single.ensures c.place_of-k.ensures.0 c.if-m-k.false _ c.descend_from.ensures c.in-Reached.colour
+    c.in-Reached.drops c.in-Reached.links c.in-Reached.is
 
 mul-set : tie.Need-overflow_mul-set
 mul-set c =
@@ -108,13 +93,9 @@ shared-slice-read-set c =
 
 returns-3 : tie.Need-returns-in-Reached
 returns-3 c =
-    let v = c.before.before.before.colour-1.given in
-    let d = c.before.before.before.before.before in
-    let e = d.before in
-    let p = e.before in
-    let k = p.before.before.before.before in
-    test-end _ _ _ _ _ _ _ _ k.before.requires _ _ p.before.single.ensures p.place_of-k.ensures.0 e.if-m-k.false _ d.descend_from.ensures v.0.0 v.0.1.0 v.0.1.1.0 v.1
-    (λ i. omega (arith, k.shared_slice_known-1.given i)) _ c.bit_of.ensures.0
+    test-end _ _ _ _ _ _ _ _ c.requires _ _ c.single.ensures c.place_of-k.ensures.0 c.if-m-k.false _
+    c.descend_from.ensures c.in-Reached.colour c.in-Reached.drops c.in-Reached.links c.in-Reached.is
+    (λ i. omega (arith, c.shared_slice_known-1.given i)) _ c.bit_of.ensures.0
 
 pub try_target_spec : {M : Type 1} → statement M
 try_target_spec =

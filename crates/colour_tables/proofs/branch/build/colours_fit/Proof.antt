@@ -3,8 +3,6 @@ use native.Mathlib.Omega.{arith}
 use borrow.Author.Rules.{rules}
 use Rattle.colour_tables.proofs.branch.build.colours_fit.Statement.{statement}
 use Rattle.colour_tables.proofs.branch.build.colours_fit.Tie as tie
-use Rattle.colour_tables.proofs.branch.build.colours_fit.Reads as reads
-use Rattle.colour_tables.proofs.branch.build.colours_fit.Lts as lts
 
 mul-if1-2 : tie.Need-overflow_mul-s
 mul-if1-2 c =

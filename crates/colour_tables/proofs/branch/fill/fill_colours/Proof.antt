@@ -4,10 +4,6 @@ use Rattle.colour_tables.proofs.branch.FillLaws.{node-args, word-args, filled}
 use borrow.Author.Rules.{rules}
 use Rattle.colour_tables.proofs.branch.fill.fill_colours.Statement.{statement}
 use Rattle.colour_tables.proofs.branch.fill.fill_colours.Tie as tie
-use Rattle.colour_tables.proofs.branch.fill.fill_colours.Reads as reads
-use Rattle.colour_tables.proofs.branch.fill.fill_colours.Lts as lts
-use Rattle.colour_tables.proofs.states.words.write_words.Reads as write-words-reads
-use Rattle.tables.proofs.node_tables.build.build_node_table.Reads as build-node-table-reads
 
 build-node-table-requires : tie.Need-build_node_table-requires
 build-node-table-requires c κs =

@@ -10,10 +10,6 @@ use Rattle.colour_tables.proofs.forests.RowCells.{next-root, next-below}
 use borrow.Author.Rules.{rules}
 use Rattle.colour_tables.proofs.forests.rows.next_row.Statement.{statement}
 use Rattle.colour_tables.proofs.forests.rows.next_row.Tie as tie
-use Rattle.colour_tables.proofs.forests.rows.next_row.Reads as reads
-use Rattle.colour_tables.proofs.forests.rows.next_row.Lts as lts
-use Rattle.colour_tables.proofs.forests.rows.row_below.Reads as row-below-reads
-use Rattle.tables.proofs.node_tables.moves.parent_at.Reads as parent-at-reads
 
 part-is : (s : tie.Start) → let g = s.args in
     take (g.c * (g.n * 4) + g.n * 4 - g.c * (g.n * 4)) (drop (g.c * (g.n * 4)) g.nums.now)

@@ -10,10 +10,6 @@ use Rattle.colour_tables.proofs.forests.RowCells.{colour-none, colour-put}
 use borrow.Author.Rules.{rules}
 use Rattle.colour_tables.proofs.forests.rows.put_colour.Statement.{statement}
 use Rattle.colour_tables.proofs.forests.rows.put_colour.Tie as tie
-use Rattle.colour_tables.proofs.forests.rows.put_colour.Reads as reads
-use Rattle.colour_tables.proofs.forests.rows.put_colour.Lts as lts
-use Rattle.colour_tables.proofs.forests.rows.next_row.Reads as next-row-reads
-use Rattle.colour_tables.proofs.forests.rows.put_row.Reads as put-row-reads
 
 -- the row is inside, and its place fits a word
 fits : (c : tie.After-put_row-arg-1) → let g = c.args in

@@ -4,8 +4,6 @@ use lib.ListN.{length-set}
 use borrow.Author.Rules.{rules}
 use Rattle.colour_tables.proofs.forests.rows.put_row.Statement.{statement}
 use Rattle.colour_tables.proofs.forests.rows.put_row.Tie as tie
-use Rattle.colour_tables.proofs.forests.rows.put_row.Reads as reads
-use Rattle.colour_tables.proofs.forests.rows.put_row.Lts as lts
 
 slice-write-nums-2 : tie.Need-bounds-nums-at-2
 slice-write-nums-2 c = simp length-set (omega arith)

@@ -7,10 +7,6 @@ use Rattle.colour_tables.proofs.forests.RowCells.{below-marked, below_none, belo
 use borrow.Author.Rules.{rules}
 use Rattle.colour_tables.proofs.forests.rows.row_below.Statement.{statement}
 use Rattle.colour_tables.proofs.forests.rows.row_below.Tie as tie
-use Rattle.colour_tables.proofs.forests.rows.row_below.Reads as reads
-use Rattle.colour_tables.proofs.forests.rows.row_below.Lts as lts
-use Rattle.tables.proofs.node_tables.down.by_distances.Reads as by-distances-reads
-use Rattle.tables.proofs.node_tables.moves.size_at.Reads as size-at-reads
 
 returns : tie.Need-returns-then-size_at-c
 returns c =

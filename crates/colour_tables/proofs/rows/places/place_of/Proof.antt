@@ -5,8 +5,6 @@ use Rattle.colour_tables.proofs.rows.PlaceLoop.{Searched, searched-start, search
 use borrow.Author.Rules.{rules}
 use Rattle.colour_tables.proofs.rows.places.place_of.Statement.{statement}
 use Rattle.colour_tables.proofs.rows.places.place_of.Tie as tie
-use Rattle.colour_tables.proofs.rows.places.place_of.Reads as reads
-use Rattle.colour_tables.proofs.rows.places.place_of.Lts as lts
 
 abbrev invariant-loop : tie.invariant-loop-i
 invariant-loop row q i₀ i = Searched row q i

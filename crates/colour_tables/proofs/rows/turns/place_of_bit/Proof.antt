@@ -3,8 +3,6 @@ use Rattle.colour_tables.proofs.rows.BitLaws.{place_found}
 use borrow.Author.Rules.{rules}
 use Rattle.colour_tables.proofs.rows.turns.place_of_bit.Statement.{statement}
 use Rattle.colour_tables.proofs.rows.turns.place_of_bit.Tie as tie
-use Rattle.colour_tables.proofs.rows.turns.place_of_bit.Reads as reads
-use Rattle.colour_tables.proofs.rows.turns.place_of_bit.Lts as lts
 
 returns : tie.Need-returns
 returns c = λ x h e. place_found x c.args.b h e

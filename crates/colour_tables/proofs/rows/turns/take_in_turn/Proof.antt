@@ -10,10 +10,6 @@ use borrow.Author.Rules.{rules}
 use Rattle.colour_tables.proofs.rows.turns.take_in_turn.Statement.{statement}
 use Rattle.colour_tables.proofs.rows.turns.take_in_turn.Tie as tie
 use Rattle.colour_tables.proofs.rows.turns.take_in_turn.Lts.{then-taken-q-eq0, else-taken-q-eq0}
-use Rattle.colour_tables.proofs.rows.turns.take_in_turn.Reads as reads
-use Rattle.colour_tables.proofs.rows.turns.take_in_turn.Lts as lts
-use Rattle.colour_tables.proofs.forests.rows.put_colour.Reads as put-colour-reads
-use Rattle.colour_tables.proofs.rows.turns.place_of_bit.Reads as place-of-bit-reads
 
 abbrev invariant-loop : tie.invariant-loop-c
 invariant-loop successors bytes₀ numbers₀ n at v owners₀ taken₀ c₀ bytes numbers owners taken c =
@@ -53,9 +49,11 @@ bit_is c =
     let o = c.loop-c in
     let h = c.loop-c-test.true in
     elim c.if-taken-q-eq0.branch [
-      | then-taken-q-eq0 w ↦ w.bit-is ∙ bit-own c.args.successors.now o.invariant.2.row o.invariant.2.landed o.owners o.taken o.c
+      | then-taken-q-eq0 w ↦ w.bit-is ∙ bit-own c.args.successors.now o.invariant.2.row o.invariant.2.landed
+          o.owners o.taken o.c
           o.invariant.2.turns c.requires.turns h w.if-taken-q-eq0.true
-      | else-taken-q-eq0 w ↦ w.bit-is ∙ bit-low c.args.successors.now o.invariant.2.row o.invariant.2.landed o.owners o.taken o.c
+      | else-taken-q-eq0 w ↦ w.bit-is ∙ bit-low c.args.successors.now o.invariant.2.row o.invariant.2.landed
+          o.owners o.taken o.c
           o.invariant.2.turns c.requires.turns h w.if-taken-q-eq0.false
     ]
 

@@ -9,11 +9,6 @@ use native.Mathlib.Omega.{arith}
 use borrow.Author.Rules.{rules}
 use Rattle.colour_tables.proofs.rule.build.build_rule_colours.Statement.{statement}
 use Rattle.colour_tables.proofs.rule.build.build_rule_colours.Tie as tie
-use Rattle.colour_tables.proofs.rule.build.build_rule_colours.Reads as reads
-use Rattle.colour_tables.proofs.rule.build.build_rule_colours.Lts as lts
-use Rattle.formats.proofs.bytes.read32.Reads as read32-reads
-use Rattle.colour_tables.proofs.rule.build.check_rule_colours.Reads as check-rule-colours-reads
-use Rattle.colour_tables.proofs.rule.fill.write_rule_colours.Reads as write-rule-colours-reads
 
 -- all checks pass
 passed : (c : tie.Else-no-ne0) → let g = c.before.before.before.before.before.before.args in

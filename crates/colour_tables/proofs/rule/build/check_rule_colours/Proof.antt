@@ -13,13 +13,6 @@ use native.Mathlib.Omega.{arith}
 use borrow.Author.Rules.{rules}
 use Rattle.colour_tables.proofs.rule.build.check_rule_colours.Statement.{statement}
 use Rattle.colour_tables.proofs.rule.build.check_rule_colours.Tie as tie
-use Rattle.colour_tables.proofs.rule.build.check_rule_colours.Reads as reads
-use Rattle.colour_tables.proofs.rule.build.check_rule_colours.Lts as lts
-use Rattle.formats.proofs.bytes.read32.Reads as read32-reads
-use Rattle.formats.proofs.plan.check_plan.Reads as check-plan-reads
-use Rattle.formats.proofs.rules.all_below.Reads as all-below-reads
-use Rattle.formats.proofs.rules.check_rule_bytes.Reads as check-rule-bytes-reads
-use Rattle.colour_tables.proofs.rule.build.set_colours_fit.Reads as set-colours-fit-reads
 
 -- where the plan passed, and where the table did too
 plan-none : (e : tie.Else-p-ne0) → first_no (plan_checks e.before.before.before.before.args.plan.now) ≡ 0

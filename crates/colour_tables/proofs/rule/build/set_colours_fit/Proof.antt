@@ -4,9 +4,6 @@ use native.Mathlib.Omega.{arith}
 use borrow.Author.Rules.{rules}
 use Rattle.colour_tables.proofs.rule.build.set_colours_fit.Statement.{statement}
 use Rattle.colour_tables.proofs.rule.build.set_colours_fit.Tie as tie
-use Rattle.colour_tables.proofs.rule.build.set_colours_fit.Reads as reads
-use Rattle.colour_tables.proofs.rule.build.set_colours_fit.Lts as lts
-use Rattle.colour_tables.proofs.set_states.sets.set_count.Reads as set-count-reads
 
 mul-if1-2 : tie.Need-overflow_mul-count
 mul-if1-2 c =

@@ -1,14 +1,9 @@
 -- `fill_set_colours` meets its contract.
 use mathlib.Core.Path.{refl}
 use Rattle.colour_tables.proofs.rule.FillLaws.{set-args, filled}
-use native.Mathlib.Omega.{arith}
 use borrow.Author.Rules.{rules}
 use Rattle.colour_tables.proofs.rule.fill.fill_set_colours.Statement.{statement}
 use Rattle.colour_tables.proofs.rule.fill.fill_set_colours.Tie as tie
-use Rattle.colour_tables.proofs.rule.fill.fill_set_colours.Reads as reads
-use Rattle.colour_tables.proofs.rule.fill.fill_set_colours.Lts as lts
-use Rattle.colour_tables.proofs.set_states.sets.set_count.Reads as set-count-reads
-use Rattle.colour_tables.proofs.set_states.sets.write_sets.Reads as write-sets-reads
 
 write-sets-requires : tie.Need-write_sets-requires
 write-sets-requires c κs =

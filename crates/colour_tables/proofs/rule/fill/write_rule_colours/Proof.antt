@@ -1,7 +1,6 @@
 -- `write_rule_colours` meets its contract: the tables of a Load first, then the rest.
 use mathlib.Core.Path.{◌∙◌}
 use Rattle.colour_tables.proofs.rule.TableLaws.{table-args, parts-filled, parts-written}
-use native.Mathlib.Omega.{arith}
 use borrow.Author.Rules.{rules}
 use Rattle.colour_tables.proofs.rule.fill.write_rule_colours.Statement.{statement}
 use Rattle.colour_tables.proofs.rule.fill.write_rule_colours.Tie as tie

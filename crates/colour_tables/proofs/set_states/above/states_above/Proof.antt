@@ -7,11 +7,6 @@ use native.Mathlib.Omega.{arith}
 use borrow.Author.Rules.{rules}
 use Rattle.colour_tables.proofs.set_states.above.states_above.Statement.{statement}
 use Rattle.colour_tables.proofs.set_states.above.states_above.Tie as tie
-use Rattle.colour_tables.proofs.set_states.above.states_above.Reads as reads
-use Rattle.colour_tables.proofs.set_states.above.states_above.Lts as lts
-use Rattle.tables.proofs.node_tables.moves.parent_at.Reads as parent-at-reads
-use Rattle.tables.proofs.node_tables.moves.size_at.Reads as size-at-reads
-use Rattle.colour_tables.proofs.set_states.above.states_above_from.Reads as states-above-from-reads
 
 -- the sibling of a left child
 left : (e : tie.Else-v-p) → e.before.before.parent_at-p.result - 1 < e.before.before.parent_at-p.result

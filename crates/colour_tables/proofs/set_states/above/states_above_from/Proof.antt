@@ -8,8 +8,6 @@ use native.Mathlib.Omega.{arith}
 use borrow.Author.Rules.{rules}
 use Rattle.colour_tables.proofs.set_states.above.states_above_from.Statement.{statement}
 use Rattle.colour_tables.proofs.set_states.above.states_above_from.Tie as tie
-use Rattle.colour_tables.proofs.set_states.above.states_above_from.Reads as reads
-use Rattle.colour_tables.proofs.set_states.above.states_above_from.Lts as lts
 
 abbrev invariant-loop : tie.invariant-loop-q
 invariant-loop inner s base stride ups₀ q₀ above q = (q ≤ s) × StatesAboveTo q (λ j. get_or inner (base + j * stride) 0) above

@@ -5,10 +5,6 @@ use native.Mathlib.Omega.{arith}
 use borrow.Author.Rules.{rules}
 use Rattle.colour_tables.proofs.set_states.down.successors_down.Statement.{statement}
 use Rattle.colour_tables.proofs.set_states.down.successors_down.Tie as tie
-use Rattle.colour_tables.proofs.set_states.down.successors_down.Reads as reads
-use Rattle.colour_tables.proofs.set_states.down.successors_down.Lts as lts
-use Rattle.colour_tables.proofs.set_states.above.states_above.Reads as states-above-reads
-use Rattle.colour_tables.proofs.sets.successors.successors_by_set.Reads as successors-by-set-reads
 
 returns : tie.Need-returns-then-v-n
 returns c =

@@ -7,8 +7,6 @@ use lib.Pow.{pow_mono}
 use borrow.Author.Rules.{rules}
 use Rattle.colour_tables.proofs.set_states.sets.set_count.Statement.{statement}
 use Rattle.colour_tables.proofs.set_states.sets.set_count.Tie as tie
-use Rattle.colour_tables.proofs.set_states.sets.set_count.Reads as reads
-use Rattle.colour_tables.proofs.set_states.sets.set_count.Lts as lts
 
 returns : tie.Need-returns
 returns c =

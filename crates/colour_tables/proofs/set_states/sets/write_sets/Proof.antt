@@ -10,11 +10,6 @@ use native.Mathlib.Omega.{arith}
 use borrow.Author.Rules.{rules}
 use Rattle.colour_tables.proofs.set_states.sets.write_sets.Statement.{statement}
 use Rattle.colour_tables.proofs.set_states.sets.write_sets.Tie as tie
-use Rattle.colour_tables.proofs.set_states.sets.write_sets.Reads as reads
-use Rattle.colour_tables.proofs.set_states.sets.write_sets.Lts as lts
-use Rattle.colour_tables.proofs.states.copies.put_copy.Reads as put-copy-reads
-use Rattle.colour_tables.proofs.states.copies.row_above.Reads as row-above-reads
-use Rattle.colour_tables.proofs.set_states.down.successors_down.Reads as successors-down-reads
 
 abbrev invariant-loop : tie.invariant-loop-v
 invariant-loop labels inner s k count base numbers₀ bytes₀ n v₀ numbers bytes v =
@@ -94,7 +89,8 @@ loop-again c =
           c.args.bytes.now c.args.numbers.now c.requires _ c.loop-v.v (c.loop-v.v - 1) c.loop-v.bytes
           c.loop-v.numbers f.1
           (omega (arith, c.loop-v-test.true)) (omega (arith, c.loop-v-test.true, f.0)) f.2 f.3 f.4
-          c.row_above-above.result c.row_above-above.ensures c.successors_down-successors.result c.successors_down-successors.ensures _ _
+          c.row_above-above.result c.row_above-above.ensures c.successors_down-successors.result
+          c.successors_down-successors.ensures _ _
           c.put_copy.ensures,
     )
 

@@ -3,8 +3,6 @@ use Rattle.colour_tables.proofs.sets.BitLaws.{bit_is}
 use borrow.Author.Rules.{rules}
 use Rattle.colour_tables.proofs.sets.bits.bit_of.Statement.{statement}
 use Rattle.colour_tables.proofs.sets.bits.bit_of.Tie as tie
-use Rattle.colour_tables.proofs.sets.bits.bit_of.Reads as reads
-use Rattle.colour_tables.proofs.sets.bits.bit_of.Lts as lts
 
 returns : tie.Need-returns
 returns c = bit_is c.args.t c.args.k

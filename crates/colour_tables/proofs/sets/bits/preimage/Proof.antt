@@ -9,10 +9,6 @@ use native.Mathlib.Omega.{arith}
 use borrow.Author.Rules.{rules}
 use Rattle.colour_tables.proofs.sets.bits.preimage.Statement.{statement}
 use Rattle.colour_tables.proofs.sets.bits.preimage.Tie as tie
-use Rattle.colour_tables.proofs.sets.bits.preimage.Reads as reads
-use Rattle.colour_tables.proofs.sets.bits.preimage.Lts as lts
-use Rattle.colour_tables.proofs.sets.bits.bit_of.Reads as bit-of-reads
-use Rattle.colour_tables.proofs.sets.bits.with_bit.Reads as with-bit-reads
 
 abbrev invariant-loop : tie.invariant-loop-i
 invariant-loop above t r₀ i₀ r i =

@@ -3,8 +3,6 @@ use Rattle.colour_tables.proofs.sets.BitLaws.{joined, bound}
 use borrow.Author.Rules.{rules}
 use Rattle.colour_tables.proofs.sets.bits.with_bit.Statement.{statement}
 use Rattle.colour_tables.proofs.sets.bits.with_bit.Tie as tie
-use Rattle.colour_tables.proofs.sets.bits.with_bit.Reads as reads
-use Rattle.colour_tables.proofs.sets.bits.with_bit.Lts as lts
 
 returns : tie.Need-returns
 returns c =

@@ -7,9 +7,6 @@ use native.Mathlib.Omega.{arith}
 use borrow.Author.Rules.{rules}
 use Rattle.colour_tables.proofs.sets.successors.successors_by_set.Statement.{statement}
 use Rattle.colour_tables.proofs.sets.successors.successors_by_set.Tie as tie
-use Rattle.colour_tables.proofs.sets.successors.successors_by_set.Reads as reads
-use Rattle.colour_tables.proofs.sets.successors.successors_by_set.Lts as lts
-use Rattle.colour_tables.proofs.sets.bits.preimage.Reads as preimage-reads
 
 abbrev invariant-loop : tie.invariant-loop-c
 invariant-loop above k row led₀ c₀ successors c = (c ≤ k) × SuccessorsBy above row c successors

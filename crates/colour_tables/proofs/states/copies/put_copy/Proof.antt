@@ -8,9 +8,6 @@ use native.Mathlib.Omega.{arith}
 use borrow.Author.Rules.{rules}
 use Rattle.colour_tables.proofs.states.copies.put_copy.Statement.{statement}
 use Rattle.colour_tables.proofs.states.copies.put_copy.Tie as tie
-use Rattle.colour_tables.proofs.states.copies.put_copy.Reads as reads
-use Rattle.colour_tables.proofs.states.copies.put_copy.Lts as lts
-use Rattle.colour_tables.proofs.rows.turns.take_in_turn.Reads as take-in-turn-reads
 
 prefix : (c : tie.After-successors-1) → let g = c.before.before.before.args in length (take g.k g.successors) ≡ g.k
 prefix c =

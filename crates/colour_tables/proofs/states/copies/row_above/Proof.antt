@@ -5,10 +5,6 @@ use native.Mathlib.Omega.{arith}
 use borrow.Author.Rules.{rules}
 use Rattle.colour_tables.proofs.states.copies.row_above.Statement.{statement}
 use Rattle.colour_tables.proofs.states.copies.row_above.Tie as tie
-use Rattle.colour_tables.proofs.states.copies.row_above.Reads as reads
-use Rattle.colour_tables.proofs.states.copies.row_above.Lts as lts
-use Rattle.colour_tables.proofs.states.copies.row_at.Reads as row-at-reads
-use Rattle.tables.proofs.node_tables.moves.parent_at.Reads as parent-at-reads
 
 -- the parent's copy is inside
 within : (c : tie.After-parent_at-p) → let g = c.before.before.before.before.args in

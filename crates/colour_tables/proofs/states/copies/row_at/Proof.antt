@@ -7,8 +7,6 @@ use native.Mathlib.Omega.{arith}
 use borrow.Author.Rules.{rules}
 use Rattle.colour_tables.proofs.states.copies.row_at.Statement.{statement}
 use Rattle.colour_tables.proofs.states.copies.row_at.Tie as tie
-use Rattle.colour_tables.proofs.states.copies.row_at.Reads as reads
-use Rattle.colour_tables.proofs.states.copies.row_at.Lts as lts
 
 abbrev invariant-loop : tie.invariant-loop-c
 invariant-loop bytes at k row₀ c₀ row c = (c ≤ k) × RowOf c (λ j. get_or bytes (at + j) 0) row

@@ -7,8 +7,6 @@ use native.Mathlib.Omega.{arith}
 use borrow.Author.Rules.{rules}
 use Rattle.colour_tables.proofs.states.words.successors_by_word.Statement.{statement}
 use Rattle.colour_tables.proofs.states.words.successors_by_word.Tie as tie
-use Rattle.colour_tables.proofs.states.words.successors_by_word.Reads as reads
-use Rattle.colour_tables.proofs.states.words.successors_by_word.Lts as lts
 
 abbrev invariant-loop : tie.invariant-loop-c
 invariant-loop steps s k a row led₀ c₀ successors c = (c ≤ s) × RowOf c (λ j. get_or steps (get_or row j 0 * k + a) 0) successors

@@ -10,11 +10,6 @@ use native.Mathlib.Omega.{arith}
 use borrow.Author.Rules.{rules}
 use Rattle.colour_tables.proofs.states.words.write_words.Statement.{statement}
 use Rattle.colour_tables.proofs.states.words.write_words.Tie as tie
-use Rattle.colour_tables.proofs.states.words.write_words.Reads as reads
-use Rattle.colour_tables.proofs.states.words.write_words.Lts as lts
-use Rattle.colour_tables.proofs.states.copies.put_copy.Reads as put-copy-reads
-use Rattle.colour_tables.proofs.states.copies.row_above.Reads as row-above-reads
-use Rattle.colour_tables.proofs.states.words.successors_by_word.Reads as successors-by-word-reads
 
 abbrev invariant-loop : tie.invariant-loop-v
 invariant-loop labels steps s k numbers₀ bytes₀ n v₀ numbers bytes v =
@@ -95,7 +90,8 @@ loop-again c =
       words-next c.args.labels.now c.args.steps.now c.args.s c.args.k c.args.bytes.now
           c.args.numbers.now c.requires _ c.loop-v.v (c.loop-v.v - 1) c.loop-v.bytes c.loop-v.numbers f.1
           (omega (arith, c.loop-v-test.true)) (omega (arith, c.loop-v-test.true, f.0)) f.2 f.3 f.4
-          c.row_above-above.result c.row_above-above.ensures c.successors_by_word-successors.result _ c.successors_by_word-successors.ensures _ _ refl
+          c.row_above-above.result c.row_above-above.ensures c.successors_by_word-successors.result _
+          c.successors_by_word-successors.ensures _ _ refl
           c.put_copy.ensures,
     )
 

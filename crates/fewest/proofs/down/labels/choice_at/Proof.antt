@@ -1,15 +1,12 @@
 -- `choice_at` meets its contract.
-use Prim.Native.Nat.{◌-◌}
 use native.Mathlib.Omega.{arith}
 use borrow.Author.Rules.{rules}
 use Rattle.fewest.proofs.down.labels.choice_at.Statement.{statement}
 use Rattle.fewest.proofs.down.labels.choice_at.Tie as tie
-use Rattle.fewest.proofs.down.labels.choice_at.Reads as reads
-use Rattle.fewest.proofs.down.labels.choice_at.Lts as lts
 
 choose-requires : tie.Need-choose-requires
 choose-requires c κs =
-    let p = c.before.before.before.before.before.requires in (
+    let p = c.requires in (
       record {
         few = p.few;
         labels = p.labels;

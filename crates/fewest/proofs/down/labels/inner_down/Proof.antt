@@ -1,20 +1,17 @@
 -- `inner_down` meets its contract.
-use Prim.Native.Nat.{◌-◌}
 use native.Mathlib.Omega.{arith}
 use borrow.Author.Rules.{rules}
 use Rattle.fewest.proofs.down.labels.inner_down.Statement.{statement}
 use Rattle.fewest.proofs.down.labels.inner_down.Tie as tie
-use Rattle.fewest.proofs.down.labels.inner_down.Reads as reads
-use Rattle.fewest.proofs.down.labels.inner_down.Lts as lts
 
 choice-at-requires : tie.Need-choice_at-d-requires
 choice-at-requires c κs =
-    c.before.before.before.requires
+    c.requires
 
 place-requires : tie.Need-place-requires
 place-requires c κs =
-    let p = c.before.before.before.before.before.requires in
-    let d = c.before.choice_at-d.ensures in
+    let p = c.requires in
+    let d = c.choice_at-d.ensures in
     record {
       few = p.few;
       pos = p.pos;
@@ -29,8 +26,8 @@ place-requires c κs =
 
 returns : tie.Need-returns
 returns c =
-    let d = c.before.before.before.before.choice_at-d.result in
-    record { left = d.left; right = d.right; label = d.label; chosen = c.before.before.before.before.choice_at-d.ensures; is = c.before.before.place.ensures }
+    let d = c.choice_at-d.result in
+    record { left = d.left; right = d.right; label = d.label; chosen = c.choice_at-d.ensures; is = c.place.ensures }
 
 pub inner_down_spec : {M : Type 1} → statement M
 inner_down_spec =

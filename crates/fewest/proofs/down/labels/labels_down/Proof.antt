@@ -12,8 +12,6 @@ use native.Mathlib.Omega.{arith}
 use borrow.Author.Rules.{rules}
 use Rattle.fewest.proofs.down.labels.labels_down.Statement.{statement}
 use Rattle.fewest.proofs.down.labels.labels_down.Tie as tie
-use Rattle.fewest.proofs.down.labels.labels_down.Reads as reads
-use Rattle.fewest.proofs.down.labels.labels_down.Lts as lts
 
 abbrev invariant-loop : tie.invariant-loop-v
 invariant-loop kinds labels leaves inner may s k work₀ v₀ work v =
@@ -28,10 +26,10 @@ loop-holds c =
 
 node-down-requires : tie.Need-node_down-requires invariant-loop decreases-loop
 node-down-requires c κs =
-    let g = c.before.before.before.before.before.before.before.before.before.args in
-    let q = c.before.before.before.before.before.before.before.before.before.requires in
-    let l = c.before.before.loop-v in
-    let h = c.before.loop-v-test.true in
+    let g = c.args in
+    let q = c.requires in
+    let l = c.loop-v in
+    let h = c.loop-v-test.true in
     let e : l.v ≡ l.v - 1 + 1 = omega arith in
     let T : (t : Tree) × (kinds_of t ≡ g.kinds.now) × (labels_of t ≡ g.labels.now) =
     postorder-tree g.kinds.now g.labels.now q.runs.count q.runs.postorder in
@@ -43,22 +41,22 @@ node-down-requires c κs =
 
 loop-again : tie.Need-loop-v-preserved invariant-loop decreases-loop
 loop-again c =
-    let g = c.before.before.before.before.before.before.before.before.before.before.before.before.args in
-    let q = c.before.before.before.before.before.before.before.before.before.before.before.before.requires in
-    let l = c.before.before.before.before.before.loop-v in
-    let h = c.before.before.before.before.loop-v-test.true in
+    let g = c.args in
+    let q = c.requires in
+    let l = c.loop-v in
+    let h = c.loop-v-test.true in
     let e : l.v ≡ l.v - 1 + 1 = omega arith in (
       omega (arith, l.invariant.0),
       omega (arith, l.invariant.1),
       down-next g.kinds.now g.labels.now g.leaves.now g.inner.now g.may.now g.s g.k q.runs (l.v - 1) l.work (omega (arith, l.invariant.0, h)) (omega (arith, l.invariant.1, q.room)) g.work.now
-          c.before.before.node_down.new.work
-          (subst (λ (i : ℕ). Down g.kinds.now g.labels.now g.leaves.now g.inner.now g.may.now g.s g.k i g.work.now l.work) e l.invariant.2) c.before.before.node_down.ensures,
+          c.node_down.new.work
+          (subst (λ (i : ℕ). Down g.kinds.now g.labels.now g.leaves.now g.inner.now g.may.now g.s g.k i g.work.now l.work) e l.invariant.2) c.node_down.ensures,
     )
 
 returns : tie.Need-returns invariant-loop decreases-loop
 returns c =
-    let g = c.before.before.before.before.before.before.before.before.args in
-    let l = c.before.loop-v in
+    let g = c.args in
+    let l = c.loop-v in
     let z : l.v ≡ 0 = omega (arith, c.loop-v-test.false) in
     subst (λ (i : ℕ). Down g.kinds.now g.labels.now g.leaves.now g.inner.now g.may.now g.s g.k i g.work.now l.work) z l.invariant.2
 

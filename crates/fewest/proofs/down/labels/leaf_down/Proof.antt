@@ -1,20 +1,17 @@
 -- `leaf_down` meets its contract.
-use Prim.Native.Nat.{◌-◌}
 use mathlib.Core.Path.{refl}
 use native.Mathlib.Omega.{arith}
 use borrow.Author.Rules.{rules}
 use Rattle.fewest.proofs.down.labels.leaf_down.Statement.{statement}
 use Rattle.fewest.proofs.down.labels.leaf_down.Tie as tie
-use Rattle.fewest.proofs.down.labels.leaf_down.Reads as reads
-use Rattle.fewest.proofs.down.labels.leaf_down.Lts as lts
 
 find-leaf-label-requires : tie.Need-find_leaf_label-b-requires
 find-leaf-label-requires c κs =
-    (c.before.before.before.before.requires.0.leaf, c.before.before.before.before.requires.1)
+    (c.requires.0.leaf, c.requires.1)
 
 cast-work : tie.Need-overflow_cast-work
 cast-work c =
-    omega (arith, c.find_leaf_label-b.ensures.most, c.before.before.before.before.before.requires.0.labels)
+    omega (arith, c.find_leaf_label-b.ensures.most, c.requires.0.labels)
 
 returns : tie.Need-returns
 returns c =

@@ -1,38 +1,35 @@
 -- `node_down` meets its contract, by the node's kind.
-use Prim.Native.Nat.{ℕ, ◌-◌}
+use Prim.Native.Nat.{ℕ}
 use mathlib.Core.Path.{sym, subst}
 use lib.ListN.{get_or}
 use Rattle.state_sets.specs.StateSets.{member}
 use Rattle.fewest.specs.inner.down.Down.{LeafDown, InnerDown, InnerDownArgs}
-use native.Mathlib.Omega.{arith}
 use borrow.Author.Rules.{rules}
 use Rattle.fewest.proofs.down.labels.node_down.Statement.{statement}
 use Rattle.fewest.proofs.down.labels.node_down.Tie as tie
-use Rattle.fewest.proofs.down.labels.node_down.Reads as reads
-use Rattle.fewest.proofs.down.labels.node_down.Lts as lts
 
 returns : tie.Need-returns-then-kinds-v-eq0
 returns c =
-    let g = c.before.before.before.before.before.before.before.before.before.before.before.before.before.before.args in
+    let g = c.args in
     record {
       leaf = λ z. subst (λ (m : ℕ). LeafDown g.work.now g.leaves.now g.s g.k g.v (get_or g.labels.now g.v 0) (member m)
-          c.before.before.leaf_down.new.work) c.before.before.before.before.before.before.stock-m.ensures c.before.before.leaf_down.ensures;
-      inner = λ z. absurd (z c.before.before.before.before.if-kinds-v-eq0.true);
+          c.leaf_down.new.work) c.stock-m.ensures c.leaf_down.ensures;
+      inner = λ z. absurd (z c.if-kinds-v-eq0.true);
     }
 
 inner-down-requires : tie.Need-inner_down-requires
 inner-down-requires c κs =
-    let g = c.before.before.before.before.before.before.before.before.before.before.before.args in
+    let g = c.args in
     subst (λ (m : ℕ). InnerDownArgs g.work.now g.inner.now g.s g.k g.v (get_or g.labels.now g.v 0) (member m))
-    (sym c.before.before.before.stock-m.ensures) (c.before.before.before.before.before.before.before.before.before.before.before.requires.inner c.before.if-kinds-v-eq0.false)
+    (sym c.stock-m.ensures) (c.requires.inner c.if-kinds-v-eq0.false)
 
 returns-2 : tie.Need-returns
 returns-2 c =
-    let g = c.before.before.before.before.before.before.before.before.before.before.before.before.before.before.args in
+    let g = c.args in
     record {
-      leaf = λ z. absurd (c.before.before.before.before.if-kinds-v-eq0.false z);
+      leaf = λ z. absurd (c.if-kinds-v-eq0.false z);
       inner = λ z. subst (λ (m : ℕ). InnerDown g.work.now g.inner.now g.s g.k g.v (get_or g.labels.now g.v 0) (member m)
-          c.before.before.inner_down.new.work) c.before.before.before.before.before.before.stock-m.ensures c.before.before.inner_down.ensures;
+          c.inner_down.new.work) c.stock-m.ensures c.inner_down.ensures;
     }
 
 pub node_down_spec : {M : Type 1} → statement M

@@ -1,5 +1,4 @@
 -- `place` meets its contract.
-use Prim.Native.Nat.{◌-◌}
 use mathlib.Core.Path.{refl}
 use lib.ListN.{length-set}
 use Rattle.fewest.specs.inner.down.Down.{placed}
@@ -7,16 +6,14 @@ use native.Mathlib.Omega.{arith}
 use borrow.Author.Rules.{rules}
 use Rattle.fewest.proofs.down.labels.place.Statement.{statement}
 use Rattle.fewest.proofs.down.labels.place.Tie as tie
-use Rattle.fewest.proofs.down.labels.place.Reads as reads
-use Rattle.fewest.proofs.down.labels.place.Lts as lts
 
 slice-write-work-2 : tie.Need-bounds-work-left
 slice-write-work-2 c =
-    simp length-set (omega (arith, c.before.requires.left_room))
+    simp length-set (omega (arith, c.requires.left_room))
 
 slice-write-work-3 : tie.Need-bounds-work-v
 slice-write-work-3 c =
-    simp (length-set, length-set) (omega (arith, c.before.requires.room))
+    simp (length-set, length-set) (omega (arith, c.requires.room))
 
 returns : tie.Need-returns
 unfolding placed

@@ -8,8 +8,6 @@ use native.Mathlib.Omega.{arith}
 use borrow.Author.Rules.{rules}
 use Rattle.fewest.proofs.down.root.root_least.Statement.{statement}
 use Rattle.fewest.proofs.down.root.root_least.Tie as tie
-use Rattle.fewest.proofs.down.root.root_least.Reads as reads
-use Rattle.fewest.proofs.down.root.root_least.Lts as lts
 
 abbrev invariant-loop : tie.invariant-loop-j
 invariant-loop work marks s at mark r₀ j₀ r j =
@@ -26,14 +24,14 @@ loop-holds c =
 loop-again : tie.Need-loop-j-preserved invariant-loop decreases-loop
 unfolding least_to
 loop-again c =
-    let g = c.before.before.before.before.before.before.args in
-    let l = c.before.before.before.loop-j in
-    (omega (arith, c.before.before.loop-j-test.true), rw (add-one l.j) (c.lesser-r.ensures ∙ omega (arith, l.invariant.1, c.before.root_cost-c.ensures)))
+    let g = c.args in
+    let l = c.loop-j in
+    (omega (arith, c.loop-j-test.true), rw (add-one l.j) (c.lesser-r.ensures ∙ omega (arith, l.invariant.1, c.root_cost-c.ensures)))
 
 returns : tie.Need-returns invariant-loop decreases-loop
 returns c =
-    let g = c.before.before.before.before.args in
-    let l = c.before.loop-j in
+    let g = c.args in
+    let l = c.loop-j in
     let e : l.j ≡ g.s = omega (arith, l.invariant.0, c.loop-j-test.false) in
     l.invariant.1 ∙ ap (λ (i : ℕ). least_to 65536 i (root_cost g.work.now g.marks.now g.at g.mark)) e
 

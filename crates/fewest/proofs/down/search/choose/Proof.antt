@@ -1,95 +1,92 @@
 -- `choose` meets its contract.
-use Prim.Native.Nat.{◌+◌, ◌-◌, ◌<◌}
+use Prim.Native.Nat.{◌+◌, ◌<◌}
 use lib.ListN.{get_or}
 use Rattle.state_sets.specs.StateSets.{member}
 use Rattle.fewest.specs.inner.down.Search.{label_hit, right_hit, left_hit}
 use Rattle.fewest.proofs.down.AnyLaws.{first_found}
 use Rattle.fewest.proofs.down.WayLaws.{row-args, right-search}
 use native.Mathlib.Omega.{arith}
-use borrow.Author.Rules.{rules}
 use Rattle.fewest.proofs.down.search.choose.Statement.{statement}
 use Rattle.fewest.proofs.down.search.choose.Tie as tie
-use Rattle.fewest.proofs.down.search.choose.Reads as reads
-use Rattle.fewest.proofs.down.search.choose.Lts as lts
 
 find-left-requires : tie.Need-find_left-p-requires
 find-left-requires c κs =
-    (c.before.before.requires.0, c.before.before.requires.2)
+    (c.requires.0, c.requires.2)
 
 add-x : tie.Need-overflow_add-x
 add-x c =
-    let g = c.before.before.before.args in
-    let pin : c.find_left-p.result < g.s = first_found g.s (left_hit g.work.now g.inner.now g.s g.k g.from g.at g.a (member g.labels) g.j g.c) c.find_left-p.result c.find_left-p.ensures c.before.before.before.requires.1 in
-    omega (arith, pin, c.before.before.before.requires.0.left_room)
+    let g = c.args in
+    let pin : c.find_left-p.result < g.s = first_found g.s (left_hit g.work.now g.inner.now g.s g.k g.from g.at g.a (member g.labels) g.j g.c) c.find_left-p.result c.find_left-p.ensures c.requires.1 in
+    omega (arith, pin, c.requires.0.left_room)
 
 mul-x : tie.Need-offset_bounds-work-from
 mul-x c =
-    let g = c.before.before.before.args in
-    let pin : c.find_left-p.result < g.s = first_found g.s (left_hit g.work.now g.inner.now g.s g.k g.from g.at g.a (member g.labels) g.j g.c) c.find_left-p.result c.find_left-p.ensures c.before.before.before.requires.1 in
-    omega (arith, pin, c.before.before.before.requires.0.left_room)
+    let g = c.args in
+    let pin : c.find_left-p.result < g.s = first_found g.s (left_hit g.work.now g.inner.now g.s g.k g.from g.at g.a (member g.labels) g.j g.c) c.find_left-p.result c.find_left-p.ensures c.requires.1 in
+    omega (arith, pin, c.requires.0.left_room)
 
 shared-slice-read-x : tie.Need-bounds-work-from
 shared-slice-read-x c =
-    let g = c.before.before.before.before.args in
-    let pin : c.before.find_left-p.result < g.s = first_found g.s (left_hit g.work.now g.inner.now g.s g.k g.from g.at g.a (member g.labels) g.j g.c) c.before.find_left-p.result c.before.find_left-p.ensures c.before.before.before.before.requires.1 in
-    omega (arith, pin, c.before.before.before.before.requires.0.left_room)
+    let g = c.args in
+    let pin : c.find_left-p.result < g.s = first_found g.s (left_hit g.work.now g.inner.now g.s g.k g.from g.at g.a (member g.labels) g.j g.c) c.find_left-p.result c.find_left-p.ensures c.requires.1 in
+    omega (arith, pin, c.requires.0.left_room)
 
 find-right-requires : tie.Need-find_right-q-requires
 find-right-requires c κs =
-    let g = c.before.before.before.before.args in
-    let pin : c.before.find_left-p.result < g.s = first_found g.s (left_hit g.work.now g.inner.now g.s g.k g.from g.at g.a (member g.labels) g.j g.c) c.before.find_left-p.result c.before.find_left-p.ensures c.before.before.before.before.requires.1 in
-    (right-search g.work.now g.inner.now g.s g.k g.from g.at g.c c.before.find_left-p.result c.before.before.before.before.requires.0 pin, c.before.before.before.before.requires.2)
+    let g = c.args in
+    let pin : c.find_left-p.result < g.s = first_found g.s (left_hit g.work.now g.inner.now g.s g.k g.from g.at g.a (member g.labels) g.j g.c) c.find_left-p.result c.find_left-p.ensures c.requires.1 in
+    (right-search g.work.now g.inner.now g.s g.k g.from g.at g.c c.find_left-p.result c.requires.0 pin, c.requires.2)
 
 add-find-label : tie.Need-overflow_add-at
 add-find-label c =
-    let g = c.before.before.before.before.before.args in
-    let pin : c.before.before.find_left-p.result < g.s = first_found g.s (left_hit g.work.now g.inner.now g.s g.k g.from g.at g.a (member g.labels) g.j g.c) c.before.before.find_left-p.result c.before.before.find_left-p.ensures c.before.before.before.before.before.requires.1 in
-    let qin : c.find_right-q.result < g.s = first_found g.s (right_hit g.work.now g.inner.now g.s g.k c.before.before.find_left-p.result (get_or g.work.now (g.from + c.before.before.find_left-p.result) 0) g.at g.a (member g.labels) g.j g.c) c.find_right-q.result c.find_right-q.ensures (c.before.before.find_left-p.ensures.hit pin) in
-    omega (arith, qin, c.before.before.before.before.before.requires.0.right_room)
+    let g = c.args in
+    let pin : c.find_left-p.result < g.s = first_found g.s (left_hit g.work.now g.inner.now g.s g.k g.from g.at g.a (member g.labels) g.j g.c) c.find_left-p.result c.find_left-p.ensures c.requires.1 in
+    let qin : c.find_right-q.result < g.s = first_found g.s (right_hit g.work.now g.inner.now g.s g.k c.find_left-p.result (get_or g.work.now (g.from + c.find_left-p.result) 0) g.at g.a (member g.labels) g.j g.c) c.find_right-q.result c.find_right-q.ensures (c.find_left-p.ensures.hit pin) in
+    omega (arith, qin, c.requires.0.right_room)
 
 mul-find-label : tie.Need-offset_bounds-work-at
 mul-find-label c =
-    let g = c.before.before.before.before.before.args in
-    let pin : c.before.before.find_left-p.result < g.s = first_found g.s (left_hit g.work.now g.inner.now g.s g.k g.from g.at g.a (member g.labels) g.j g.c) c.before.before.find_left-p.result c.before.before.find_left-p.ensures c.before.before.before.before.before.requires.1 in
-    let qin : c.find_right-q.result < g.s = first_found g.s (right_hit g.work.now g.inner.now g.s g.k c.before.before.find_left-p.result (get_or g.work.now (g.from + c.before.before.find_left-p.result) 0) g.at g.a (member g.labels) g.j g.c) c.find_right-q.result c.find_right-q.ensures (c.before.before.find_left-p.ensures.hit pin) in
-    omega (arith, qin, c.before.before.before.before.before.requires.0.right_room)
+    let g = c.args in
+    let pin : c.find_left-p.result < g.s = first_found g.s (left_hit g.work.now g.inner.now g.s g.k g.from g.at g.a (member g.labels) g.j g.c) c.find_left-p.result c.find_left-p.ensures c.requires.1 in
+    let qin : c.find_right-q.result < g.s = first_found g.s (right_hit g.work.now g.inner.now g.s g.k c.find_left-p.result (get_or g.work.now (g.from + c.find_left-p.result) 0) g.at g.a (member g.labels) g.j g.c) c.find_right-q.result c.find_right-q.ensures (c.find_left-p.ensures.hit pin) in
+    omega (arith, qin, c.requires.0.right_room)
 
 shared-slice-read-find-label : tie.Need-bounds-work-at
 shared-slice-read-find-label c =
-    let g = c.before.before.before.before.before.before.args in
-    let pin : c.before.before.before.find_left-p.result < g.s = first_found g.s (left_hit g.work.now g.inner.now g.s g.k g.from g.at g.a (member g.labels) g.j g.c) c.before.before.before.find_left-p.result c.before.before.before.find_left-p.ensures c.before.before.before.before.before.before.requires.1 in
-    let qin : c.before.find_right-q.result < g.s = first_found g.s (right_hit g.work.now g.inner.now g.s g.k c.before.before.before.find_left-p.result (get_or g.work.now (g.from + c.before.before.before.find_left-p.result) 0) g.at g.a (member g.labels) g.j g.c) c.before.find_right-q.result c.before.find_right-q.ensures (c.before.before.before.find_left-p.ensures.hit pin) in
-    omega (arith, qin, c.before.before.before.before.before.before.requires.0.right_room)
+    let g = c.args in
+    let pin : c.find_left-p.result < g.s = first_found g.s (left_hit g.work.now g.inner.now g.s g.k g.from g.at g.a (member g.labels) g.j g.c) c.find_left-p.result c.find_left-p.ensures c.requires.1 in
+    let qin : c.find_right-q.result < g.s = first_found g.s (right_hit g.work.now g.inner.now g.s g.k c.find_left-p.result (get_or g.work.now (g.from + c.find_left-p.result) 0) g.at g.a (member g.labels) g.j g.c) c.find_right-q.result c.find_right-q.ensures (c.find_left-p.ensures.hit pin) in
+    omega (arith, qin, c.requires.0.right_room)
 
 add-find-label-2 : tie.Need-overflow_add-x-2
 add-find-label-2 c =
-    let g = c.before.before.before.before.before.before.args in
-    let pin : c.before.before.before.find_left-p.result < g.s = first_found g.s (left_hit g.work.now g.inner.now g.s g.k g.from g.at g.a (member g.labels) g.j g.c) c.before.before.before.find_left-p.result c.before.before.before.find_left-p.ensures c.before.before.before.before.before.before.requires.1 in
-    let qin : c.before.find_right-q.result < g.s = first_found g.s (right_hit g.work.now g.inner.now g.s g.k c.before.before.before.find_left-p.result (get_or g.work.now (g.from + c.before.before.before.find_left-p.result) 0) g.at g.a (member g.labels) g.j g.c) c.before.find_right-q.result c.before.find_right-q.ensures (c.before.before.before.find_left-p.ensures.hit pin) in
-    omega (arith, c.before.before.before.before.before.before.requires.0.left_low c.before.before.before.find_left-p.result pin, c.before.before.before.before.before.before.requires.0.right_low c.before.find_right-q.result qin)
+    let g = c.args in
+    let pin : c.find_left-p.result < g.s = first_found g.s (left_hit g.work.now g.inner.now g.s g.k g.from g.at g.a (member g.labels) g.j g.c) c.find_left-p.result c.find_left-p.ensures c.requires.1 in
+    let qin : c.find_right-q.result < g.s = first_found g.s (right_hit g.work.now g.inner.now g.s g.k c.find_left-p.result (get_or g.work.now (g.from + c.find_left-p.result) 0) g.at g.a (member g.labels) g.j g.c) c.find_right-q.result c.find_right-q.ensures (c.find_left-p.ensures.hit pin) in
+    omega (arith, c.requires.0.left_low c.find_left-p.result pin, c.requires.0.right_low c.find_right-q.result qin)
 
 find-label-requires : tie.Need-find_label-b-requires
 find-label-requires c κs =
-    let g = c.before.before.before.before.before.before.args in
-    let pin : c.before.before.before.find_left-p.result < g.s = first_found g.s (left_hit g.work.now g.inner.now g.s g.k g.from g.at g.a (member g.labels) g.j g.c) c.before.before.before.find_left-p.result c.before.before.before.find_left-p.ensures c.before.before.before.before.before.before.requires.1 in
-    let qin : c.before.find_right-q.result < g.s = first_found g.s (right_hit g.work.now g.inner.now g.s g.k c.before.before.before.find_left-p.result (get_or g.work.now (g.from + c.before.before.before.find_left-p.result) 0) g.at g.a (member g.labels) g.j g.c) c.before.find_right-q.result c.before.find_right-q.ensures (c.before.before.before.find_left-p.ensures.hit pin) in (
-      row-args g.work.now g.inner.now g.s g.k c.before.before.before.find_left-p.result (get_or g.work.now (g.from + c.before.before.before.find_left-p.result) 0) g.at g.a g.c c.before.find_right-q.result
-          (right-search g.work.now g.inner.now g.s g.k g.from g.at g.c c.before.before.before.find_left-p.result c.before.before.before.before.before.before.requires.0 pin) qin,
-      c.before.before.before.before.before.before.requires.0.under,
-      c.before.before.before.before.before.before.requires.2,
+    let g = c.args in
+    let pin : c.find_left-p.result < g.s = first_found g.s (left_hit g.work.now g.inner.now g.s g.k g.from g.at g.a (member g.labels) g.j g.c) c.find_left-p.result c.find_left-p.ensures c.requires.1 in
+    let qin : c.find_right-q.result < g.s = first_found g.s (right_hit g.work.now g.inner.now g.s g.k c.find_left-p.result (get_or g.work.now (g.from + c.find_left-p.result) 0) g.at g.a (member g.labels) g.j g.c) c.find_right-q.result c.find_right-q.ensures (c.find_left-p.ensures.hit pin) in (
+      row-args g.work.now g.inner.now g.s g.k c.find_left-p.result (get_or g.work.now (g.from + c.find_left-p.result) 0) g.at g.a g.c c.find_right-q.result
+          (right-search g.work.now g.inner.now g.s g.k g.from g.at g.c c.find_left-p.result c.requires.0 pin) qin,
+      c.requires.0.under,
+      c.requires.2,
     )
 
 returns : tie.Need-returns
 returns c =
-    let g = c.before.before.before.before.before.before.before.args in
-    let pin : c.before.before.before.before.find_left-p.result < g.s = first_found g.s (left_hit g.work.now g.inner.now g.s g.k g.from g.at g.a (member g.labels) g.j g.c) c.before.before.before.before.find_left-p.result c.before.before.before.before.find_left-p.ensures c.before.before.before.before.before.before.before.requires.1 in
-    let qin : c.before.before.find_right-q.result < g.s = first_found g.s (right_hit g.work.now g.inner.now g.s g.k c.before.before.before.before.find_left-p.result (get_or g.work.now (g.from + c.before.before.before.before.find_left-p.result) 0) g.at g.a (member g.labels) g.j g.c) c.before.before.find_right-q.result c.before.before.find_right-q.ensures (c.before.before.before.before.find_left-p.ensures.hit pin) in
+    let g = c.args in
+    let pin : c.find_left-p.result < g.s = first_found g.s (left_hit g.work.now g.inner.now g.s g.k g.from g.at g.a (member g.labels) g.j g.c) c.find_left-p.result c.find_left-p.ensures c.requires.1 in
+    let qin : c.find_right-q.result < g.s = first_found g.s (right_hit g.work.now g.inner.now g.s g.k c.find_left-p.result (get_or g.work.now (g.from + c.find_left-p.result) 0) g.at g.a (member g.labels) g.j g.c) c.find_right-q.result c.find_right-q.ensures (c.find_left-p.ensures.hit pin) in
     record {
       left_in = pin;
       right_in = qin;
-      label_in = first_found g.k (label_hit g.inner.now g.s g.k c.before.before.before.before.find_left-p.result c.before.before.find_right-q.result g.a (member g.labels) (get_or g.work.now (g.from + c.before.before.before.before.find_left-p.result) 0 + get_or g.work.now (g.at + c.before.before.find_right-q.result) 0) g.j g.c) c.find_label-b.result c.find_label-b.ensures (c.before.before.find_right-q.ensures.hit qin);
-      left = c.before.before.before.before.find_left-p.ensures;
-      right = c.before.before.find_right-q.ensures;
+      label_in = first_found g.k (label_hit g.inner.now g.s g.k c.find_left-p.result c.find_right-q.result g.a (member g.labels) (get_or g.work.now (g.from + c.find_left-p.result) 0 + get_or g.work.now (g.at + c.find_right-q.result) 0) g.j g.c) c.find_label-b.result c.find_label-b.ensures (c.find_right-q.ensures.hit qin);
+      left = c.find_left-p.ensures;
+      right = c.find_right-q.ensures;
       label = c.find_label-b.ensures;
     }
 

@@ -1,5 +1,5 @@
 -- `find_label` meets its contract, by what the states cost together.
-use Prim.Native.Nat.{ℕ, ◌<◌}
+use Prim.Native.Nat.{ℕ}
 use mathlib.Core.Path.{subst}
 use Rattle.state_sets.specs.StateSets.{member}
 use Rattle.fewest.specs.inner.down.Search.{First, label_hit}
@@ -8,27 +8,23 @@ use native.Mathlib.Omega.{arith}
 use borrow.Author.Rules.{rules}
 use Rattle.fewest.proofs.down.search.find_label.Statement.{statement}
 use Rattle.fewest.proofs.down.search.find_label.Tie as tie
-use Rattle.fewest.proofs.down.search.find_label.Reads as reads
-use Rattle.fewest.proofs.down.search.find_label.Lts as lts
 
 own-label-requires : tie.Need-own_label-requires
 own-label-requires c κs =
-    let t = c.before.before in
-    (t.requires.0, omega (arith, c.if-base-c.true, t.requires.1), t.requires.2)
+    (c.requires.0, omega (arith, c.if-base-c.true, c.requires.1), c.requires.2)
 
 returns : tie.Need-returns-then-base-c
 returns c =
-    let g = c.before.before.before.args in
-    subst (λ (x : ℕ). First g.k (label_hit g.inner.now g.s g.k g.p g.q g.a (member g.labels) g.base g.j x) c.own_label.result) c.before.if-base-c.true c.own_label.ensures
+    let g = c.args in
+    subst (λ (x : ℕ). First g.k (label_hit g.inner.now g.s g.k g.p g.q g.a (member g.labels) g.base g.j x) c.own_label.result) c.if-base-c.true c.own_label.ensures
 
 returns-2 : tie.Need-returns-then-base-c-2
 returns-2 c =
-    let t = c.before.before.before in
-    let g = t.args in
-    cost-none g.inner.now g.s g.k g.p g.q g.a (member g.labels) g.base g.j g.c t.requires.1 c.before.if-base-c.false c.if-base-c-2.true
+    let g = c.args in
+    cost-none g.inner.now g.s g.k g.p g.q g.a (member g.labels) g.base g.j g.c c.requires.1 c.if-base-c.false c.if-base-c-2.true
 
 try-labels-requires : tie.Need-try_labels-requires
-try-labels-requires c κs = c.before.before.before.requires.0
+try-labels-requires c κs = c.requires.0
 
 returns-3 : tie.Need-returns
 returns-3 c = c.try_labels.ensures

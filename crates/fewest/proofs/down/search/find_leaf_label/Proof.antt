@@ -5,21 +5,18 @@ use lib.Dec.{eqb}
 use Rattle.state_sets.specs.StateSets.{member}
 use Rattle.fewest.specs.inner.Rows.{leaf_cost}
 use Rattle.fewest.specs.inner.down.Search.{First}
-use native.Mathlib.Omega.{arith}
 use borrow.Author.Rules.{rules}
 use Rattle.fewest.proofs.down.search.find_leaf_label.Statement.{statement}
 use Rattle.fewest.proofs.down.search.find_leaf_label.Tie as tie
-use Rattle.fewest.proofs.down.search.find_leaf_label.Reads as reads
-use Rattle.fewest.proofs.down.search.find_leaf_label.Lts as lts
 
 returns : tie.Need-returns-then-c-eq0
 returns c =
-    let g = c.before.before.before.args in
+    let g = c.args in
     subst (λ (x : ℕ). First g.k (λ b. eqb (leaf_cost g.leaves.now g.a (member g.labels) g.j b) x) c.own_leaf_label.result)
-    (sym c.before.if-c-eq0.true) c.own_leaf_label.ensures
+    (sym c.if-c-eq0.true) c.own_leaf_label.ensures
 
 try-leaf-labels-requires : tie.Need-try_leaf_labels-requires
-try-leaf-labels-requires c κs = c.before.before.requires.0
+try-leaf-labels-requires c κs = c.requires.0
 
 returns-2 : tie.Need-returns
 returns-2 c = c.try_leaf_labels.ensures

@@ -12,8 +12,6 @@ use native.Mathlib.Omega.{arith}
 use borrow.Author.Rules.{rules}
 use Rattle.fewest.proofs.down.search.find_left.Statement.{statement}
 use Rattle.fewest.proofs.down.search.find_left.Tie as tie
-use Rattle.fewest.proofs.down.search.find_left.Reads as reads
-use Rattle.fewest.proofs.down.search.find_left.Lts as lts
 
 abbrev invariant-loop : tie.invariant-loop-p
 invariant-loop work inner s k from at a labels j c p₀ p =
@@ -24,30 +22,30 @@ decreases-loop work inner s k from at a labels j c p₀ p = s - p
 
 loop-holds : tie.Need-loop-p-init invariant-loop decreases-loop
 loop-holds c =
-    let g = c.before.before.args in
+    let g = c.args in
     (omega arith, first-start (left_hit g.work.now g.inner.now g.s g.k g.from g.at g.a (member g.labels) g.j g.c))
 
 find-right-requires : tie.Need-find_right-requires invariant-loop decreases-loop
 find-right-requires c κs =
-    let g = c.before.before.before.before.before.args in
-    (right-search g.work.now g.inner.now g.s g.k g.from g.at g.c c.before.before.loop-p.p c.before.before.before.before.before.requires.0 c.before.loop-p-test.true, c.before.before.before.before.before.requires.1)
+    let g = c.args in
+    (right-search g.work.now g.inner.now g.s g.k g.from g.at g.c c.loop-p.p c.requires.0 c.loop-p-test.true, c.requires.1)
 
 returns : tie.Need-returns-then-find_right-s invariant-loop decreases-loop
 returns c =
-    let g = c.before.before.before.before.before.before.before.args in
-    let l = c.before.before.before.before.loop-p in
-    first-here g.s (left_hit g.work.now g.inner.now g.s g.k g.from g.at g.a (member g.labels) g.j g.c) l.p c.before.before.before.loop-p-test.true l.invariant.1 (sym (any-first g.s (right_hit g.work.now g.inner.now g.s g.k l.p (get_or g.work.now (g.from + l.p) 0) g.at g.a (member g.labels) g.j g.c) c.before.find_right.result c.before.find_right.ensures) ∙ lt-ltb c.before.find_right.result g.s c.if-find_right-s.true)
+    let g = c.args in
+    let l = c.loop-p in
+    first-here g.s (left_hit g.work.now g.inner.now g.s g.k g.from g.at g.a (member g.labels) g.j g.c) l.p c.loop-p-test.true l.invariant.1 (sym (any-first g.s (right_hit g.work.now g.inner.now g.s g.k l.p (get_or g.work.now (g.from + l.p) 0) g.at g.a (member g.labels) g.j g.c) c.find_right.result c.find_right.ensures) ∙ lt-ltb c.find_right.result g.s c.if-find_right-s.true)
 
 loop-again : tie.Need-loop-p-preserved invariant-loop decreases-loop
 loop-again c =
-    let g = c.before.before.before.before.before.before.before.args in
-    let l = c.before.before.before.before.loop-p in
-    (omega (arith, c.before.before.before.loop-p-test.true), first_next (left_hit g.work.now g.inner.now g.s g.k g.from g.at g.a (member g.labels) g.j g.c) l.p l.invariant.1 (sym (any-first g.s (right_hit g.work.now g.inner.now g.s g.k l.p (get_or g.work.now (g.from + l.p) 0) g.at g.a (member g.labels) g.j g.c) c.before.find_right.result c.before.find_right.ensures) ∙ le-ltb c.before.find_right.result g.s (omega (arith, c.if-find_right-s.false))))
+    let g = c.args in
+    let l = c.loop-p in
+    (omega (arith, c.loop-p-test.true), first_next (left_hit g.work.now g.inner.now g.s g.k g.from g.at g.a (member g.labels) g.j g.c) l.p l.invariant.1 (sym (any-first g.s (right_hit g.work.now g.inner.now g.s g.k l.p (get_or g.work.now (g.from + l.p) 0) g.at g.a (member g.labels) g.j g.c) c.find_right.result c.find_right.ensures) ∙ le-ltb c.find_right.result g.s (omega (arith, c.if-find_right-s.false))))
 
 returns-2 : tie.Need-returns invariant-loop decreases-loop
 returns-2 c =
-    let g = c.before.before.before.before.args in
-    let l = c.before.loop-p in
+    let g = c.args in
+    let l = c.loop-p in
     let e : l.p ≡ g.s = omega (arith, l.invariant.0, c.loop-p-test.false) in
     first-none g.s (left_hit g.work.now g.inner.now g.s g.k g.from g.at g.a (member g.labels) g.j g.c) l.p e l.invariant.1
 

@@ -10,8 +10,6 @@ use native.Mathlib.Omega.{arith}
 use borrow.Author.Rules.{rules}
 use Rattle.fewest.proofs.down.search.find_right.Statement.{statement}
 use Rattle.fewest.proofs.down.search.find_right.Tie as tie
-use Rattle.fewest.proofs.down.search.find_right.Reads as reads
-use Rattle.fewest.proofs.down.search.find_right.Lts as lts
 
 abbrev invariant-loop : tie.invariant-loop-q
 invariant-loop work inner s k p x at a labels j c q₀ q =
@@ -22,34 +20,34 @@ decreases-loop work inner s k p x at a labels j c q₀ q = s - q
 
 loop-holds : tie.Need-loop-q-init invariant-loop decreases-loop
 loop-holds c =
-    let g = c.before.before.args in
+    let g = c.args in
     (omega arith, first-start (right_hit g.work.now g.inner.now g.s g.k g.p g.x g.at g.a (member g.labels) g.j g.c))
 
 add-label-hits-2 : tie.Need-overflow_add-x invariant-loop decreases-loop
 add-label-hits-2 c =
-    omega (arith, c.before.before.before.before.before.requires.0.left_low, c.before.before.before.before.before.requires.0.right_low c.before.before.loop-q.q c.before.loop-q-test.true)
+    omega (arith, c.requires.0.left_low, c.requires.0.right_low c.loop-q.q c.loop-q-test.true)
 
 label-hits-requires : tie.Need-label_hits-requires invariant-loop decreases-loop
 label-hits-requires c κs =
-    let g = c.before.before.before.before.before.args in
-    (row-args g.work.now g.inner.now g.s g.k g.p g.x g.at g.a g.c c.before.before.loop-q.q c.before.before.before.before.before.requires.0 c.before.loop-q-test.true, c.before.before.before.before.before.requires.0.under, c.before.before.before.before.before.requires.1)
+    let g = c.args in
+    (row-args g.work.now g.inner.now g.s g.k g.p g.x g.at g.a g.c c.loop-q.q c.requires.0 c.loop-q-test.true, c.requires.0.under, c.requires.1)
 
 returns : tie.Need-returns-then-label_hits invariant-loop decreases-loop
 returns c =
-    let g = c.before.before.before.before.before.before.before.args in
-    let l = c.before.before.before.before.loop-q in
-    first-here g.s (right_hit g.work.now g.inner.now g.s g.k g.p g.x g.at g.a (member g.labels) g.j g.c) l.q c.before.before.before.loop-q-test.true l.invariant.1 (sym c.before.label_hits.ensures ∙ c.if-label_hits.true)
+    let g = c.args in
+    let l = c.loop-q in
+    first-here g.s (right_hit g.work.now g.inner.now g.s g.k g.p g.x g.at g.a (member g.labels) g.j g.c) l.q c.loop-q-test.true l.invariant.1 (sym c.label_hits.ensures ∙ c.if-label_hits.true)
 
 loop-again : tie.Need-loop-q-preserved invariant-loop decreases-loop
 loop-again c =
-    let g = c.before.before.before.before.before.before.before.args in
-    let l = c.before.before.before.before.loop-q in
-    (omega (arith, c.before.before.before.loop-q-test.true), first_next (right_hit g.work.now g.inner.now g.s g.k g.p g.x g.at g.a (member g.labels) g.j g.c) l.q l.invariant.1 (sym c.before.label_hits.ensures ∙ c.if-label_hits.false))
+    let g = c.args in
+    let l = c.loop-q in
+    (omega (arith, c.loop-q-test.true), first_next (right_hit g.work.now g.inner.now g.s g.k g.p g.x g.at g.a (member g.labels) g.j g.c) l.q l.invariant.1 (sym c.label_hits.ensures ∙ c.if-label_hits.false))
 
 returns-2 : tie.Need-returns invariant-loop decreases-loop
 returns-2 c =
-    let g = c.before.before.before.before.args in
-    let l = c.before.loop-q in
+    let g = c.args in
+    let l = c.loop-q in
     let e : l.q ≡ g.s = omega (arith, l.invariant.0, c.loop-q-test.false) in
     first-none g.s (right_hit g.work.now g.inner.now g.s g.k g.p g.x g.at g.a (member g.labels) g.j g.c) l.q e l.invariant.1
 

@@ -1,18 +1,14 @@
 -- `label_hits` meets its contract.
-use Prim.Native.Nat.{◌-◌}
 use Rattle.state_sets.specs.StateSets.{member}
 use Rattle.fewest.specs.inner.down.Search.{label_hit}
 use Rattle.fewest.proofs.down.AnyLaws.{any-first}
-use native.Mathlib.Omega.{arith}
 use borrow.Author.Rules.{rules}
 use Rattle.fewest.proofs.down.search.label_hits.Statement.{statement}
 use Rattle.fewest.proofs.down.search.label_hits.Tie as tie
-use Rattle.fewest.proofs.down.search.label_hits.Reads as reads
-use Rattle.fewest.proofs.down.search.label_hits.Lts as lts
 
 returns : tie.Need-returns
 returns c =
-    let g = c.before.before.args in
+    let g = c.args in
     any-first g.k (label_hit g.inner.now g.s g.k g.p g.q g.a (member g.labels) g.base g.j g.c) c.find_label.result c.find_label.ensures
 
 pub label_hits_spec : {M : Type 1} → statement M

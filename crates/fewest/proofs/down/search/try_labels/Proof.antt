@@ -11,8 +11,6 @@ use native.Mathlib.Omega.{arith}
 use borrow.Author.Rules.{rules}
 use Rattle.fewest.proofs.down.search.try_labels.Statement.{statement}
 use Rattle.fewest.proofs.down.search.try_labels.Tie as tie
-use Rattle.fewest.proofs.down.search.try_labels.Reads as reads
-use Rattle.fewest.proofs.down.search.try_labels.Lts as lts
 
 abbrev invariant-loop : tie.invariant-loop-b
 invariant-loop inner s k p q a labels base j c b₀ b =
@@ -23,29 +21,29 @@ decreases-loop inner s k p q a labels base j c b₀ b = k - b
 
 loop-holds : tie.Need-loop-b-init invariant-loop decreases-loop
 loop-holds c =
-    let g = c.before.args in
+    let g = c.args in
     (omega arith, first-start (label_hit g.inner.now g.s g.k g.p g.q g.a (member g.labels) g.base g.j g.c))
 
 label-cost-requires : tie.Need-label_cost-requires invariant-loop decreases-loop
 label-cost-requires c κs =
-    (c.before.before.before.requires, c.loop-b-test.true)
+    (c.requires, c.loop-b-test.true)
 
 returns : tie.Need-returns-then-label_cost-c invariant-loop decreases-loop
 returns c =
-    let g = c.before.before.before.before.before.args in
-    let l = c.before.before.before.loop-b in
-    first-here g.k (label_hit g.inner.now g.s g.k g.p g.q g.a (member g.labels) g.base g.j g.c) l.b c.before.before.loop-b-test.true l.invariant.1 (eq-eqb (label_cost g.inner.now g.s g.k g.p g.q g.a (member g.labels) g.base g.j l.b) g.c (sym c.before.label_cost.ensures ∙ c.if-label_cost-c.true))
+    let g = c.args in
+    let l = c.loop-b in
+    first-here g.k (label_hit g.inner.now g.s g.k g.p g.q g.a (member g.labels) g.base g.j g.c) l.b c.loop-b-test.true l.invariant.1 (eq-eqb (label_cost g.inner.now g.s g.k g.p g.q g.a (member g.labels) g.base g.j l.b) g.c (sym c.label_cost.ensures ∙ c.if-label_cost-c.true))
 
 loop-again : tie.Need-loop-b-preserved invariant-loop decreases-loop
 loop-again c =
-    let g = c.before.before.before.before.before.args in
-    let l = c.before.before.before.loop-b in
-    (omega (arith, c.before.before.loop-b-test.true), first_next (label_hit g.inner.now g.s g.k g.p g.q g.a (member g.labels) g.base g.j g.c) l.b l.invariant.1 (ne_eqb (label_cost g.inner.now g.s g.k g.p g.q g.a (member g.labels) g.base g.j l.b) g.c (λ z. c.if-label_cost-c.false (c.before.label_cost.ensures ∙ z))))
+    let g = c.args in
+    let l = c.loop-b in
+    (omega (arith, c.loop-b-test.true), first_next (label_hit g.inner.now g.s g.k g.p g.q g.a (member g.labels) g.base g.j g.c) l.b l.invariant.1 (ne_eqb (label_cost g.inner.now g.s g.k g.p g.q g.a (member g.labels) g.base g.j l.b) g.c (λ z. c.if-label_cost-c.false (c.label_cost.ensures ∙ z))))
 
 returns-2 : tie.Need-returns invariant-loop decreases-loop
 returns-2 c =
-    let g = c.before.before.before.args in
-    let l = c.before.loop-b in
+    let g = c.args in
+    let l = c.loop-b in
     let e : l.b ≡ g.k = omega (arith, l.invariant.0, c.loop-b-test.false) in
     first-none g.k (label_hit g.inner.now g.s g.k g.p g.q g.a (member g.labels) g.base g.j g.c) l.b e l.invariant.1
 

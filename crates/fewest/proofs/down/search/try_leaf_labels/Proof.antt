@@ -11,8 +11,6 @@ use native.Mathlib.Omega.{arith}
 use borrow.Author.Rules.{rules}
 use Rattle.fewest.proofs.down.search.try_leaf_labels.Statement.{statement}
 use Rattle.fewest.proofs.down.search.try_leaf_labels.Tie as tie
-use Rattle.fewest.proofs.down.search.try_leaf_labels.Reads as reads
-use Rattle.fewest.proofs.down.search.try_leaf_labels.Lts as lts
 
 abbrev invariant-loop : tie.invariant-loop-b
 invariant-loop leaves s k a labels j c b₀ b =
@@ -23,29 +21,29 @@ decreases-loop leaves s k a labels j c b₀ b = k - b
 
 loop-holds : tie.Need-loop-b-init invariant-loop decreases-loop
 loop-holds c =
-    let g = c.before.args in
+    let g = c.args in
     (omega arith, first-start (λ b. eqb (leaf_cost g.leaves.now g.a (member g.labels) g.j b) g.c))
 
 leaf-cost-requires : tie.Need-leaf_cost-requires invariant-loop decreases-loop
 leaf-cost-requires c κs =
-    (c.before.before.before.requires, c.loop-b-test.true)
+    (c.requires, c.loop-b-test.true)
 
 returns : tie.Need-returns-then-leaf_cost-c invariant-loop decreases-loop
 returns c =
-    let g = c.before.before.before.before.before.args in
-    let l = c.before.before.before.loop-b in
-    first-here g.k (λ b. eqb (leaf_cost g.leaves.now g.a (member g.labels) g.j b) g.c) l.b c.before.before.loop-b-test.true l.invariant.1 (eq-eqb (leaf_cost g.leaves.now g.a (member g.labels) g.j l.b) g.c (sym c.before.leaf_cost.ensures ∙ c.if-leaf_cost-c.true))
+    let g = c.args in
+    let l = c.loop-b in
+    first-here g.k (λ b. eqb (leaf_cost g.leaves.now g.a (member g.labels) g.j b) g.c) l.b c.loop-b-test.true l.invariant.1 (eq-eqb (leaf_cost g.leaves.now g.a (member g.labels) g.j l.b) g.c (sym c.leaf_cost.ensures ∙ c.if-leaf_cost-c.true))
 
 loop-again : tie.Need-loop-b-preserved invariant-loop decreases-loop
 loop-again c =
-    let g = c.before.before.before.before.before.args in
-    let l = c.before.before.before.loop-b in
-    (omega (arith, c.before.before.loop-b-test.true), first_next (λ b. eqb (leaf_cost g.leaves.now g.a (member g.labels) g.j b) g.c) l.b l.invariant.1 (ne_eqb (leaf_cost g.leaves.now g.a (member g.labels) g.j l.b) g.c (λ z. c.if-leaf_cost-c.false (c.before.leaf_cost.ensures ∙ z))))
+    let g = c.args in
+    let l = c.loop-b in
+    (omega (arith, c.loop-b-test.true), first_next (λ b. eqb (leaf_cost g.leaves.now g.a (member g.labels) g.j b) g.c) l.b l.invariant.1 (ne_eqb (leaf_cost g.leaves.now g.a (member g.labels) g.j l.b) g.c (λ z. c.if-leaf_cost-c.false (c.leaf_cost.ensures ∙ z))))
 
 returns-2 : tie.Need-returns invariant-loop decreases-loop
 returns-2 c =
-    let g = c.before.before.before.args in
-    let l = c.before.loop-b in
+    let g = c.args in
+    let l = c.loop-b in
     let e : l.b ≡ g.k = omega (arith, l.invariant.0, c.loop-b-test.false) in
     first-none g.k (λ b. eqb (leaf_cost g.leaves.now g.a (member g.labels) g.j b) g.c) l.b e l.invariant.1
 

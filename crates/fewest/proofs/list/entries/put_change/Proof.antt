@@ -1,12 +1,9 @@
 -- `put_change` meets its contract.
-use Prim.Native.Nat.{◌-◌}
 use mathlib.Core.Path.{refl}
 use native.Mathlib.Omega.{arith}
 use borrow.Author.Rules.{rules}
 use Rattle.fewest.proofs.list.entries.put_change.Statement.{statement}
 use Rattle.fewest.proofs.list.entries.put_change.Tie as tie
-use Rattle.fewest.proofs.list.entries.put_change.Reads as reads
-use Rattle.fewest.proofs.list.entries.put_change.Lts as lts
 
 returns : tie.Need-returns-then-a-b
 returns c =
@@ -14,19 +11,19 @@ returns c =
 
 mul-nodes : tie.Need-offset_bounds-nodes-c
 mul-nodes c =
-    omega (arith, c.before.requires.nodes_room c.if-a-b.false)
+    omega (arith, c.requires.nodes_room c.if-a-b.false)
 
 slice-write-nodes : tie.Need-bounds-nodes-c
 slice-write-nodes c =
-    omega (arith, c.before.requires.nodes_room c.if-a-b.false)
+    omega (arith, c.requires.nodes_room c.if-a-b.false)
 
 slice-write-out : tie.Need-bounds-out-c
 slice-write-out c =
-    omega (arith, c.before.requires.labels_room c.if-a-b.false)
+    omega (arith, c.requires.labels_room c.if-a-b.false)
 
 add-result : tie.Need-overflow_add-result
 add-result c =
-    omega (arith, c.before.requires.nodes_room c.if-a-b.false)
+    omega (arith, c.requires.nodes_room c.if-a-b.false)
 
 returns-2 : tie.Need-returns
 returns-2 c =

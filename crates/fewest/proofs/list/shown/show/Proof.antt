@@ -8,44 +8,42 @@ use native.Mathlib.Omega.{arith}
 use borrow.Author.Rules.{rules}
 use Rattle.fewest.proofs.list.shown.show.Statement.{statement}
 use Rattle.fewest.proofs.list.shown.show.Tie as tie
-use Rattle.fewest.proofs.list.shown.show.Reads as reads
-use Rattle.fewest.proofs.list.shown.show.Lts as lts
 
 sub-tell-root : tie.Need-overflow_sub-kinds
 sub-tell-root c =
-    let g = c.before.before.before.before.before.before.before.before.before.before.args in
-    let p = c.before.before.before.before.before.before.before.before.before.before.requires.given.up in
+    let g = c.args in
+    let p = c.requires.given.up in
     let z = some_node g.kinds.now p.runs.postorder in
     omega (arith, z)
 
 tell-root-requires : tie.Need-tell_root-requires
 tell-root-requires c κs =
-    let g = c.before.before.before.before.before.before.before.before.before.before.args in
-    let p = c.before.before.before.before.before.before.before.before.before.before.requires.given.up in
+    let g = c.args in
+    let p = c.requires.given.up in
     let z = some_node g.kinds.now p.runs.postorder in
-    record { few = p.runs.few; marks = c.before.before.before.before.before.before.before.before.before.before.requires.given.marks; room = omega (arith, stride (g.s + 1) (length g.kinds.now - 1) (length g.kinds.now) (omega (arith, z)), p.room) }
+    record { few = p.runs.few; marks = c.requires.given.marks; room = omega (arith, stride (g.s + 1) (length g.kinds.now - 1) (length g.kinds.now) (omega (arith, z)), p.room) }
 
 labels-down-requires : tie.Need-labels_down-requires
 labels-down-requires c κs =
-    let g = c.before.before.before.before.before.before.before.before.before.before.before.before.before.before.args in
-    down-given g.kinds.now g.labels.now g.leaves.now g.inner.now g.marks.now g.may.now g.s g.k g.mark g.m g.work.now (length g.nodes.now) (length g.out.now) c.before.before.before.before.before.before.before.before.before.before.before.before.before.before.requires c.before.before.before.tell_root.new.work c.before.before.before.tell_root.ensures (omega arith)
+    let g = c.args in
+    down-given g.kinds.now g.labels.now g.leaves.now g.inner.now g.marks.now g.may.now g.s g.k g.mark g.m g.work.now (length g.nodes.now) (length g.out.now) c.requires c.tell_root.new.work c.tell_root.ensures (omega arith)
 
 list-changes-requires : tie.Need-list_changes-requires
 list-changes-requires c κs =
-    let g = c.before.before.before.before.before.before.before.before.before.before.before.before.before.before.before.before.before.before.before.before.args in
-    show-list-args g.kinds.now g.labels.now g.leaves.now g.inner.now g.marks.now g.may.now g.s g.k g.mark g.m g.work.now (length g.nodes.now) (length g.out.now) c.before.before.before.before.before.before.before.before.before.before.before.before.before.before.before.before.before.before.before.before.requires c.before.before.before.before.before.before.before.before.before.tell_root.new.work c.before.before.before.before.before.before.before.before.before.tell_root.ensures (omega arith) c.before.before.before.before.before.labels_down.new.work c.before.before.before.before.before.labels_down.ensures (omega arith)
+    let g = c.args in
+    show-list-args g.kinds.now g.labels.now g.leaves.now g.inner.now g.marks.now g.may.now g.s g.k g.mark g.m g.work.now (length g.nodes.now) (length g.out.now) c.requires c.tell_root.new.work c.tell_root.ensures (omega arith) c.labels_down.new.work c.labels_down.ensures (omega arith)
 
 cast-result : tie.Need-overflow_cast-result
 cast-result c =
-    let g = c.before.before.before.before.before.before.before.before.before.before.before.before.before.before.before.before.before.before.before.before.before.before.before.before.before.args in
-    let L = show-few g.kinds.now g.labels.now g.leaves.now g.inner.now g.marks.now g.may.now g.s g.k g.mark g.m g.work.now (length g.nodes.now) (length g.out.now) c.before.before.before.before.before.before.before.before.before.before.before.before.before.before.before.before.before.before.before.before.before.before.before.before.before.requires c.before.before.before.before.before.before.before.before.before.before.before.before.before.before.tell_root.new.work c.before.before.before.before.before.before.before.before.before.before.before.before.before.before.tell_root.ensures (omega arith) c.before.before.before.before.before.before.before.before.before.before.labels_down.new.work c.before.before.before.before.before.before.before.before.before.before.labels_down.ensures (omega arith) in
-    omega (arith, c.before.before.before.before.list_changes.ensures.count, L)
+    let g = c.args in
+    let L = show-few g.kinds.now g.labels.now g.leaves.now g.inner.now g.marks.now g.may.now g.s g.k g.mark g.m g.work.now (length g.nodes.now) (length g.out.now) c.requires c.tell_root.new.work c.tell_root.ensures (omega arith) c.labels_down.new.work c.labels_down.ensures (omega arith) in
+    omega (arith, c.list_changes.ensures.count, L)
 
 returns : tie.Need-returns
 returns c =
-    let g = c.before.before.before.before.before.before.before.before.before.before.before.before.before.before.before.before.before.before.before.before.before.before.before.before.before.args in
-    show-done g.kinds.now g.labels.now g.leaves.now g.inner.now g.marks.now g.may.now g.s g.k g.mark g.m g.work.now (length g.nodes.now) (length g.out.now) c.before.before.before.before.before.before.before.before.before.before.before.before.before.before.before.before.before.before.before.before.before.before.before.before.before.requires c.before.before.before.before.before.before.before.before.before.before.before.before.before.before.tell_root.new.work c.before.before.before.before.before.before.before.before.before.before.before.before.before.before.tell_root.ensures (omega arith) c.before.before.before.before.before.before.before.before.before.before.labels_down.new.work c.before.before.before.before.before.before.before.before.before.before.labels_down.ensures (omega arith) g.nodes.now g.out.now c.before.before.before.before.list_changes.result
-    c.before.before.before.before.list_changes.new.nodes c.before.before.before.before.list_changes.new.out c.before.before.before.before.list_changes.ensures
+    let g = c.args in
+    show-done g.kinds.now g.labels.now g.leaves.now g.inner.now g.marks.now g.may.now g.s g.k g.mark g.m g.work.now (length g.nodes.now) (length g.out.now) c.requires c.tell_root.new.work c.tell_root.ensures (omega arith) c.labels_down.new.work c.labels_down.ensures (omega arith) g.nodes.now g.out.now c.list_changes.result
+    c.list_changes.new.nodes c.list_changes.new.out c.list_changes.ensures
 
 pub show_spec : {M : Type 1} → statement M
 show_spec =

@@ -1,21 +1,18 @@
 -- `tell_root` meets its contract.
-use Prim.Native.Nat.{◌-◌}
 use mathlib.Core.Path.{refl}
 use native.Mathlib.Omega.{arith}
 use borrow.Author.Rules.{rules}
 use Rattle.fewest.proofs.list.shown.tell_root.Statement.{statement}
 use Rattle.fewest.proofs.list.shown.tell_root.Tie as tie
-use Rattle.fewest.proofs.list.shown.tell_root.Reads as reads
-use Rattle.fewest.proofs.list.shown.tell_root.Lts as lts
 
 root-state-requires : tie.Need-root_state-g-requires
 root-state-requires c κs =
-    let p = c.before.before.before.requires in
+    let p = c.requires in
     record { few = p.few; room = omega (arith, p.room); marks = p.marks }
 
 cast-work : tie.Need-overflow_cast-work
 cast-work c =
-    omega (arith, c.root_state-g.ensures.most, c.before.before.before.before.requires.few)
+    omega (arith, c.root_state-g.ensures.most, c.requires.few)
 
 returns : tie.Need-returns
 returns c =

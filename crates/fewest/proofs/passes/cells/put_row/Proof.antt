@@ -6,8 +6,6 @@ use native.Mathlib.Omega.{arith}
 use borrow.Author.Rules.{rules}
 use Rattle.fewest.proofs.passes.cells.put_row.Statement.{statement}
 use Rattle.fewest.proofs.passes.cells.put_row.Tie as tie
-use Rattle.fewest.proofs.passes.cells.put_row.Reads as reads
-use Rattle.fewest.proofs.passes.cells.put_row.Lts as lts
 
 abbrev invariant-loop : tie.invariant-loop-j
 invariant-loop work₀ s v z row at j₀ work j = (j ≤ s) × RowPart at j row work₀ work
@@ -22,20 +20,20 @@ loop-holds c =
 
 loop-again : tie.Need-loop-j-preserved invariant-loop decreases-loop
 loop-again c =
-    let g = c.before.before.before.args in
-    let l = c.before.before.loop-j in (
-      omega (arith, c.before.loop-j-test.true),
+    let g = c.args in
+    let l = c.loop-j in (
+      omega (arith, c.loop-j-test.true),
       part-next (g.v * (g.s + 1)) l.j g.row.now g.work.now l.work l.invariant.1
-          (omega (arith, c.before.before.before.requires.room, c.before.loop-j-test.true)),
+          (omega (arith, c.requires.room, c.loop-j-test.true)),
     )
 
 returns : tie.Need-returns invariant-loop decreases-loop
 returns c =
-    let g = c.before.before.args in
-    let l = c.before.loop-j in
+    let g = c.args in
+    let l = c.loop-j in
     let e : l.j ≡ g.s = omega (arith, l.invariant.0, c.loop-j-test.false) in
     part-done g.s g.v g.z g.row.now g.work.now l.work
-    (subst (λ (i : ℕ). RowPart (g.v * (g.s + 1)) i g.row.now g.work.now l.work) e l.invariant.1) c.before.before.requires.room
+    (subst (λ (i : ℕ). RowPart (g.v * (g.s + 1)) i g.row.now g.work.now l.work) e l.invariant.1) c.requires.room
 
 pub put_row_spec : {M : Type 1} → statement M
 put_row_spec =

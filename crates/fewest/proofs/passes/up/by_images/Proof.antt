@@ -2,11 +2,8 @@
 use mathlib.Core.Path.{sym}
 use Rattle.list_laws.proofs.BoolLaws.{true-false}
 use native.Mathlib.Omega.{arith}
-use borrow.Author.Rules.{rules}
 use Rattle.fewest.proofs.passes.up.by_images.Statement.{statement}
 use Rattle.fewest.proofs.passes.up.by_images.Tie as tie
-use Rattle.fewest.proofs.passes.up.by_images.Reads as reads
-use Rattle.fewest.proofs.passes.up.by_images.Lts as lts
 
 returns : tie.Need-returns-then-sets-gt0
 returns c = λ e. absurd (true-false (sym e))

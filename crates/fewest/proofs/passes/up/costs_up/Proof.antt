@@ -1,5 +1,4 @@
 -- `costs_up` meets its contract: a leaf's row for every label, then images where they save time, then the pass.
-use Prim.Native.Nat.{ℕ, ◌+◌, ◌-◌, ◌*◌, ◌≤◌, ◌<◌, min}
 use mathlib.Core.Path.{sym}
 use native.Mathlib.Nat.{mul-le-mul_right}
 use lib.Seq.{length-take-le}
@@ -11,52 +10,47 @@ use native.Mathlib.Omega.{arith}
 use borrow.Author.Rules.{rules}
 use Rattle.fewest.proofs.passes.up.costs_up.Statement.{statement}
 use Rattle.fewest.proofs.passes.up.costs_up.Tie as tie
-use Rattle.fewest.proofs.passes.up.costs_up.Reads as reads
-use Rattle.fewest.proofs.passes.up.costs_up.Lts as lts
 
 relax-leaf-requires : tie.Need-relax_leaf-requires
 relax-leaf-requires c κs =
-    let t = c.before.before.before.before.before.before.before in
-    let p = t.requires.runs in (
+    let p = c.requires.runs in (
       record { few = p.few; labels = p.labels; count = p.leaf_count; below = p.leaf_below },
       omega (arith, p.below 0),
-      far-row t.args.s p.few,
+      far-row c.args.s p.few,
     )
 
 some-images-requires : tie.Need-some_images-m-requires
 some-images-requires c κs =
-    let t = c.before.before.before.before.before.before.before.before.before.before in
-    let p = t.requires.runs in
+    let p = c.requires.runs in
     record {
       some = p.some;
       few = p.few;
       labels = p.labels;
       inner_count = p.inner_count;
       inner_below = p.inner_below;
-      room = omega (arith, mul-le-mul_right t.args.s p.few, p.few);
+      room = omega (arith, mul-le-mul_right c.args.s p.few, p.few);
     }
 
 slice-aggregate-pass-up : tie.Need-slice_bounds-pass_up-end
 slice-aggregate-pass-up c =
-    let y = c.before.before.some_images-m in
-    sym (length-take-le y.result y.new.0 y.ensures.0)
+    let y = c.some_images-m in
+    sym (length-take-le y.result y.new.images y.ensures.0)
 
 pass-up-requires : tie.Need-pass_up-requires
 pass-up-requires c κs =
-    let t = c.before.before.before.before.before.before.before.before.before.before.before.before.before.before.before in
-    let g = t.args in
-    let x = c.before.before.before.before.before.before.before.relax_leaf in
-    let y = c.before.before.before.before.some_images-m in (
-      t.requires,
+    let g = c.args in
+    let x = c.relax_leaf in
+    let y = c.some_images-m in (
+      c.requires,
       record {
-        own = t.requires.runs.below;
-        imaged = prefix-images g.inner.now g.s g.k y.result y.new.0 y.ensures.1;
+        own = c.requires.runs.below;
+        imaged = prefix-images g.inner.now g.s g.k y.result y.new.images y.ensures.1;
       },
-      others-row g.leaves.now g.s g.k (member every_label) x.new.0 t.requires.runs.few x.ensures,
+      others-row g.leaves.now g.s g.k (member every_label) x.new.row c.requires.runs.few x.ensures,
     )
 
 returns : tie.Need-returns
-returns c = c.before.before.pass_up.ensures
+returns c = c.pass_up.ensures
 
 pub costs_up_spec : {M : Type 1} → statement M
 costs_up_spec =

@@ -5,27 +5,23 @@ use native.Mathlib.Omega.{arith}
 use borrow.Author.Rules.{rules}
 use Rattle.fewest.proofs.passes.up.leaf_turn.Statement.{statement}
 use Rattle.fewest.proofs.passes.up.leaf_turn.Tie as tie
-use Rattle.fewest.proofs.passes.up.leaf_turn.Reads as reads
-use Rattle.fewest.proofs.passes.up.leaf_turn.Lts as lts
 
 relax-leaf-requires : tie.Need-relax_leaf-requires
 relax-leaf-requires c κs =
-    let t = c.before.before.before in
-    let p = t.requires.0 in (
+    let p = c.requires.0 in (
       record { few = p.few; labels = p.labels; count = p.leaf_count; below = p.leaf_below },
-      omega (arith, t.requires.1),
-      far-row t.args.s p.few,
+      omega (arith, c.requires.1),
+      far-row c.args.s p.few,
     )
 
 put-leaf-requires : tie.Need-put_leaf-requires
 put-leaf-requires c κs =
-    let t = c.before.before.before.before.before.before.before in
-    let g = t.args in
-    let x = c.before.before.before.relax_leaf in
-    (t.requires.0, t.requires.1, others-row g.leaves.now g.s g.k (member g.labels) x.new.0 t.requires.0.few x.ensures)
+    let g = c.args in
+    let x = c.relax_leaf in
+    (c.requires.0, c.requires.1, others-row g.leaves.now g.s g.k (member g.labels) x.new.row c.requires.0.few x.ensures)
 
 returns : tie.Need-returns
-returns c = c.before.before.put_leaf.ensures
+returns c = c.put_leaf.ensures
 
 pub leaf_turn_spec : {M : Type 1} → statement M
 leaf_turn_spec =

@@ -8,9 +8,6 @@ use native.Mathlib.Omega.{arith}
 use borrow.Author.Rules.{rules}
 use Rattle.fewest.proofs.passes.up.pass_up.Statement.{statement}
 use Rattle.fewest.proofs.passes.up.pass_up.Tie as tie
-use Rattle.fewest.proofs.passes.up.pass_up.Reads as reads
-use Rattle.fewest.proofs.passes.up.pass_up.Lts as lts
-use Rattle.fewest.proofs.passes.up.node_turn.Reads as node-turn-reads
 
 abbrev invariant-loop : tie.invariant-loop-v
 invariant-loop kinds labels leaves inner may images free s k work₀ n v₀ work v =
@@ -21,33 +18,33 @@ decreases-loop kinds labels leaves inner may images free s k work₀ n v₀ work
 
 loop-holds : tie.Need-loop-v-init invariant-loop decreases-loop
 loop-holds c =
-    let g = c.before.before.before.before.before.before.before.before.args in
+    let g = c.args in
     (omega arith, refl, up_start g.kinds.now g.labels.now g.leaves.now g.inner.now g.may.now g.s g.k g.work.now)
 
 node-turn-requires : tie.Need-node_turn-requires invariant-loop decreases-loop
 node-turn-requires c κs =
-    let g = c.before.before.before.before.before.before.before.before.before.before.before.args in
-    let l = c.before.before.loop-v in (
-      turn-args g.kinds.now g.labels.now g.leaves.now g.inner.now g.may.now g.s g.k c.before.before.before.before.before.before.before.before.before.before.before.requires.0.runs l.v
-          g.work.now l.work c.before.loop-v-test.true l.invariant.2 c.before.before.before.before.before.before.before.before.before.before.before.requires.0.stocks (omega (arith, c.before.before.before.before.before.before.before.before.before.before.before.requires.0.room, l.invariant.1)),
-      c.before.before.before.before.before.before.before.before.before.before.before.requires.1,
-      c.before.before.before.before.before.before.before.before.before.before.before.requires.2,
+    let g = c.args in
+    let l = c.loop-v in (
+      turn-args g.kinds.now g.labels.now g.leaves.now g.inner.now g.may.now g.s g.k c.requires.0.runs l.v
+          g.work.now l.work c.loop-v-test.true l.invariant.2 c.requires.0.stocks (omega (arith, c.requires.0.room, l.invariant.1)),
+      c.requires.1,
+      c.requires.2,
     )
 
 loop-again : tie.Need-loop-v-preserved invariant-loop decreases-loop
 loop-again c =
-    let g = c.before.before.before.before.before.before.before.before.before.before.before.before.before.before.args in
-    let l = c.before.before.before.before.before.loop-v in (
-      omega (arith, c.before.before.before.before.loop-v-test.true),
-      c.before.before.node_turn.ensures.long ∙ l.invariant.1,
-      up_next g.kinds.now g.labels.now g.leaves.now g.inner.now g.may.now g.s g.k c.before.before.before.before.before.before.before.before.before.before.before.before.before.before.requires.0.runs l.v
-          g.work.now l.work c.before.before.before.before.loop-v-test.true l.invariant.2 c.before.before.node_turn.new.work c.before.before.node_turn.ensures,
+    let g = c.args in
+    let l = c.loop-v in (
+      omega (arith, c.loop-v-test.true),
+      c.node_turn.ensures.long ∙ l.invariant.1,
+      up_next g.kinds.now g.labels.now g.leaves.now g.inner.now g.may.now g.s g.k c.requires.0.runs l.v
+          g.work.now l.work c.loop-v-test.true l.invariant.2 c.node_turn.new.work c.node_turn.ensures,
     )
 
 returns : tie.Need-returns invariant-loop decreases-loop
 returns c =
-    let g = c.before.before.before.before.before.before.before.before.before.before.args in
-    let l = c.before.loop-v in
+    let g = c.args in
+    let l = c.loop-v in
     let e : l.v ≡ length g.kinds.now = omega (arith, l.invariant.0, c.loop-v-test.false) in
     subst (λ (i : ℕ). Up g.kinds.now g.labels.now g.leaves.now g.inner.now g.may.now g.s g.k i g.work.now
     l.work) e l.invariant.2

@@ -4,11 +4,9 @@ use native.Mathlib.Omega.{arith}
 use borrow.Author.Rules.{rules}
 use Rattle.fewest.proofs.passes.up.some_images.Statement.{statement}
 use Rattle.fewest.proofs.passes.up.some_images.Tie as tie
-use Rattle.fewest.proofs.passes.up.some_images.Reads as reads
-use Rattle.fewest.proofs.passes.up.some_images.Lts as lts
 
 returns : tie.Need-returns-then-by_images
-returns c = (omega arith, λ e. (c.before.before.before.before.before.by_images.ensures c.before.before.before.before.if-by_images.true, refl, c.before.before.fill_images.ensures))
+returns c = (omega arith, λ e. (c.by_images.ensures c.if-by_images.true, refl, c.fill_images.ensures))
 
 returns-2 : tie.Need-returns
 returns-2 c = (omega arith, λ e. absurd (e refl))

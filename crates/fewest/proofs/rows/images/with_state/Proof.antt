@@ -1,11 +1,8 @@
 -- `with_state` meets its contract.
 use Rattle.fewest.proofs.rows.ImageLaws.{member-with}
-use native.Mathlib.Omega.{arith}
 use borrow.Author.Rules.{rules}
 use Rattle.fewest.proofs.rows.images.with_state.Statement.{statement}
 use Rattle.fewest.proofs.rows.images.with_state.Tie as tie
-use Rattle.fewest.proofs.rows.images.with_state.Reads as reads
-use Rattle.fewest.proofs.rows.images.with_state.Lts as lts
 
 returns : tie.Need-returns
 returns c = member-with c.args.states c.args.j c.requires

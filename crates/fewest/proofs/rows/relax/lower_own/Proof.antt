@@ -1,6 +1,5 @@
 -- `lower_own` meets its contract.
-use Prim.Native.Nat.{ℕ, ◌+◌, ◌-◌, ◌*◌, ◌≤◌, ◌<◌, min}
-use mathlib.Core.Path.{◌≡◌, refl, sym, ◌∙◌, subst}
+use Prim.Native.Nat.{◌+◌, ◌*◌}
 use mathlib.Core.Bool.{true}
 use lib.ListN.{get_or}
 use Rattle.fewest.proofs.rows.OtherLaws.{own-lowered}
@@ -9,28 +8,26 @@ use native.Mathlib.Omega.{arith}
 use borrow.Author.Rules.{rules}
 use Rattle.fewest.proofs.rows.relax.lower_own.Statement.{statement}
 use Rattle.fewest.proofs.rows.relax.lower_own.Tie as tie
-use Rattle.fewest.proofs.rows.relax.lower_own.Reads as reads
-use Rattle.fewest.proofs.rows.relax.lower_own.Lts as lts
 
 rule-requires : tie.Need-rule-to-requires
 rule-requires c κs =
-    let g = c.before.before.args in
-    rule-args g.inner.now g.s g.k g.p g.q g.a g.base (λ b. true) c.before.before.requires.0 g.a c.before.before.requires.1
+    let g = c.args in
+    rule-args g.inner.now g.s g.k g.p g.q g.a g.base (λ b. true) c.requires.0 g.a c.requires.1
 
 cast-to : tie.Need-overflow_cast-to
-cast-to c = let g = c.before.before.before.args in omega (arith, c.rule-to.ensures, c.before.before.before.requires.0.few, c.before.before.before.requires.0.inner_below ((g.p * g.k + g.a) * g.s + g.q))
+cast-to c = let g = c.args in omega (arith, c.rule-to.ensures, c.requires.0.few, c.requires.0.inner_below ((g.p * g.k + g.a) * g.s + g.q))
 
 slice-read-y : tie.Need-bounds-row-to
-slice-read-y c = let g = c.before.before.before.before.args in omega (arith, c.before.rule-to.ensures, c.before.before.before.before.requires.0.inner_below ((g.p * g.k + g.a) * g.s + g.q), c.before.before.before.before.requires.2.wide)
+slice-read-y c = let g = c.args in omega (arith, c.rule-to.ensures, c.requires.0.inner_below ((g.p * g.k + g.a) * g.s + g.q), c.requires.2.wide)
 
 slice-write-row : tie.Need-bounds-row-to-2
-slice-write-row c = let g = c.before.before.before.before.before.args in omega (arith, c.before.before.rule-to.ensures, c.before.before.before.before.before.requires.0.inner_below ((g.p * g.k + g.a) * g.s + g.q), c.before.before.before.before.before.requires.2.wide)
+slice-write-row c = let g = c.args in omega (arith, c.rule-to.ensures, c.requires.0.inner_below ((g.p * g.k + g.a) * g.s + g.q), c.requires.2.wide)
 
 returns : tie.Need-returns
 returns c =
-    let g = c.before.before.before.before.before.args in
-    own-lowered g.s c.before.before.rule-to.result (get_or g.inner.now ((g.p * g.k + g.a) * g.s + g.q) 0) g.base c.lesser-x.result g.row.now
-    c.before.before.rule-to.ensures (c.before.before.before.before.before.requires.0.inner_below ((g.p * g.k + g.a) * g.s + g.q)) c.before.before.before.before.before.requires.2 c.lesser-x.ensures
+    let g = c.args in
+    own-lowered g.s c.rule-to.result (get_or g.inner.now ((g.p * g.k + g.a) * g.s + g.q) 0) g.base c.lesser-x.result g.row.now
+    c.rule-to.ensures (c.requires.0.inner_below ((g.p * g.k + g.a) * g.s + g.q)) c.requires.2 c.lesser-x.ensures
 
 pub lower_own_spec : {M : Type 1} → statement M
 lower_own_spec =

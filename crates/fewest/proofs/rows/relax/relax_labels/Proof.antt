@@ -1,6 +1,5 @@
 -- `relax_labels` meets its contract: by the labels of the set, then by the node's own.
-use Prim.Native.Nat.{ℕ, ◌+◌, ◌*◌, ◌<◌}
-use mathlib.Core.Bool.{true}
+use Prim.Native.Nat.{◌+◌, ◌*◌}
 use lib.ListN.{get_or}
 use Rattle.state_sets.specs.StateSets.{member}
 use Rattle.fewest.specs.inner.Rows.{others_cost}
@@ -10,16 +9,13 @@ use native.Mathlib.Omega.{arith}
 use borrow.Author.Rules.{rules}
 use Rattle.fewest.proofs.rows.relax.relax_labels.Statement.{statement}
 use Rattle.fewest.proofs.rows.relax.relax_labels.Tie as tie
-use Rattle.fewest.proofs.rows.relax.relax_labels.Reads as reads
-use Rattle.fewest.proofs.rows.relax.relax_labels.Lts as lts
 
 add-relax-others : tie.Need-overflow_add-base
-add-relax-others c = omega (arith, c.before.before.before.requires.1)
+add-relax-others c = omega (arith, c.requires.1)
 
 relax-others-requires : tie.Need-relax_others-requires
 relax-others-requires c κs =
-    let t = c.before.before.before in
-    let r = t.requires.0 in (
+    let r = c.requires.0 in (
       record {
         few = r.few;
         labels = r.labels;
@@ -29,27 +25,24 @@ relax-others-requires c κs =
         inner_below = r.inner_below;
         small = omega arith;
       },
-      omega (arith, t.requires.2),
-      t.requires.3,
+      omega (arith, c.requires.2),
+      c.requires.3,
     )
 
 lower-own-requires : tie.Need-lower_own-requires
 lower-own-requires c κs =
-    let t = c.before.before.before.before.before.before.before in
-    let g = t.args in (
-      t.requires.0,
-      t.requires.2,
+    let g = c.args in (
+      c.requires.0,
+      c.requires.2,
       row_kept g.s (others_cost (λ b. get_or g.inner.now ((g.p * g.k + b) * g.s + g.q) 0) g.k (member g.labels) (g.base + 1))
-          g.row.now c.before.before.before.relax_others.new.row t.requires.3 c.before.before.before.relax_others.ensures,
+          g.row.now c.relax_others.new.row c.requires.3 c.relax_others.ensures,
     )
 
 returns : tie.Need-returns
 returns c =
-    let t = c.before.before.before.before.before.before.before.before.before.before in
-    let g = t.args in
-    let x = c.before.before.before.before.before.before.relax_others in
-    labels-relaxed g.inner.now g.s g.k g.p g.q g.a (member g.labels) g.base t.requires.2 t.requires.1
-    g.row.now x.new.0 c.before.before.lower_own.new.row x.ensures c.before.before.lower_own.ensures
+    let g = c.args in
+    labels-relaxed g.inner.now g.s g.k g.p g.q g.a (member g.labels) g.base c.requires.2 c.requires.1
+    g.row.now c.relax_others.new.row c.lower_own.new.row c.relax_others.ensures c.lower_own.ensures
 
 pub relax_labels_spec : {M : Type 1} → statement M
 relax_labels_spec =

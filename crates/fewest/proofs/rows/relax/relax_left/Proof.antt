@@ -10,9 +10,6 @@ use native.Mathlib.Omega.{arith}
 use borrow.Author.Rules.{rules}
 use Rattle.fewest.proofs.rows.relax.relax_left.Statement.{statement}
 use Rattle.fewest.proofs.rows.relax.relax_left.Tie as tie
-use Rattle.fewest.proofs.rows.relax.relax_left.Reads as reads
-use Rattle.fewest.proofs.rows.relax.relax_left.Lts as lts
-use Rattle.fewest.proofs.rows.relax.relax_right.Reads as relax-right-reads
 
 abbrev invariant-loop : tie.invariant-loop-p
 invariant-loop row₀ inner images s k left right a labels p₀ row p =
@@ -24,41 +21,37 @@ decreases-loop row₀ inner images s k left right a labels p₀ row p = s - p
 
 loop-holds : tie.Need-loop-p-init invariant-loop decreases-loop
 loop-holds c =
-    let t = c.before.before.before.before.before in
-    let g = t.args in
-    (omega arith, step_start g.s (λ p j. right_cost g.inner.now g.s g.k p g.a (member g.labels) (get_or g.left.now p 0) g.right.now j) g.row.now t.requires.1)
+    let g = c.args in
+    (omega arith, step_start g.s (λ p j. right_cost g.inner.now g.s g.k p g.a (member g.labels) (get_or g.left.now p 0) g.right.now j) g.row.now c.requires.1)
 
 shared-slice-read-relax-right : tie.Need-bounds-left-p invariant-loop decreases-loop
 shared-slice-read-relax-right c =
-    omega (arith, c.before.before.loop-p-test.true, c.before.before.before.before.before.before.before.before.before.requires.0.left.wide)
+    omega (arith, c.loop-p-test.true, c.requires.0.left.wide)
 
 relax-right-requires : tie.Need-relax_right-requires invariant-loop decreases-loop
 relax-right-requires c κs =
-    let t = c.before.before.before.before.before.before.before.before.before in
-    let g = t.args in
-    let l = c.before.before.before.loop-p in (
-      right-args g.inner.now g.s g.k g.a g.left.now g.right.now t.requires.0 l.p c.before.before.loop-p-test.true,
-      row_kept g.s (λ j. least_to no_way_out l.p (λ p. right_cost g.inner.now g.s g.k p g.a (member g.labels) (get_or g.left.now p 0) g.right.now j)) g.row.now l.row t.requires.1 l.invariant.1,
-      t.requires.2,
+    let g = c.args in
+    let l = c.loop-p in (
+      right-args g.inner.now g.s g.k g.a g.left.now g.right.now c.requires.0 l.p c.loop-p-test.true,
+      row_kept g.s (λ j. least_to no_way_out l.p (λ p. right_cost g.inner.now g.s g.k p g.a (member g.labels) (get_or g.left.now p 0) g.right.now j)) g.row.now l.row c.requires.1 l.invariant.1,
+      c.requires.2,
     )
 
 loop-again : tie.Need-loop-p-preserved invariant-loop decreases-loop
 loop-again c =
-    let t = c.before.before.before.before.before.before.before.before.before.before.before.before in
-    let g = t.args in
-    let l = c.before.before.before.before.before.before.loop-p in (
-      omega (arith, c.before.before.before.before.before.loop-p-test.true),
-      step-next g.s (λ p j. right_cost g.inner.now g.s g.k p g.a (member g.labels) (get_or g.left.now p 0) g.right.now j) l.p g.row.now l.row c.before.before.relax_right.new.row l.invariant.1 c.before.before.relax_right.ensures,
+    let g = c.args in
+    let l = c.loop-p in (
+      omega (arith, c.loop-p-test.true),
+      step-next g.s (λ p j. right_cost g.inner.now g.s g.k p g.a (member g.labels) (get_or g.left.now p 0) g.right.now j) l.p g.row.now l.row c.relax_right.new.row l.invariant.1 c.relax_right.ensures,
     )
 
 same_length : tie.Need-shape_of-row invariant-loop decreases-loop
-same_length c = omega (arith, c.before.loop-p.invariant.1.wide)
+same_length c = omega (arith, c.loop-p.invariant.1.wide)
 
 returns : tie.Need-returns invariant-loop decreases-loop
 returns c =
-    let t = c.before.before.before.before.before.before.before in
-    let g = t.args in
-    let l = c.before.loop-p in
+    let g = c.args in
+    let l = c.loop-p in
     let e : l.p ≡ g.s = omega (arith, l.invariant.0, c.loop-p-test.false) in
     subst (λ (i : ℕ). Relaxed g.s (λ j. least_to no_way_out i (λ p. right_cost g.inner.now g.s g.k p g.a (member g.labels) (get_or g.left.now p 0) g.right.now j)) g.row.now l.row) e l.invariant.1
 

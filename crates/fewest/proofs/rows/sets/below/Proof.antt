@@ -1,11 +1,8 @@
 -- `below` meets its contract.
 use Rattle.fewest.proofs.rows.SetLaws.{below-is}
-use native.Mathlib.Omega.{arith}
 use borrow.Author.Rules.{rules}
 use Rattle.fewest.proofs.rows.sets.below.Statement.{statement}
 use Rattle.fewest.proofs.rows.sets.below.Tie as tie
-use Rattle.fewest.proofs.rows.sets.below.Reads as reads
-use Rattle.fewest.proofs.rows.sets.below.Lts as lts
 
 sub-result : tie.Need-overflow_sub-result
 sub-result c = search rules

@@ -5,8 +5,6 @@ use native.Mathlib.Omega.{arith}
 use borrow.Author.Rules.{rules}
 use Rattle.fewest.proofs.rows.sets.first_label.Statement.{statement}
 use Rattle.fewest.proofs.rows.sets.first_label.Tie as tie
-use Rattle.fewest.proofs.rows.sets.first_label.Reads as reads
-use Rattle.fewest.proofs.rows.sets.first_label.Lts as lts
 
 cast-result : tie.Need-overflow_cast-result
 cast-result c = omega (arith, trailing_le 64 c.args.labels)

@@ -1,11 +1,8 @@
 -- `without_first` meets its contract.
 use Rattle.fewest.proofs.rows.SetLaws.{rest-is}
-use native.Mathlib.Omega.{arith}
 use borrow.Author.Rules.{rules}
 use Rattle.fewest.proofs.rows.sets.without_first.Statement.{statement}
 use Rattle.fewest.proofs.rows.sets.without_first.Tie as tie
-use Rattle.fewest.proofs.rows.sets.without_first.Reads as reads
-use Rattle.fewest.proofs.rows.sets.without_first.Lts as lts
 
 sub-result : tie.Need-overflow_sub-result
 sub-result c = search rules
