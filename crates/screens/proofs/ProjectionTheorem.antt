@@ -6,13 +6,12 @@
 --     isolation            from fresh records
 use Prim.Native.Nat.{ℕ, ◌<◌}
 use mathlib.Core.Path.{◌≡◌, refl, sym, ap, ap₂, ◌∙◌, subst}
-use mathlib.Core.Bool.{false}
 use mathlib.Core.List.{List, [], ◌∷◌}
 use mathlib.Core.Option.{Option, none, some}
 use lib.ListN.{length, get_or-replicate}
-use Rattle.model.specs.Calls.{Call, Answer, Phase, is_running}
+use Rattle.model.specs.Calls.{Call, Answer, is_running}
 use Rattle.model.specs.History.{History, done, call}
-use Rattle.model.specs.Model.{Record, idle, fresh_record, act, Does}
+use Rattle.model.specs.Model.{Record, idle, fresh_record, Does}
 use Rattle.reference.proofs.Theorems.{model-demand-3}
 use Rattle.screens.specs.ScreenCalls.{ScreenCall, ScreenAnswer, Running, nobody_runs}
 use Rattle.screens.specs.EightRecords.{at, runs, DoesAll, eight_fresh}
@@ -40,6 +39,8 @@ alone i hi rs long run same (c ∷ cs) (a ∷ xs) (call {r' = rs'} d h) =
         subst (λ (r : Record). History Does r (own_calls i (followed run c a) cs xs)
         (own_answers i (followed run c a) cs xs)) e k
     go (some f) e k = call e k
+alone i hi rs long run same [] (a ∷ xs) h = elim h [ ]
+alone i hi rs long run same (c ∷ cs) [] h = elim h [ ]
 
 pub screen-alone : ScreenAlone
 screen-alone i hi rs long cs xs h = alone i hi rs long (runs rs) (λ j l. refl) cs xs h
@@ -73,6 +74,10 @@ same-answers r (c ∷ cs) (x ∷ xs) (y ∷ ys) (call {r'} d h) (call {r' = r''}
     let q : r'' ≡ r' = e.leaves ∙ sym d.leaves in
     ap₂ (λ (a : Answer) (l : List Answer). a ∷ l) (d.tells ∙ sym e.tells)
     (same-answers r' cs xs ys h (subst (λ (u : Record). History Does u cs ys) q k))
+same-answers r [] [] (y ∷ ys) _ h = elim h [ ]
+same-answers r [] (x ∷ xs) ys h _ = elim h [ ]
+same-answers r (c ∷ cs) [] ys h _ = elim h [ ]
+same-answers r (c ∷ cs) (x ∷ xs) [] _ h = elim h [ ]
 
 -- of two runs of records that agree on the screen alone
 pub isolation-from : (i : ℕ) → i < 8 → (rs qs : List Record) → length rs ≡ 8 → length qs ≡ 8 → at rs i ≡ at qs i

@@ -3,7 +3,6 @@
 --     Shaped run cs xs   of all answers; who runs is followed on the way
 --     history-shaped     so are those of a history
 --     shaped-split       and those from any point of it on
-use Prim.Native.Nat.{ℕ, ◌<◌}
 use mathlib.Core.Path.{◌≡◌, refl, sym, ap, subst}
 use mathlib.Core.List.{List, [], ◌∷◌, ◌++◌}
 use native.Mathlib.Omega.{arith}
@@ -52,6 +51,8 @@ history-shaped rs run long same (c ∷ cs) (a ∷ xs) (call {r' = rs'} d h) = (
   history-shaped rs' (followed run c a) (does-eight rs rs' c a long d)
       (does-follows rs rs' c a long d run same) cs xs h,
 )
+history-shaped rs run long same [] (a ∷ xs) h = elim h [ ]
+history-shaped rs run long same (c ∷ cs) [] h = elim h [ ]
 
 pub fresh-shaped : (cs : List ScreenCall) (xs : List ScreenAnswer) → History DoesAll eight_fresh cs xs
     → Shaped nobody_runs cs xs
