@@ -2,12 +2,12 @@
 use Prim.Native.Nat.{◌+◌, ◌*◌}
 use mathlib.Core.Bool.{true}
 use lib.ListN.{get_or}
-use Rattle.fewest.proofs.rows.OtherLaws.{own-lowered}
+use Rattle.fewest.proofs.rows.ImageLaws.{own-lowered}
 use Rattle.fewest.proofs.rows.RowLaws.{rule-args}
 use native.Mathlib.Omega.{arith}
 use borrow.Author.Rules.{rules}
-use Rattle.fewest.proofs.rows.relax.lower_own.Statement.{statement}
-use Rattle.fewest.proofs.rows.relax.lower_own.Tie as tie
+use Rattle.fewest.proofs.rows.images.lower_own.Statement.{statement}
+use Rattle.fewest.proofs.rows.images.lower_own.Tie as tie
 
 rule-requires : tie.Need-rule-to-requires
 rule-requires c κs =
