@@ -6,26 +6,24 @@ use mathlib.Core.Path.{◌≡◌, refl, sym, ap, ◌∙◌, subst}
 use mathlib.Core.Bool.{Bool, true, false, cond}
 use mathlib.Core.List.{List, [], ◌∷◌}
 use mathlib.Core.Option.{Option, none, some}
-use native.Mathlib.Decide.{ℕ_discrete}
 use native.Mathlib.Omega.{arith}
 use lib.Dec.{ltb, eqb}
 use lib.ListN.{length}
-use borrow.Author.Tests.{eq-eqb, ne_eqb}
 use Rattle.list_laws.proofs.BoolLaws.{true-false}
 use Rattle.formats.specs.Checks.{first_no}
 use Rattle.formats.specs.Inputs.{Inputs, sizes_in}
-use Rattle.model.specs.Calls.{Call, load, start, advance, cancel, read, Answer, is_refused, is_running, Phase}
+use Rattle.model.specs.Calls.{Call, load, start, advance, cancel, read, Answer, is_running}
 use Rattle.model.specs.History.{History, done, call}
 use Rattle.model.specs.Model.{Record, idle, fresh_record, loaded_record}
 use Rattle.reference.specs.Reference.{Reference, new_reference, step}
 use Rattle.reference.specs.Demand3.{after}
 use Rattle.reference.proofs.Theorems.{model-demand-3}
-use Rattle.screens.specs.ScreenCalls.{ScreenCall, load_all, start_on, cancel_on, read_on, deal, ScreenAnswer, one}
-use Rattle.screens.specs.ScreenCalls.{loads, answer_in, refuses}
+use Rattle.screens.specs.ScreenCalls.{ScreenCall, load_all, start_on, cancel_on, read_on, deal, ScreenAnswer}
+use Rattle.screens.specs.ScreenCalls.{answer_in, refuses}
 use Rattle.screens.specs.ScreenCalls.{Running, nobody_runs, next_running_in, next_running, any_runs, Target, nobody}
-use Rattle.screens.specs.ScreenCalls.{every_screen, screen, turn}
+use Rattle.screens.specs.ScreenCalls.{screen}
 use Rattle.screens.specs.ScreenCalls.{load_all_checks, load_target, deal_target, numbered, target}
-use Rattle.screens.specs.EightRecords.{at, runs, DoesAll, eight_fresh}
+use Rattle.screens.specs.EightRecords.{runs, DoesAll, eight_fresh}
 use Rattle.screens.specs.Projection.{followed}
 use Rattle.screens.specs.EightReferences.{References, running_in, put, ScreenConforms, references_after}
 use Rattle.screens.specs.Statements.{AsLeftIn, AsLeft, Taken, AllTaken, DealTaken}
@@ -33,7 +31,7 @@ use Rattle.screens.proofs.RecordLaws.{load-accepted}
 use Rattle.screens.proofs.TargetLaws.{Rightly, rightly, SameRunning, any_same, any-which, next-runs}
 use Rattle.screens.proofs.EightLaws.{does-eight, does-follows}
 use Rattle.screens.proofs.ReferencesTheorem.{Tied, TiedAll, tied-same, tied-next, tied-step}
-use Rattle.screens.proofs.Steps.{Steps, steps, First, next-first}
+use Rattle.screens.proofs.Steps.{steps, First, next-first}
 use Rattle.screens.proofs.TurnsTheorem.{to-turn}
 use Rattle.screens.proofs.SinceLoad.{eight_loaded, Passes, loaded_at, loaded-idle, since-load}
 use Rattle.screens.proofs.LentLaws.{Kept, kept-load, kept-start, kept-advance, kept-cancel, kept_read}
@@ -123,6 +121,8 @@ module _ (x : Inputs) where
       → KeptAll bs → (cs : List ScreenCall) (xs : List ScreenAnswer) → History DoesAll rs cs xs → AsLeft x cs xs
       → AllTaken run cs xs
   taken-from p rs bs run long t same k [] [] done l = tt
+  taken-from p rs bs run long t same k [] (a ∷ xs) x9 l = elim x9 [ ]
+  taken-from p rs bs run long t same k (c ∷ cs) [] x9 l = elim x9 [ ]
   taken-from p rs bs run long t same k (c ∷ cs) (a ∷ xs) (call {r' = rs'} d h) l =
       let n = tied-step rs rs' bs c a long t d in
       let agree : SameRunning run (running_in bs) = λ i hi. same i hi ∙ sym (tied-same rs bs t i hi) in (

@@ -6,8 +6,8 @@
 --     follows        who runs is followed by calls and answers alone
 use Prim.Native.Nat.{ℕ, ◌<◌}
 use mathlib.Core.Path.{◌≡◌, refl, sym, ap, ap₂, ◌∙◌, subst}
-use mathlib.Core.Bool.{Bool, true, false, cond}
-use mathlib.Core.List.{List, [], ◌∷◌}
+use mathlib.Core.Bool.{Bool, cond}
+use mathlib.Core.List.{List}
 use mathlib.Core.Option.{Option, none, some}
 use native.Mathlib.Decide.{ℕ_discrete}
 use native.Mathlib.Omega.{arith}
@@ -17,9 +17,9 @@ use lib.Seq.{get_or-set_same, get_or-set_other}
 use borrow.Author.Tests.{eq-eqb, ne_eqb}
 use Rattle.list_laws.proofs.Choice.{by-test}
 use Rattle.formats.specs.Inputs.{Inputs, sizes_in}
-use Rattle.model.specs.Calls.{Call, load, advance, Answer, refused, is_refused, is_running}
+use Rattle.model.specs.Calls.{Call, load, advance, Answer, is_refused, is_running}
 use Rattle.model.specs.Model.{Record, fresh_record, loaded_record, act, Does}
-use Rattle.screens.specs.ScreenCalls.{ScreenCall, ScreenAnswer, one, deals, answer_in, Running, one_past, Target}
+use Rattle.screens.specs.ScreenCalls.{ScreenCall, ScreenAnswer, answer_in, Running, Target}
 use Rattle.screens.specs.ScreenCalls.{nobody, every_screen}
 use Rattle.screens.specs.ScreenCalls.{screen, turn, target, turn_answer}
 use Rattle.screens.specs.EightRecords.{at, runs, ActedAll, act_on, act_all, DoesAll}

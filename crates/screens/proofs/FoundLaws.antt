@@ -4,13 +4,12 @@
 --     found_none, found_turn    whose a deal is, from what was found: nobody's, or that screen's turn
 use Prim.Native.Nat.{ℕ, zero, suc, ◌-◌, ◌<◌, ◌≤◌}
 use mathlib.Core.Path.{◌≡◌, refl, sym, ◌∙◌, ap}
-use mathlib.Core.Bool.{true, false, cond}
+use mathlib.Core.Bool.{true, false}
 use mathlib.Core.Option.{Option, none, some}
 use native.Mathlib.Omega.{arith}
-use lib.Dec.{ltb}
 use borrow.Author.Tests.{lt-ltb, le-ltb}
 use Rattle.formats.specs.Inputs.{Inputs}
-use Rattle.screens.specs.ScreenCalls.{deal, Running, one_past, next_running_in, next_running, or_eight, found, Target}
+use Rattle.screens.specs.ScreenCalls.{deal, Running, one_past, next_running_in, next_running, or_eight, found}
 use Rattle.screens.specs.ScreenCalls.{nobody, turn, deal_target, target}
 use Rattle.screens.proofs.TargetLaws.{next-runs, number_in}
 

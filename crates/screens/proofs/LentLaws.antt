@@ -8,18 +8,17 @@ use mathlib.Core.Path.{◌≡◌, refl, sym, ap, ◌∙◌, subst}
 use mathlib.Core.Bool.{Bool, true, false, cond}
 use mathlib.Core.List.{List, [], ◌∷◌}
 use mathlib.Core.Option.{Option, none, some}
-use native.Mathlib.Omega.{arith}
 use lib.Dec.{eqb}
 use lib.ListN.{length}
 use Rattle.list_laws.specs.Tests.{same_list}
 use Rattle.list_laws.proofs.BoolLaws.{true-false, and_both}
 use Rattle.list_laws.proofs.TestLaws.{same_list-is}
-use Rattle.formats.specs.Checks.{check, first_no}
+use Rattle.formats.specs.Checks.{check}
 use Rattle.formats.specs.Inputs.{Inputs, Sizes, sizes_in, fits, used_state_table, same_node_inputs, same_inputs}
 use Rattle.formats.proofs.CheckLaws.{first_no-yes, first_no-none}
 use Rattle.formats.proofs.InputLaws.{build-table}
 use Rattle.formats.proofs.InputsLaws.{Same, same-node-inputs, node-inputs-same, same-inputs-nodes, same-state-table}
-use Rattle.model.specs.Calls.{load, start, advance, cancel, read, Answer, refused, more, finished, is_refused, is_running}
+use Rattle.model.specs.Calls.{load, start, advance, cancel, read, Answer, more, finished, is_refused, is_running}
 use Rattle.model.specs.Refusals.{refusal}
 use Rattle.reference.specs.Reference.{Settlement, clean, by_rule, by_program, Question, State, Reference, Reply, settled}
 use Rattle.reference.specs.Reference.{phase, stage_of, in_state}

@@ -3,22 +3,22 @@
 --     load-empties     no finished answer is left
 --     load-waits       a Load is refused with 1 while any screen runs
 --     refused-alike    a refused call alters nothing, and a refused deal returns no number
-use Prim.Native.Nat.{ℕ, zero, suc, ◌<◌}
-use mathlib.Core.Path.{◌≡◌, refl, sym, ap, ◌∙◌, subst}
+use Prim.Native.Nat.{ℕ, zero, suc}
+use mathlib.Core.Path.{◌≡◌, refl, sym, ap, ◌∙◌}
 use mathlib.Core.Bool.{Bool, true, false, cond, not}
 use mathlib.Core.List.{List, [], ◌∷◌}
 use mathlib.Core.Option.{none}
 use lib.Dec.{eqb}
-use lib.ListN.{length, get_or, set, replicate}
+use lib.ListN.{length, set, replicate}
 use Rattle.list_laws.proofs.BoolLaws.{true-false}
 use Rattle.list_laws.proofs.Choice.{by-test}
-use Rattle.formats.specs.Checks.{Check, check, first_no, build_checks}
-use Rattle.formats.specs.Inputs.{Inputs, sizes_in}
+use Rattle.formats.specs.Checks.{Check, first_no, build_checks}
+use Rattle.formats.specs.Inputs.{sizes_in}
 use Rattle.formats.proofs.CheckLaws.{first_no-no}
-use Rattle.model.specs.Calls.{Call, advance, Answer, refused, is_refused}
+use Rattle.model.specs.Calls.{Call, advance, is_refused}
 use Rattle.model.specs.Model.{Record, idle, fresh_record, loaded_record, act}
-use Rattle.screens.specs.ScreenCalls.{ScreenCall, load_all, ScreenAnswer, one, loads, deals, answer_in, refuses}
-use Rattle.screens.specs.ScreenCalls.{one_past, any_runs, Target}
+use Rattle.screens.specs.ScreenCalls.{load_all, ScreenAnswer, one, loads, deals, answer_in, refuses}
+use Rattle.screens.specs.ScreenCalls.{any_runs, Target}
 use Rattle.screens.specs.ScreenCalls.{nobody, every_screen, screen, turn, load_all_checks, load_target, target}
 use Rattle.screens.specs.ScreenCalls.{turn_answer}
 use Rattle.screens.specs.EightRecords.{at, runs, ActedAll, act_on, act_all}

@@ -3,18 +3,16 @@
 --     deal-serves   a deal with a number up to 7 is the turn of the first screen that runs from there on, or gives 1
 --                   where none runs
 use Prim.Native.Nat.{ℕ, zero, suc, ◌+◌, ◌%◌, ◌<◌}
-use mathlib.Core.Path.{◌≡◌, refl, sym, ap, ◌∙◌, subst}
+use mathlib.Core.Path.{◌≡◌, refl, sym, ap, ◌∙◌}
 use mathlib.Core.Bool.{Bool, true, false, cond}
 use mathlib.Core.Logic.{◌⊎◌, inl, inr}
 use mathlib.Core.Option.{Option, none, some}
-use native.Mathlib.Decide.{ℕ_discrete}
 use native.Mathlib.Omega.{arith}
 use lib.Dec.{ltb}
-use borrow.Author.Tests.{lt-ltb, ltb-true, ltb-false}
-use Rattle.formats.specs.Inputs.{Inputs}
-use Rattle.screens.specs.ScreenCalls.{deal, Running, one_past, next_running_in, next_running, Target, deal_target}
+use borrow.Author.Tests.{lt-ltb, ltb-false}
+use Rattle.screens.specs.ScreenCalls.{Running, one_past, next_running_in, next_running, deal_target}
 use Rattle.screens.specs.ScreenCalls.{numbered, target}
-use Rattle.screens.specs.Statements.{Next, Serves, DealServes}
+use Rattle.screens.specs.Statements.{Serves, DealServes}
 use Rattle.screens.proofs.TargetLaws.{one-past-in}
 use Rattle.screens.proofs.Steps.{Steps, steps}
 

@@ -6,13 +6,12 @@
 --     isolation            from fresh records
 use Prim.Native.Nat.{ℕ, ◌<◌}
 use mathlib.Core.Path.{◌≡◌, refl, sym, ap, ap₂, ◌∙◌, subst}
-use mathlib.Core.Bool.{false}
 use mathlib.Core.List.{List, [], ◌∷◌}
 use mathlib.Core.Option.{Option, none, some}
 use lib.ListN.{length, get_or-replicate}
-use Rattle.model.specs.Calls.{Call, Answer, Phase, is_running}
+use Rattle.model.specs.Calls.{Call, Answer, is_running}
 use Rattle.model.specs.History.{History, done, call}
-use Rattle.model.specs.Model.{Record, idle, fresh_record, act, Does}
+use Rattle.model.specs.Model.{Record, idle, fresh_record, Does}
 use Rattle.reference.proofs.Theorems.{model-demand-3}
 use Rattle.screens.specs.ScreenCalls.{ScreenCall, ScreenAnswer, Running, nobody_runs}
 use Rattle.screens.specs.EightRecords.{at, runs, DoesAll, eight_fresh}
@@ -28,6 +27,8 @@ pub alone : (i : ℕ) → i < 8 → (rs : List Record) → length rs ≡ 8 → (
     → History Does (at rs i) (own_calls i run cs xs) (own_answers i run cs xs)
 unfolding project
 alone i hi rs long run same [] [] done = done
+alone i hi rs long run same [] (a ∷ xs) x4 = elim x4 [ ]
+alone i hi rs long run same (c ∷ cs) [] x5 = elim x5 [ ]
 alone i hi rs long run same (c ∷ cs) (a ∷ xs) (call {r' = rs'} d h) =
     go (fed_to run i c a) (does-moved rs rs' c a long d run same i hi)
     (alone i hi rs' (does-eight rs rs' c a long d) (followed run c a) (does-follows rs rs' c a long d run same) cs xs h)
@@ -69,6 +70,10 @@ screens-references i hi cs xs h =
 pub same-answers : (r : Record) (cs : List Call) (xs ys : List Answer) → History Does r cs xs → History Does r cs ys
     → xs ≡ ys
 same-answers r [] [] [] done done = refl
+same-answers r [] [] (y ∷ ys) _ x7 = elim x7 [ ]
+same-answers r [] (x ∷ xs) ys x6 _ = elim x6 [ ]
+same-answers r (c ∷ cs) [] ys x5 _ = elim x5 [ ]
+same-answers r (c ∷ cs) (x ∷ xs) [] _ x10 = elim x10 [ ]
 same-answers r (c ∷ cs) (x ∷ xs) (y ∷ ys) (call {r'} d h) (call {r' = r''} e k) =
     let q : r'' ≡ r' = e.leaves ∙ sym d.leaves in
     ap₂ (λ (a : Answer) (l : List Answer). a ∷ l) (d.tells ∙ sym e.tells)

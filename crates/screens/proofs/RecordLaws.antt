@@ -7,12 +7,11 @@
 use Prim.Native.Nat.{ℕ, zero, suc}
 use mathlib.Core.Path.{◌≡◌, refl, sym, ap, ◌∙◌}
 use mathlib.Core.Bool.{Bool, true, false, cond}
-use mathlib.Core.List.{List}
 use mathlib.Core.Option.{Option, none, some}
 use lib.Dec.{eqb}
 use lib.ListN.{length}
 use Rattle.list_laws.proofs.BoolLaws.{true-false}
-use Rattle.formats.specs.Checks.{check, first_no, build_checks}
+use Rattle.formats.specs.Checks.{first_no, build_checks}
 use Rattle.formats.specs.Inputs.{Inputs, sizes_in}
 use Rattle.formats.proofs.CheckLaws.{first_no-yes}
 use Rattle.tables.specs.declared.answers.Reached.{Reached}

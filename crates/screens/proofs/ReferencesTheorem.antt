@@ -4,30 +4,29 @@
 --     tied-runs          they agree on whether a question runs: a Cancel shows it
 --     screens-demand-3   the statement
 -- Tied asks nothing of a record but its answers, so demand 3 of a single session is all that is used here.
-use Prim.Native.Nat.{ℕ, zero, suc, ◌<◌}
-use mathlib.Core.Path.{◌≡◌, refl, sym, ap, ◌∙◌, subst}
+use Prim.Native.Nat.{ℕ, ◌<◌}
+use mathlib.Core.Path.{◌≡◌, refl, sym, ap, subst}
 use mathlib.Core.Bool.{Bool, true, false, cond}
 use mathlib.Core.List.{List, [], ◌∷◌}
-use mathlib.Core.Option.{Option, none, some}
+use mathlib.Core.Option.{none, some}
 use native.Mathlib.Decide.{ℕ_discrete}
 use lib.Dec.{eqb}
 use lib.ListN.{length}
 use borrow.Author.Tests.{eq-eqb, ne_eqb}
 use Rattle.list_laws.proofs.BoolLaws.{true-false}
 use Rattle.formats.specs.Checks.{check, first_no}
-use Rattle.formats.specs.Inputs.{Inputs}
-use Rattle.model.specs.Calls.{Call, load, advance, cancel, Answer, refused, is_refused, is_running}
+use Rattle.model.specs.Calls.{Call, load, advance, cancel, Answer, is_refused, is_running}
 use Rattle.model.specs.Refusals.{refusal}
 use Rattle.model.specs.History.{History, done, call}
-use Rattle.model.specs.Model.{Record, fresh_record, proceeds, unless, act, Does}
+use Rattle.model.specs.Model.{Record, proceeds, unless, act, Does}
 use Rattle.reference.specs.Reference.{Reference, new_reference, phase, proceed, decided, step}
 use Rattle.reference.specs.Demand3.{Conforms, after, Agrees}
 use Rattle.reference.proofs.Theorems.{model-demand-3}
-use Rattle.screens.specs.ScreenCalls.{ScreenCall, ScreenAnswer, one, loads, answer_in, Target, nobody, every_screen}
+use Rattle.screens.specs.ScreenCalls.{ScreenCall, ScreenAnswer, answer_in, Target, nobody, every_screen}
 use Rattle.screens.specs.ScreenCalls.{screen, turn, target}
 use Rattle.screens.specs.ScreenCalls.{turn_answer}
-use Rattle.screens.specs.EightRecords.{at, runs, ActedAll, act_on, act_all, DoesAll, eight_fresh}
-use Rattle.screens.specs.Projection.{Fed, fed, fed_by, fed_to}
+use Rattle.screens.specs.EightRecords.{at, runs, act_on, DoesAll, eight_fresh}
+use Rattle.screens.specs.Projection.{fed, fed_by}
 use Rattle.screens.specs.EightReferences.{References, running_in, put, ScreenConforms, references_after}
 use Rattle.screens.specs.EightReferences.{ScreensAgree, ScreensDemand3}
 use Rattle.screens.proofs.RecordLaws.{load-accepted, acts}
@@ -134,6 +133,8 @@ tied-step rs rs' bs c a long t d =
 agrees_from : (rs : List Record) (bs : References) → length rs ≡ 8 → TiedAll rs bs
     → (cs : List ScreenCall) (xs : List ScreenAnswer) → History DoesAll rs cs xs → ScreensAgree bs cs xs
 agrees_from rs bs long t [] [] done = tt
+agrees_from rs bs long t [] (a ∷ xs) x4 = elim x4 [ ]
+agrees_from rs bs long t (c ∷ cs) [] x5 = elim x5 [ ]
 agrees_from rs bs long t (c ∷ cs) (a ∷ xs) (call {r' = rs'} d h) =
     let n = tied-step rs rs' bs c a long t d in (
       n.0,

@@ -8,16 +8,15 @@
 --                         answers
 --     sample-left         the inputs are what the Load left
 --     sample-refused      25 before everything else; 1 where no screen runs; a run of seven records
-use Prim.Native.Nat.{ℕ, zero, suc}
+use Prim.Native.Nat.{ℕ}
 use mathlib.Core.Path.{◌≡◌, refl}
-use mathlib.Core.Bool.{Bool, true, false}
+use mathlib.Core.Bool.{true, false}
 use mathlib.Core.List.{List, [], ◌∷◌}
 use mathlib.Core.Option.{Option, none, some}
 use lib.ListN.{replicate}
-use Rattle.list_laws.specs.Tests.{distinct}
 use Rattle.formats.specs.Inputs.{Inputs, sizes_in, same_inputs}
 use Rattle.tables.specs.Answers.{written}
-use Rattle.model.specs.Calls.{Call, load, start, advance, cancel, read, Answer, refused, parts, more, finished}
+use Rattle.model.specs.Calls.{Answer, refused, parts, more, finished}
 use Rattle.model.specs.Calls.{outcome_answer}
 use Rattle.model.specs.History.{History, done, call}
 use Rattle.model.specs.Model.{Record, fresh_record}

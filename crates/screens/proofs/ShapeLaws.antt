@@ -3,7 +3,6 @@
 --     Shaped run cs xs   of all answers; who runs is followed on the way
 --     history-shaped     so are those of a history
 --     shaped-split       and those from any point of it on
-use Prim.Native.Nat.{ℕ, ◌<◌}
 use mathlib.Core.Path.{◌≡◌, refl, sym, ap, subst}
 use mathlib.Core.List.{List, [], ◌∷◌, ◌++◌}
 use native.Mathlib.Omega.{arith}
@@ -47,6 +46,8 @@ target-shaped rs (turn i x) =
 pub history-shaped : (rs : List Record) (run : Running) → length rs ≡ 8 → SameRunning run (runs rs)
     → (cs : List ScreenCall) (xs : List ScreenAnswer) → History DoesAll rs cs xs → Shaped run cs xs
 history-shaped rs run long same [] [] done = tt
+history-shaped rs run long same [] (a ∷ xs) x4 = elim x4 [ ]
+history-shaped rs run long same (c ∷ cs) [] x5 = elim x5 [ ]
 history-shaped rs run long same (c ∷ cs) (a ∷ xs) (call {r' = rs'} d h) = (
   rw (target-same run (runs rs) same c, d.tells, on-target rs c long) (target-shaped rs (target (runs rs) c)),
   history-shaped rs' (followed run c a) (does-eight rs rs' c a long d)

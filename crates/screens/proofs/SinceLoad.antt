@@ -13,7 +13,7 @@ use Rattle.list_laws.proofs.BoolLaws.{true-false}
 use Rattle.formats.specs.Checks.{first_no, build_checks}
 use Rattle.formats.specs.Inputs.{Inputs, Sizes, sizes_in}
 use Rattle.model.specs.Calls.{is_running}
-use Rattle.model.specs.History.{History, done, call}
+use Rattle.model.specs.History.{History, call}
 use Rattle.model.specs.Model.{Record, idle, fresh_record, loaded_record}
 use Rattle.screens.specs.ScreenCalls.{ScreenCall, load_all, ScreenAnswer, one, loads, deals, nobody_runs}
 use Rattle.screens.specs.ScreenCalls.{load_all_checks, load_target}

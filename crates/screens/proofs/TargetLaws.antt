@@ -9,19 +9,19 @@
 use Prim.Native.Nat.{ℕ, zero, suc, ◌<◌}
 use mathlib.Core.Path.{◌≡◌, refl, sym, ap, ap₂, ◌∙◌, subst}
 use mathlib.Core.Bool.{Bool, true, false, cond, not, ◌||◌}
-use mathlib.Core.List.{List, [], ◌∷◌}
+use mathlib.Core.List.{List, ◌∷◌}
 use mathlib.Core.Option.{Option, none, some, some-injective}
 use native.Mathlib.Decide.{ℕ_discrete}
 use native.Mathlib.Omega.{arith}
-use lib.Dec.{ltb, eqb}
+use lib.Dec.{ltb}
 use lib.ListN.{length}
-use borrow.Author.Tests.{ltb-true, ltb-false, lt-ltb, le-ltb, not-true}
+use borrow.Author.Tests.{ltb-true, lt-ltb, le-ltb, not-true}
 use Rattle.list_laws.proofs.BoolLaws.{true-false, or-first, or-second}
 use Rattle.list_laws.proofs.Choice.{by-lt}
 use Rattle.formats.specs.Checks.{Check, check, first_no, build_checks}
 use Rattle.formats.specs.Inputs.{Inputs}
 use Rattle.formats.proofs.CheckLaws.{first_no-head, first_no-tail}
-use Rattle.model.specs.Calls.{Call, start, cancel, read}
+use Rattle.model.specs.Calls.{start, cancel, read}
 use Rattle.screens.specs.ScreenCalls.{ScreenCall, load_all, start_on, cancel_on, read_on, deal, Running, one_past}
 use Rattle.screens.specs.ScreenCalls.{next_running_in, next_running}
 use Rattle.screens.specs.ScreenCalls.{any_runs, Target, nobody, every_screen, screen, turn, load_all_checks}

@@ -7,19 +7,18 @@ use Prim.Native.Nat.{ℕ, zero, suc, ◌+◌, ◌-◌, ◌≤◌, ◌<◌}
 use mathlib.Core.Path.{◌≡◌, refl, sym, ap, ◌∙◌, subst}
 use mathlib.Core.Bool.{Bool, true, false, cond}
 use mathlib.Core.List.{List, [], ◌∷◌, ◌++◌}
-use mathlib.Core.Option.{Option, none, some}
+use mathlib.Core.Option.{Option, some}
 use native.Mathlib.Decide.{ℕ_discrete}
 use native.Mathlib.Omega.{arith}
-use lib.Dec.{ltb, eqb}
-use lib.ListN.{length}
-use borrow.Author.Tests.{ltb-true, eq-eqb, ne_eqb, lt-ltb}
+use lib.Dec.{ltb}
+use borrow.Author.Tests.{eq-eqb, ne_eqb, lt-ltb}
 use Rattle.list_laws.specs.Tests.{distinct}
 use Rattle.list_laws.proofs.BoolLaws.{true-false}
 use Rattle.formats.specs.Checks.{first_no}
 use Rattle.formats.specs.Inputs.{Inputs}
-use Rattle.model.specs.Calls.{Call, start, advance, cancel, read, Answer, refused, parts, more, finished, outcome}
+use Rattle.model.specs.Calls.{Call, start, cancel, read, Answer, refused, parts, more, finished, outcome}
 use Rattle.model.specs.Calls.{is_refused}
-use Rattle.reference.specs.OwnAnswers.{OwnAnswer, refuses, starts, cancels, reads}
+use Rattle.reference.specs.OwnAnswers.{OwnAnswer, refuses, starts, reads}
 use Rattle.screens.specs.ScreenCalls.{ScreenCall, load_all, start_on, cancel_on, read_on, deal, ScreenAnswer, one}
 use Rattle.screens.specs.ScreenCalls.{loads, deals, answer_in}
 use Rattle.screens.specs.ScreenCalls.{Running, nobody_runs, one_past, served_by, next_running_in, next_running, Target}
@@ -27,10 +26,10 @@ use Rattle.screens.specs.ScreenCalls.{nobody, every_screen}
 use Rattle.screens.specs.ScreenCalls.{screen, turn, load_all_checks, load_target, deal_target, numbered, target}
 use Rattle.screens.specs.ScreenCalls.{turn_answer}
 use Rattle.screens.specs.EightRecords.{DoesAll, eight_fresh}
-use Rattle.screens.specs.Projection.{Fed, fed, fed_by, still_runs, still_runs_by, followed, running_after}
+use Rattle.screens.specs.Projection.{fed_by, still_runs, still_runs_by, followed, running_after}
 use Rattle.screens.specs.Turns.{turns_of, number_after, HandedOn, Uncancelled, until}
 use Rattle.screens.specs.Statements.{ServedSoon, TurnsApart, BetweenTurns}
-use Rattle.screens.proofs.TargetLaws.{Rightly, rightly, next-runs}
+use Rattle.screens.proofs.TargetLaws.{Rightly, rightly}
 use Rattle.screens.proofs.Steps.{Steps, steps, at_first, one_end, onward, between, past_one, served-past, First}
 use Rattle.screens.proofs.Steps.{next-first, Nearing}
 use Rattle.screens.proofs.Steps.{nearing-few, nearing-distinct, until-holds}
@@ -50,11 +49,19 @@ refused-stays b (outcome o) e = refl
 start-stays : (x : Inputs) (vs bs : List ℕ) (a : Answer) → OwnAnswer (start x vs bs) a → still_runs true a ≡ true
 unfolding still_runs
 start-stays x vs bs (refused m) (refuses n) = refl
+start-stays x vs bs Answer.accepted x'' = elim x'' [ ]
+start-stays x vs bs more x3 = elim x3 [ ]
+start-stays x vs bs finished x4 = elim x4 [ ]
+start-stays x vs bs (outcome _) x6 = elim x6 [ ]
 start-stays x vs bs (parts q) (starts p) = refl
 
 read_stays : (a : Answer) → OwnAnswer read a → still_runs true a ≡ true
 unfolding still_runs
 read_stays (refused m) (refuses n) = refl
+read_stays Answer.accepted x' = elim x' [ ]
+read_stays (parts _) x3 = elim x3 [ ]
+read_stays more x3 = elim x3 [ ]
+read_stays finished x4 = elim x4 [ ]
 read_stays (outcome q) (reads o) = refl
 
 -- ---- one call

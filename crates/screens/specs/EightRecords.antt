@@ -5,8 +5,8 @@
 -- act_all rs c == a call of the screens; DoesAll rs c a rs' == the same as a relation
 -- eight_fresh == the records of eight fresh screens
 use Rattle.std.specs.Prelude.{ℕ, ◌≡◌, cond, List, eqb, length, get_or, set, replicate}
-use Rattle.formats.specs.Inputs.{Inputs, sizes_in}
-use Rattle.model.specs.Calls.{Call, advance, refused, is_running}
+use Rattle.formats.specs.Inputs.{sizes_in}
+use Rattle.model.specs.Calls.{advance, refused, is_running}
 use Rattle.model.specs.Model.{Record, fresh_record, loaded_record, act}
 use Rattle.screens.specs.ScreenCalls.{ScreenCall, ScreenAnswer, one, loads, Running, Target, nobody, every_screen}
 use Rattle.screens.specs.ScreenCalls.{screen, turn}

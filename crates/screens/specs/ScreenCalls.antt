@@ -17,11 +17,11 @@
 -- turn_answer i a == the answer of a deal that served screen i, whose advance returned a
 --
 -- Not here: 25 for a run of another length (EightRecords).
-use Rattle.std.specs.Prelude.{ℕ, zero, suc, ◌-◌, ◌≡◌, Bool, true, false, cond, not, ◌||◌, List, [], ◌∷◌, ltb, eqb, length}
+use Rattle.std.specs.Prelude.{ℕ, zero, suc, ◌-◌, ◌≡◌, Bool, false, cond, not, ◌||◌, List, ◌∷◌, ltb, eqb, length}
 use Rattle.std.proofs.Math.Option.{Option, none, some}
 use Rattle.formats.specs.Inputs.{Inputs}
 use Rattle.formats.specs.Checks.{Check, check, first_no, build_checks}
-use Rattle.model.specs.Calls.{Call, load, start, advance, cancel, read, Answer, is_refused}
+use Rattle.model.specs.Calls.{Call, start, cancel, read, Answer, is_refused}
 
 pub data ScreenCall : Type 0 where
   load_all : Inputs → ScreenCall

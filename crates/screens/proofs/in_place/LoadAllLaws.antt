@@ -4,24 +4,23 @@
 --     load-refused     none does, and the first one's own Load is refused: nothing is altered
 --     one-busy, cleared, turned_down    the same as the code has them
 use Prim.Native.Nat.{ℕ, zero, suc, ◌<◌}
-use mathlib.Core.Path.{◌≡◌, refl, sym, ◌∙◌, ap, ap₂, subst}
+use mathlib.Core.Path.{◌≡◌, refl, sym, ◌∙◌, ap, subst}
 use mathlib.Core.Bool.{Bool, true, false, cond, not, ◌||◌}
-use mathlib.Core.List.{List, [], ◌∷◌}
+use mathlib.Core.List.{List}
 use native.Mathlib.Omega.{arith}
-use lib.Dec.{eqb}
 use lib.ListN.{length, get_or, replicate, get_or-replicate}
 use borrow.Author.Tests.{not-false}
 use Rattle.list_laws.proofs.BoolLaws.{true-false}
 use Rattle.formats.specs.Built.{built_node_table, built_state_table}
-use Rattle.formats.specs.Checks.{Check, check, first_no, build_checks}
+use Rattle.formats.specs.Checks.{Check, first_no, build_checks}
 use Rattle.formats.specs.Inputs.{Inputs, sizes_in}
 use Rattle.formats.proofs.CheckLaws.{first_no-yes, first_no-no}
 use Rattle.tables.specs.Answers.{written}
 use Rattle.model.specs.Calls.{load, Answer, refused, is_refused, is_running}
 use Rattle.model.specs.Refusals.{refusal}
-use Rattle.model.specs.Model.{Record, fresh_record, stage_of, loaded_record, proceeds, unless, act}
-use Rattle.screens.specs.ScreenCalls.{load_all, ScreenAnswer, one, loads, answer_in, any_runs, Target, nobody, every_screen}
-use Rattle.screens.specs.ScreenCalls.{load_all_checks, load_target, target, Another}
+use Rattle.model.specs.Model.{fresh_record, stage_of, loaded_record, proceeds, unless, act}
+use Rattle.screens.specs.ScreenCalls.{load_all, one, loads, answer_in, any_runs, Target, every_screen}
+use Rattle.screens.specs.ScreenCalls.{load_target, target, Another}
 use Rattle.screens.proofs.RecordLaws.{load-refusal}
 use Rattle.screens.proofs.TargetLaws.{any-no, or-no-left, or-no-right}
 use Rattle.session.specs.declared.state.Session.{Session}

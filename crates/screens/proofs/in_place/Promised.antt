@@ -2,7 +2,7 @@
 --     deal_promised, start_promised, cancel_promised, read_promised   the promises; Load's is read off its source as it is
 --     deal-tied, start-tied, cancel-tied, load-tied, read-tied    a promise gives the step of the theorem
 --     deal-says, start-says, cancel-says, read-says               the source's contract is the promise, clause by clause
--- A contract that promises less, with its walk adapted, is refused at its `..-says`; a promise that says less at its
+-- A contract that promises less, with its answers adapted, is refused at its `..-says`; a promise that says less at its
 -- `..-tied`.
 use mathlib.Core.Path.{◌≡◌, refl}
 use seplogic.Ra.Ura.{Ura}

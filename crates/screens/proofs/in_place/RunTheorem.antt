@@ -4,12 +4,12 @@
 --     run-refines         a call on the structs is one on the records
 --     structs-hold        all statements about every list of screen calls (crate screens), from eight fresh sessions
 use Prim.Native.Nat.{ℕ, zero, suc, ◌<◌}
-use mathlib.Core.Path.{◌≡◌, refl, sym, ◌∙◌, ap, ap₂, subst}
+use mathlib.Core.Path.{◌≡◌, refl, sym, ◌∙◌, ap, subst}
 use mathlib.Core.Bool.{Bool, true, false, cond, not, ◌||◌}
 use mathlib.Core.List.{List, [], ◌∷◌}
 use native.Mathlib.Decide.{ℕ_discrete}
 use native.Mathlib.Omega.{arith}
-use lib.Dec.{ltb, eqb}
+use lib.Dec.{ltb}
 use lib.ListN.{length, set, replicate, length-set, get_or-replicate}
 use lib.Seq.{get_or-set_same, get_or-set_other}
 use borrow.Author.Tests.{eq-eqb}
@@ -17,13 +17,13 @@ use Rattle.formats.specs.Inputs.{Inputs, sizes_in}
 use Rattle.model.specs.Calls.{Call, load, read, advance, Answer, is_running}
 use Rattle.model.specs.Model.{Record, fresh_record, loaded_record, act}
 use Rattle.model.proofs.Refinement.{Refines}
-use Rattle.screens.specs.ScreenCalls.{ScreenCall, load_all, start_on, cancel_on, read_on, deal, ScreenAnswer, one, refuses}
+use Rattle.screens.specs.ScreenCalls.{ScreenCall, load_all, start_on, cancel_on, read_on, deal, one}
 use Rattle.screens.specs.ScreenCalls.{Target, nobody, every_screen, screen, turn, numbered, target, turn_answer, answer_in}
 use Rattle.screens.specs.EightRecords.{at, runs, ActedAll, act_on, act_all, DoesAll, eight_fresh}
 use Rattle.screens.specs.Statements.{Screens}
 use Rattle.screens.proofs.RecordLaws.{load-accepted}
 use Rattle.screens.proofs.TargetLaws.{Rightly, rightly, SameRunning, target-same}
-use Rattle.screens.proofs.EightLaws.{on-target, stays-eight}
+use Rattle.screens.proofs.EightLaws.{on-target}
 use Rattle.screens.proofs.Theorems.{screens-hold, screens-hold-of}
 use Rattle.session.specs.declared.state.Session.{Session}
 use Rattle.session.specs.Records.{phase_of, fresh_session, record_of, session_of, valid}

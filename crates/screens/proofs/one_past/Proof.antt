@@ -4,8 +4,6 @@ use native.Mathlib.Omega.{arith}
 use borrow.Author.Rules.{rules}
 use Rattle.screens.proofs.one_past.Statement.{statement}
 use Rattle.screens.proofs.one_past.Tie as tie
-use Rattle.screens.proofs.one_past.Reads as reads
-use Rattle.screens.proofs.one_past.Lts as lts
 
 returns : tie.Need-returns-then-i-lt-LAST_SCREEN
 returns c = (simp (lt-ltb _ _ c.if-i-lt-LAST_SCREEN.true) (omega arith), omega arith)

@@ -9,19 +9,19 @@ use Rattle.screens.proofs.in_place.is_running.Tie as tie
 
 returns : tie.Need-returns-in-Empty
 unfolding phase_of is_running
-returns c = ap (λ (p : Phase). is_running (phase_of p)) (sym c.enum_told-1.given.1)
+returns c = ap (λ (p : Phase). is_running (phase_of p)) (sym c.in-Empty.is)
 
 returns-2 : tie.Need-returns-in-Loaded
 unfolding phase_of is_running
-returns-2 c = ap (λ (p : Phase). is_running (phase_of p)) (sym c.enum_told-in-Loaded-1.given.1)
+returns-2 c = ap (λ (p : Phase). is_running (phase_of p)) (sym c.in-Loaded.is)
 
 returns-3 : tie.Need-returns-in-Running
 unfolding phase_of is_running
-returns-3 c = ap (λ (p : Phase). is_running (phase_of p)) (sym c.enum_told-in-Running-1.given.1)
+returns-3 c = ap (λ (p : Phase). is_running (phase_of p)) (sym c.in-Running.is)
 
 returns-4 : tie.Need-returns-in-Answered
 unfolding phase_of is_running
-returns-4 c = ap (λ (p : Phase). is_running (phase_of p)) (sym c.enum_told-in-Answered-1.given.1)
+returns-4 c = ap (λ (p : Phase). is_running (phase_of p)) (sym c.in-Answered.is)
 
 pub is_running_spec : {M : Type 1} → statement M
 is_running_spec =

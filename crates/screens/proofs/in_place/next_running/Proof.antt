@@ -8,10 +8,6 @@ use native.Mathlib.Omega.{arith}
 use borrow.Author.Rules.{rules}
 use Rattle.screens.proofs.in_place.next_running.Statement.{statement}
 use Rattle.screens.proofs.in_place.next_running.Tie as tie
-use Rattle.screens.proofs.in_place.next_running.Reads as reads
-use Rattle.screens.proofs.in_place.next_running.Lts as lts
-use Rattle.screens.proofs.one_past.Reads as one-past-reads
-use Rattle.screens.proofs.in_place.is_running.Reads as is-running-reads
 
 abbrev invariant-loop : tie.invariant-loop-left
 invariant-loop first phases at₀ left₀ at left = (at < 8) ×
@@ -28,25 +24,25 @@ loop-holds c = (omega (arith, c.if-first-gt-LAST_SCREEN.false), (omega arith, re
 
 returns-2 : tie.Need-returns-then-is_running invariant-loop decreases-loop
 returns-2 c =
-    let l = c.before.before.before.before.loop-left in
+    let l = c.loop-left in
     found_here _ _ l.left l.at (omega arith) (omega arith) l.invariant.1.1
-    (sym c.before.is_running.ensures ∙ c.if-is_running.true)
+    (sym c.is_running.ensures ∙ c.if-is_running.true)
 
 loop-again : tie.Need-loop-left-preserved invariant-loop decreases-loop
 loop-again c =
-    let l = c.before.before.before.before.before.loop-left in
+    let l = c.loop-left in
     let a = c.one_past-at.ensures in (
       a.1,
       (
         omega arith,
         rw a.0 (found-on _ l.left l.at _ (omega arith) l.invariant.1.1
-            (sym c.before.before.is_running.ensures ∙ c.before.if-is_running.false)),
+            (sym c.is_running.ensures ∙ c.if-is_running.false)),
       ),
     )
 
 returns-3 : tie.Need-returns invariant-loop decreases-loop
 returns-3 c =
-    let l = c.before.loop-left in
+    let l = c.loop-left in
     found_nothing _ _ l.left l.at (omega arith) (omega arith) l.invariant.1.1
 
 pub next_running_spec : {M : Type 1} → statement M

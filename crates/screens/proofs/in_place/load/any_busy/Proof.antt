@@ -13,9 +13,6 @@ use native.Mathlib.Omega.{arith}
 use borrow.Author.Rules.{rules}
 use Rattle.screens.proofs.in_place.load.any_busy.Statement.{statement}
 use Rattle.screens.proofs.in_place.load.any_busy.Tie as tie
-use Rattle.screens.proofs.in_place.load.any_busy.Reads as reads
-use Rattle.screens.proofs.in_place.load.any_busy.Lts as lts
-use Rattle.screens.proofs.in_place.load.is_busy.Reads as is-busy-reads
 
 abbrev invariant-loop : tie.invariant-loop-left
 invariant-loop all left₀ left = (left ≤ 8) × (any_runs 8 (busy all) ≡ any_runs left (busy all))
@@ -25,7 +22,7 @@ decreases-loop all left₀ left = left
 
 -- the array's length
 eight : (b : tie.Start invariant-loop decreases-loop) → length b.args.all ≡ 8
-eight b = good_length (e_struct T.the_type T'.the_laws T'.the_copy) 8 b.args.all _ b.well-formed.0
+eight b = good_length (e_struct T.the_type T'.the_laws T'.the_copy) 8 b.args.all _ b.well_formed.0
 
 loop-holds : tie.Need-loop-left-init invariant-loop decreases-loop
 loop-holds c = (omega arith, refl)
@@ -33,24 +30,24 @@ loop-holds c = (omega arith, refl)
 returns : tie.Need-returns-then-is_busy invariant-loop decreases-loop
 returns c =
     let b = c.before.before.before.before.before in
-    let l = c.before.before.before.before.loop-left in
+    let l = c.loop-left in
     any_here _ l.left (omega arith)
-    (busy-at b.args.all (l.left - 1) _ (eight b) (omega arith) ∙ sym c.before.is_busy.ensures ∙ c.if-is_busy.true)
+    (busy-at b.args.all (l.left - 1) _ (eight b) (omega arith) ∙ sym c.is_busy.ensures ∙ c.if-is_busy.true)
     l.invariant.1
 
 loop-again : tie.Need-loop-left-preserved invariant-loop decreases-loop
 loop-again c =
     let b = c.before.before.before.before.before in
-    let l = c.before.before.before.before.loop-left in (
+    let l = c.loop-left in (
       omega arith,
       any-on _ l.left (omega arith)
-          (busy-at b.args.all (l.left - 1) _ (eight b) (omega arith) ∙ sym c.before.is_busy.ensures
+          (busy-at b.args.all (l.left - 1) _ (eight b) (omega arith) ∙ sym c.is_busy.ensures
           ∙ c.if-is_busy.false)
           l.invariant.1,
     )
 
 returns-2 : tie.Need-returns invariant-loop decreases-loop
-returns-2 c = any-end _ c.before.loop-left.left (omega arith) c.before.loop-left.invariant.1
+returns-2 c = any-end _ c.loop-left.left (omega arith) c.loop-left.invariant.1
 
 pub any_busy_spec : {M : Type 1} → statement M
 any_busy_spec =

@@ -1,19 +1,14 @@
 -- `screens::in_place::load::is_busy` meets its contract.
 use Rattle.screens.proofs.in_place.BusyLaws.{busy-broken, busy-valid}
-use native.Mathlib.Omega.{arith}
 use borrow.Author.Rules.{rules}
 use Rattle.screens.proofs.in_place.load.is_busy.Statement.{statement}
 use Rattle.screens.proofs.in_place.load.is_busy.Tie as tie
-use Rattle.screens.proofs.in_place.load.is_busy.Reads as reads
-use Rattle.screens.proofs.in_place.load.is_busy.Lts as lts
-use Rattle.screens.proofs.in_place.is_running.Reads as is-running-reads
-use Rattle.session.proofs.state.Session.valid.Reads as valid-reads
 
 returns : tie.Need-returns-then-not-valid
-returns c = busy-broken _ _ c.before.valid.ensures c.if-not-valid.true-raw
+returns c = busy-broken _ _ c.valid.ensures c.if-not-valid.true-raw
 
 returns-2 : tie.Need-returns
-returns-2 c = busy-valid _ _ _ c.before.before.before.valid.ensures c.before.before.if-not-valid.false-raw
+returns-2 c = busy-valid _ _ _ c.valid.ensures c.if-not-valid.false-raw
     c.is_running.ensures
 
 pub is_busy_spec : {M : Type 1} → statement M

@@ -1,39 +1,29 @@
 -- `screens::in_place::load::load` meets its contract.
-use mathlib.Core.Path.{◌≡◌, sym, ◌∙◌}
-use lib.ListN.{length}
+use mathlib.Core.Path.{sym, ◌∙◌}
 use borrow.Kind.Array.{e_struct, good_length}
 use Rattle.session.specs.contracts.state.Session as T
 use Rattle.session.proofs.state.Session.TheLaws as T'
 use Rattle.screens.proofs.in_place.LoadAllLaws.{one-busy, cleared, turned_down}
-use native.Mathlib.Omega.{arith}
 use borrow.Author.Rules.{rules}
 use Rattle.screens.proofs.in_place.load.load.Statement.{statement}
 use Rattle.screens.proofs.in_place.load.load.Tie as tie
-use Rattle.screens.proofs.in_place.load.load.Reads as reads
-use Rattle.screens.proofs.in_place.load.load.Lts as lts
-use Rattle.screens.proofs.in_place.load.any_busy.Reads as any-busy-reads
-use Rattle.session.proofs.state.Session.load.Reads as load-reads
-
--- the array's length
-eight : (b : tie.Start) → length b.args.all ≡ 8
-eight b = good_length (e_struct T.the_type T'.the_laws T'.the_copy) 8 b.args.all _ b.well-formed.0
 
 returns : tie.Need-returns-then-any_busy
 returns c =
-    one-busy _ _ (eight c.before.before.before.before.before.before)
-    (sym c.before.any_busy.ensures ∙ c.if-any_busy.true)
+    one-busy _ _ (good_length (e_struct T.the_type T'.the_laws T'.the_copy) 8 c.args.all _ c.well_formed.0)
+    (sym c.any_busy.ensures ∙ c.if-any_busy.true)
 
 returns-2 : tie.Need-returns-in-Accepted
 returns-2 c =
-    cleared _ _ _ (eight c.before.before.before.before.before.before.before.before.before.before.before.before.before.before.before.before.before)
-    (sym c.before.before.before.before.before.before.before.before.before.before.before.before.any_busy.ensures ∙ c.before.before.before.before.before.before.before.before.before.before.before.if-any_busy.false) _ _ _ _
-    c.before.before.before.before.before.before.before.load-out.ensures c.before.enum_told-1.given.1
+    cleared _ _ _ (good_length (e_struct T.the_type T'.the_laws T'.the_copy) 8 c.args.all _ c.well_formed.0)
+    (sym c.any_busy.ensures ∙ c.if-any_busy.false) _ _ _ _
+    c.load-out.ensures c.in-Accepted.is
 
 returns-3 : tie.Need-returns-in-Refused
 returns-3 c =
-    turned_down _ _ _ (eight c.before.before.before.before.before.before.before.before.before.before.before.before.before.before.before.before.before)
-    (sym c.before.before.before.before.before.before.before.before.before.before.before.before.any_busy.ensures ∙ c.before.before.before.before.before.before.before.before.before.before.before.if-any_busy.false) _ _ _ _
-    c.before.before.before.before.before.before.before.load-out.ensures _ c.before.answer-1.given.1
+    turned_down _ _ _ (good_length (e_struct T.the_type T'.the_laws T'.the_copy) 8 c.args.all _ c.well_formed.0)
+    (sym c.any_busy.ensures ∙ c.if-any_busy.false) _ _ _ _
+    c.load-out.ensures _ c.in-Refused.is
 
 pub load_spec : {M : Type 1} → statement M
 load_spec =
