@@ -121,6 +121,8 @@ module _ (x : Inputs) where
       → KeptAll bs → (cs : List ScreenCall) (xs : List ScreenAnswer) → History DoesAll rs cs xs → AsLeft x cs xs
       → AllTaken run cs xs
   taken-from p rs bs run long t same k [] [] done l = tt
+  taken-from p rs bs run long t same k [] (a ∷ xs) x9 l = elim x9 [ ]
+  taken-from p rs bs run long t same k (c ∷ cs) [] x9 l = elim x9 [ ]
   taken-from p rs bs run long t same k (c ∷ cs) (a ∷ xs) (call {r' = rs'} d h) l =
       let n = tied-step rs rs' bs c a long t d in
       let agree : SameRunning run (running_in bs) = λ i hi. same i hi ∙ sym (tied-same rs bs t i hi) in (
@@ -130,8 +132,6 @@ module _ (x : Inputs) where
             (does-eight rs rs' c a long d) n.1
             (does-follows rs rs' c a long d run same) (kept_target bs k c a l.0 n.0) cs xs h l.1,
       )
-  taken-from p rs bs run long t same k [] (a ∷ xs) h l = elim h [ ]
-  taken-from p rs bs run long t same k (c ∷ cs) [] h l = elim h [ ]
 
 -- ---- from the Load on
 

@@ -27,6 +27,8 @@ pub alone : (i : ℕ) → i < 8 → (rs : List Record) → length rs ≡ 8 → (
     → History Does (at rs i) (own_calls i run cs xs) (own_answers i run cs xs)
 unfolding project
 alone i hi rs long run same [] [] done = done
+alone i hi rs long run same [] (a ∷ xs) x4 = elim x4 [ ]
+alone i hi rs long run same (c ∷ cs) [] x5 = elim x5 [ ]
 alone i hi rs long run same (c ∷ cs) (a ∷ xs) (call {r' = rs'} d h) =
     go (fed_to run i c a) (does-moved rs rs' c a long d run same i hi)
     (alone i hi rs' (does-eight rs rs' c a long d) (followed run c a) (does-follows rs rs' c a long d run same) cs xs h)
@@ -39,8 +41,6 @@ alone i hi rs long run same (c ∷ cs) (a ∷ xs) (call {r' = rs'} d h) =
         subst (λ (r : Record). History Does r (own_calls i (followed run c a) cs xs)
         (own_answers i (followed run c a) cs xs)) e k
     go (some f) e k = call e k
-alone i hi rs long run same [] (a ∷ xs) h = elim h [ ]
-alone i hi rs long run same (c ∷ cs) [] h = elim h [ ]
 
 pub screen-alone : ScreenAlone
 screen-alone i hi rs long cs xs h = alone i hi rs long (runs rs) (λ j l. refl) cs xs h
@@ -70,14 +70,14 @@ screens-references i hi cs xs h =
 pub same-answers : (r : Record) (cs : List Call) (xs ys : List Answer) → History Does r cs xs → History Does r cs ys
     → xs ≡ ys
 same-answers r [] [] [] done done = refl
+same-answers r [] [] (y ∷ ys) _ x7 = elim x7 [ ]
+same-answers r [] (x ∷ xs) ys x6 _ = elim x6 [ ]
+same-answers r (c ∷ cs) [] ys x5 _ = elim x5 [ ]
+same-answers r (c ∷ cs) (x ∷ xs) [] _ x10 = elim x10 [ ]
 same-answers r (c ∷ cs) (x ∷ xs) (y ∷ ys) (call {r'} d h) (call {r' = r''} e k) =
     let q : r'' ≡ r' = e.leaves ∙ sym d.leaves in
     ap₂ (λ (a : Answer) (l : List Answer). a ∷ l) (d.tells ∙ sym e.tells)
     (same-answers r' cs xs ys h (subst (λ (u : Record). History Does u cs ys) q k))
-same-answers r [] [] (y ∷ ys) _ h = elim h [ ]
-same-answers r [] (x ∷ xs) ys h _ = elim h [ ]
-same-answers r (c ∷ cs) [] ys h _ = elim h [ ]
-same-answers r (c ∷ cs) (x ∷ xs) [] _ h = elim h [ ]
 
 -- of two runs of records that agree on the screen alone
 pub isolation-from : (i : ℕ) → i < 8 → (rs qs : List Record) → length rs ≡ 8 → length qs ≡ 8 → at rs i ≡ at qs i

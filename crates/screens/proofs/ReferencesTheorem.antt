@@ -133,14 +133,14 @@ tied-step rs rs' bs c a long t d =
 agrees_from : (rs : List Record) (bs : References) → length rs ≡ 8 → TiedAll rs bs
     → (cs : List ScreenCall) (xs : List ScreenAnswer) → History DoesAll rs cs xs → ScreensAgree bs cs xs
 agrees_from rs bs long t [] [] done = tt
+agrees_from rs bs long t [] (a ∷ xs) x4 = elim x4 [ ]
+agrees_from rs bs long t (c ∷ cs) [] x5 = elim x5 [ ]
 agrees_from rs bs long t (c ∷ cs) (a ∷ xs) (call {r' = rs'} d h) =
     let n = tied-step rs rs' bs c a long t d in (
       n.0,
       agrees_from rs' (references_after bs (target (running_in bs) c) a) (does-eight rs rs' c a long d)
           n.1 cs xs h,
     )
-agrees_from rs bs long t [] (a ∷ xs) h = elim h [ ]
-agrees_from rs bs long t (c ∷ cs) [] h = elim h [ ]
 
 pub fresh-tied : TiedAll eight_fresh (λ i. new_reference)
 fresh-tied i h = subst (λ (r : Record). Tied r new_reference) (sym (fresh_at i h)) model-demand-3

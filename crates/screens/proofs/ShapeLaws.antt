@@ -46,13 +46,13 @@ target-shaped rs (turn i x) =
 pub history-shaped : (rs : List Record) (run : Running) → length rs ≡ 8 → SameRunning run (runs rs)
     → (cs : List ScreenCall) (xs : List ScreenAnswer) → History DoesAll rs cs xs → Shaped run cs xs
 history-shaped rs run long same [] [] done = tt
+history-shaped rs run long same [] (a ∷ xs) x4 = elim x4 [ ]
+history-shaped rs run long same (c ∷ cs) [] x5 = elim x5 [ ]
 history-shaped rs run long same (c ∷ cs) (a ∷ xs) (call {r' = rs'} d h) = (
   rw (target-same run (runs rs) same c, d.tells, on-target rs c long) (target-shaped rs (target (runs rs) c)),
   history-shaped rs' (followed run c a) (does-eight rs rs' c a long d)
       (does-follows rs rs' c a long d run same) cs xs h,
 )
-history-shaped rs run long same [] (a ∷ xs) h = elim h [ ]
-history-shaped rs run long same (c ∷ cs) [] h = elim h [ ]
 
 pub fresh-shaped : (cs : List ScreenCall) (xs : List ScreenAnswer) → History DoesAll eight_fresh cs xs
     → Shaped nobody_runs cs xs

@@ -49,20 +49,20 @@ refused-stays b (outcome o) e = refl
 start-stays : (x : Inputs) (vs bs : List ℕ) (a : Answer) → OwnAnswer (start x vs bs) a → still_runs true a ≡ true
 unfolding still_runs
 start-stays x vs bs (refused m) (refuses n) = refl
+start-stays x vs bs Answer.accepted x'' = elim x'' [ ]
+start-stays x vs bs more x3 = elim x3 [ ]
+start-stays x vs bs finished x4 = elim x4 [ ]
+start-stays x vs bs (outcome _) x6 = elim x6 [ ]
 start-stays x vs bs (parts q) (starts p) = refl
-start-stays x vs bs Answer.accepted h = elim h [ ]
-start-stays x vs bs more h = elim h [ ]
-start-stays x vs bs finished h = elim h [ ]
-start-stays x vs bs (outcome _) h = elim h [ ]
 
 read_stays : (a : Answer) → OwnAnswer read a → still_runs true a ≡ true
 unfolding still_runs
 read_stays (refused m) (refuses n) = refl
+read_stays Answer.accepted x' = elim x' [ ]
+read_stays (parts _) x3 = elim x3 [ ]
+read_stays more x3 = elim x3 [ ]
+read_stays finished x4 = elim x4 [ ]
 read_stays (outcome q) (reads o) = refl
-read_stays Answer.accepted h = elim h [ ]
-read_stays (parts _) h = elim h [ ]
-read_stays more h = elim h [ ]
-read_stays finished h = elim h [ ]
 
 -- ---- one call
 

@@ -1,4 +1,4 @@
--- The promise of a call on a run of eight structs. Where the code reads a struct of the run, t is what it would have beyond the run.
+-- What the calls on a run of eight structs end in: their promises.
 --     not-eight-done, nobody-done    a refusal before any screen: 25, or the target's number
 --     screen-done, turn-done         the session's own call on one of the structs, which is stored where it was
 --     beyond-screen, to-screen, beyond-deal, deal-none, deal-served    the same by the numbers that the code has
@@ -22,7 +22,6 @@ use Rattle.screens.proofs.RecordLaws.{refused-is}
 use Rattle.screens.proofs.TargetLaws.{number_in, number-out}
 use Rattle.screens.proofs.FoundLaws.{found_none, found_turn}
 use Rattle.screens.proofs.EightLaws.{answer-turn}
-use Rattle.session.specs.declared.state.Phase.{Phase}
 use Rattle.session.specs.declared.state.Session.{Session}
 use Rattle.session.specs.Records.{fresh_session}
 use Rattle.session.specs.Promises.{CallDone, answer_on}
@@ -30,7 +29,7 @@ use Rattle.screens.specs.in_place.OnStructs.{at, runs, runs_in, target_in, answe
 use Rattle.screens.specs.in_place.OnStructs.{structs_all, OwnDone}
 use Rattle.screens.specs.in_place.OnStructs.{ScreenDone}
 use Rattle.screens.proofs.in_place.BusyLaws.{at-any}
-use Rattle.screens.proofs.in_place.FoundLaws.{phases_or, phases-any, found-phases}
+use Rattle.screens.proofs.in_place.FoundLaws.{phases, found-phases}
 
 -- a struct that is stored where it was
 set_at : (ss : List Session) (i : ℕ) → set ss i (at ss i) ≡ ss
@@ -134,12 +133,18 @@ pub beyond-screen : (ss : List Session) (c : ScreenCall) (i : ℕ) (d : Call) �
     → ScreenDone ss c (one (refused 25)) ss
 beyond-screen ss c i d e l h = nobody-done ss c l 25 (e ∙ number-out i (screen i d) h)
 
-pub to-screen : (ss : List Session) (c : ScreenCall) (i : ℕ) (d : Call) → Names ss c i d → (t : Session) (a : Answer)
-    (s' : Session) → length ss ≡ 8 → i ≤ 7
-    → CallDone (get_or ss i t) d a s' → ScreenDone ss c (one a) (set ss i s')
-to-screen ss c i d e t a s' l h D =
+-- what is promised of the struct that was read, whatever is read past the run's end
+read-at : (P : Session → Type 0) (ss : List Session) (i : ℕ) (u : Session) → length ss ≡ 8 → i ≤ 7 → P (get_or ss i u)
+    → P (at ss i)
+read-at P ss i u l h p = subst P (at-any ss i u (omega arith)) p
+
+pub to-screen : (ss : List Session) (c : ScreenCall) (i : ℕ) (d : Call) → Names ss c i d
+    → (a : Answer) (s' u : Session)
+    → length ss ≡ 8 → i ≤ 7
+    → CallDone (get_or ss i u) d a s' → ScreenDone ss c (one a) (set ss i s')
+to-screen ss c i d e a s' u l h D =
     screen-done ss c l i (omega arith) s' d a (e ∙ number_in i (screen i d) (omega arith))
-    (subst (λ (s : Session). CallDone s d a s') (at-any ss i t (omega arith)) D)
+    (read-at (λ s. CallDone s d a s') ss i u l h D)
 
 -- ---- a deal
 
@@ -148,27 +153,27 @@ pub beyond-deal : (ss : List Session) (k : ℕ) (x : Inputs) → length ss ≡ 8
 unfolding target_in target
 beyond-deal ss k x l h = nobody-done ss (deal k x) l 25 (number-out k (deal_target (next_running (runs ss) k) x) h)
 
-found-is : (ss : List Session) (t : Session) (k f : ℕ) → length ss ≡ 8 → k ≤ 7 → f ≡ found (runs_in (phases_or ss t)) k
-    → f ≡ found (runs ss) k
-found-is ss t k f l h e =
-    e ∙ ap (λ (ps : List Phase). found (runs_in ps) k) (phases-any ss t l) ∙ found-phases ss k (omega arith)
+found-is : (ss : List Session) (u : Session) (k f : ℕ) → length ss ≡ 8 → k ≤ 7
+    → f ≡ found (runs_in (phases u ss)) k → f ≡ found (runs ss) k
+found-is ss u k f l h e = e ∙ found-phases ss u k l (omega arith)
 
-pub deal-none : (ss : List Session) (t : Session) (k f : ℕ) (x : Inputs) → length ss ≡ 8 → k ≤ 7
-    → f ≡ found (runs_in (phases_or ss t)) k → 7 < f
+pub deal-none : (ss : List Session) (u : Session) (k f : ℕ) (x : Inputs) → length ss ≡ 8 → k ≤ 7
+    → f ≡ found (runs_in (phases u ss)) k → 7 < f
     → ScreenDone ss (deal k x) (one (refused 1)) ss
 unfolding target_in
-deal-none ss t k f x l h e big =
-    nobody-done ss (deal k x) l 1 (found_none (runs ss) k f x (omega arith) (found-is ss t k f l h e) big)
+deal-none ss u k f x l h e big =
+    nobody-done ss (deal k x) l 1 (found_none (runs ss) k f x (omega arith) (found-is ss u k f l h e) big)
 
-pub deal-served : (ss : List Session) (t u : Session) (k f : ℕ) (x : Inputs) (b : ScreenAnswer) (a : Answer) (s' : Session)
+pub deal-served : (ss : List Session) (u : Session) (k f : ℕ) (x : Inputs) (b : ScreenAnswer) (a : Answer)
+    (s' v : Session)
     → length ss ≡ 8 → k ≤ 7
-    → f ≡ found (runs_in (phases_or ss t)) k → f ≤ 7 → b ≡ turn_answer f a → CallDone (get_or ss f u) (advance x) a s'
+    → f ≡ found (runs_in (phases u ss)) k → f ≤ 7 → b ≡ turn_answer f a → CallDone (get_or ss f v) (advance x) a s'
     → ScreenDone ss (deal k x) b (set ss f s')
 unfolding target_in
-deal-served ss t u k f x b a s' l h e small q D =
+deal-served ss u k f x b a s' v l h e small q D =
     turn-done ss (deal k x) l f (omega arith) s' x a b
-    (found_turn (runs ss) k f x (omega arith) (found-is ss t k f l h e) small)
-    (subst (λ (s : Session). CallDone s (advance x) a s') (at-any ss f u (omega arith)) D) q
+    (found_turn (runs ss) k f x (omega arith) (found-is ss u k f l h e) small)
+    (read-at (λ s. CallDone s (advance x) a s') ss f v l small D) q
 
 -- ---- Read
 
@@ -178,9 +183,10 @@ no-run-read ss i h = (not-eight-done ss (read_on i) h).tells
 pub no-screen-read : (ss : List Session) (i : ℕ) → length ss ≡ 8 → 7 < i → one (refused 25) ≡ answer_all ss (read_on i)
 no-screen-read ss i l h = (beyond-screen ss (read_on i) i read (names-read ss i) l h).tells
 
-pub read_done : (ss : List Session) (t : Session) (i : ℕ) (a : Answer) → length ss ≡ 8 → i ≤ 7
-    → a ≡ answer_on (get_or ss i t) read → one a ≡ answer_all ss (read_on i)
+pub read_done : (ss : List Session) (i : ℕ) (a : Answer) (u : Session) → length ss ≡ 8 → i ≤ 7
+    → a ≡ answer_on (get_or ss i u) read
+    → one a ≡ answer_all ss (read_on i)
 unfolding answer_of
-read_done ss t i a l h e =
-    ap one (e ∙ ap (λ (s : Session). answer_on s read) (at-any ss i t (omega arith))) ∙ sym (answer-by ss (read_on i) l (screen i read)
+read_done ss i a u l h e =
+    ap one (read-at (λ s. a ≡ answer_on s read) ss i u l h e) ∙ sym (answer-by ss (read_on i) l (screen i read)
     (names-read ss i ∙ number_in i (screen i read) (omega arith)))

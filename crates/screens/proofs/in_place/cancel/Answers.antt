@@ -1,4 +1,3 @@
--- `screens::in_place::cancel` meets its contract: Cancel by value on the screen's struct, which is stored where it was.
 use Rattle.model.specs.Calls.{cancel}
 use Rattle.session.specs.Answers.{call_answer}
 use Rattle.screens.proofs.in_place.DoneLaws.{not-eight-done, names-cancel, beyond-screen, to-screen}

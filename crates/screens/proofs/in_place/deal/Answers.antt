@@ -1,5 +1,3 @@
--- `screens::in_place::deal` meets its contract: an advance by value on the struct of the next running screen, which is
--- stored where it was.
 use Rattle.screens.specs.in_place.OnStructs.{deal_answer}
 use Rattle.screens.proofs.in_place.DoneLaws.{not-eight-done, beyond-deal, deal-none, deal-served}
 use Rattle.screens.proofs.in_place.deal.Goals as goal
@@ -10,7 +8,8 @@ returns-then-all-ne-SCREENS c = not-eight-done _ _ c.if-all-ne-SCREENS.true
 
 pub returns-then-first-gt-LAST_SCREEN : goal.returns-then-first-gt-LAST_SCREEN
 unfolding deal_answer
-returns-then-first-gt-LAST_SCREEN c = beyond-deal _ _ _ c.if-all-ne-SCREENS.false c.if-first-gt-LAST_SCREEN.true
+returns-then-first-gt-LAST_SCREEN c =
+    beyond-deal _ _ _ c.if-all-ne-SCREENS.false c.if-first-gt-LAST_SCREEN.true
 
 pub returns-then-at-gt-LAST_SCREEN : goal.returns-then-at-gt-LAST_SCREEN
 unfolding deal_answer

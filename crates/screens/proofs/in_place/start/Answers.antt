@@ -1,4 +1,3 @@
--- `screens::in_place::start` meets its contract: Start by value on the screen's struct, which is stored where it was.
 use Rattle.session.specs.Answers.{start_answer}
 use Rattle.screens.proofs.in_place.DoneLaws.{not-eight-done, names-start, beyond-screen, to-screen}
 use Rattle.screens.proofs.in_place.start.Goals as goal

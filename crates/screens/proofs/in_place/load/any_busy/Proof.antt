@@ -29,17 +29,19 @@ loop-holds c = (omega arith, refl)
 
 returns : tie.Need-returns-then-is_busy invariant-loop decreases-loop
 returns c =
+    let b = c.before.before.before.before.before in
     let l = c.loop-left in
     any_here _ l.left (omega arith)
-    (busy-at c.args.all (l.left - 1) _ (eight c.before.before.before.before.before) (omega arith) ∙ sym c.is_busy.ensures ∙ c.if-is_busy.true)
+    (busy-at b.args.all (l.left - 1) _ (eight b) (omega arith) ∙ sym c.is_busy.ensures ∙ c.if-is_busy.true)
     l.invariant.1
 
 loop-again : tie.Need-loop-left-preserved invariant-loop decreases-loop
 loop-again c =
+    let b = c.before.before.before.before.before in
     let l = c.loop-left in (
       omega arith,
       any-on _ l.left (omega arith)
-          (busy-at c.args.all (l.left - 1) _ (eight c.before.before.before.before.before) (omega arith) ∙ sym c.is_busy.ensures
+          (busy-at b.args.all (l.left - 1) _ (eight b) (omega arith) ∙ sym c.is_busy.ensures
           ∙ c.if-is_busy.false)
           l.invariant.1,
     )

@@ -1,6 +1,5 @@
 -- `screens::in_place::load::load` meets its contract.
-use mathlib.Core.Path.{◌≡◌, sym, ◌∙◌}
-use lib.ListN.{length}
+use mathlib.Core.Path.{sym, ◌∙◌}
 use borrow.Kind.Array.{e_struct, good_length}
 use Rattle.session.specs.contracts.state.Session as T
 use Rattle.session.proofs.state.Session.TheLaws as T'
@@ -9,24 +8,20 @@ use borrow.Author.Rules.{rules}
 use Rattle.screens.proofs.in_place.load.load.Statement.{statement}
 use Rattle.screens.proofs.in_place.load.load.Tie as tie
 
--- the array's length
-eight : (b : tie.Start) → length b.args.all ≡ 8
-eight b = good_length (e_struct T.the_type T'.the_laws T'.the_copy) 8 b.args.all _ b.well_formed.0
-
 returns : tie.Need-returns-then-any_busy
 returns c =
-    one-busy _ _ (eight c.before.before.before.before.before.before)
+    one-busy _ _ (good_length (e_struct T.the_type T'.the_laws T'.the_copy) 8 c.args.all _ c.well_formed.0)
     (sym c.any_busy.ensures ∙ c.if-any_busy.true)
 
 returns-2 : tie.Need-returns-in-Accepted
 returns-2 c =
-    cleared _ _ _ (eight c.before.before.before.before.before.before.before.before.before.before.before.before.before.before.before.before)
+    cleared _ _ _ (good_length (e_struct T.the_type T'.the_laws T'.the_copy) 8 c.args.all _ c.well_formed.0)
     (sym c.any_busy.ensures ∙ c.if-any_busy.false) _ _ _ _
     c.load-out.ensures c.in-Accepted.is
 
 returns-3 : tie.Need-returns-in-Refused
 returns-3 c =
-    turned_down _ _ _ (eight c.before.before.before.before.before.before.before.before.before.before.before.before.before.before.before)
+    turned_down _ _ _ (good_length (e_struct T.the_type T'.the_laws T'.the_copy) 8 c.args.all _ c.well_formed.0)
     (sym c.any_busy.ensures ∙ c.if-any_busy.false) _ _ _ _
     c.load-out.ensures _ c.in-Refused.is
 
