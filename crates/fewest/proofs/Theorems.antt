@@ -81,14 +81,11 @@ every-member : all_to 64 (member every_label) ≡ true
 unfolding all_to member
 every-member = refl
 
-pub every-bit : (b : ℕ) → b < 64 → member every_label b ≡ true
-every-bit b h = all-at 64 (member every_label) every-member b h
-
 pub every-label : (may : List ℕ) → length may ≡ 0 → (v b : ℕ) → b < label_limit → may_be may v b ≡ true
 unfolding stock_of
 every-label may e v b h =
     ap (λ (c : Bool). member (cond c every_label (get_or may v 0)) b) (eq-eqb (length may) 0 e)
-    ∙ every-bit b h
+    ∙ all-at 64 (member every_label) every-member b h
 
 -- ---- an accepted call
 

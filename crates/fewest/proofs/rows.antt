@@ -1,4 +1,2 @@
-pub mod SetLaws
 pub mod RowLaws
 pub mod ImageLaws
-pub mod OtherLaws

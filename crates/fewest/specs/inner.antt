@@ -1,5 +1,4 @@
 pub mod Cost
-pub mod Sets
 pub mod Rows
 pub mod Images
 pub mod Problems

@@ -2,11 +2,9 @@
 //     relax    an inner node's row, way by way
 //     images   the states that all labels give, as sets
 //     leaves   a leaf's row
-//     sets     sets of labels, member by member
 pub mod images;
 pub mod leaves;
 pub mod relax;
-pub mod sets;
 
 // The cost that stands for "no way": no plan has so many nodes.
 pub const NO_WAY: u32 = 65536;

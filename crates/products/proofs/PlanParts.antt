@@ -3,11 +3,11 @@
 --     one_below, below_one      of a leaf
 use Prim.Native.Nat.{ℕ, ◌<◌}
 use mathlib.Core.Path.{◌≡◌, refl}
-use mathlib.Core.Bool.{Bool, true, false, ◌&&◌}
+use mathlib.Core.Bool.{true}
 use mathlib.Core.List.{List, [], ◌∷◌, ◌++◌}
 use lib.Dec.{ltb}
 use borrow.Author.Tests.{ltb-true, lt-ltb}
-use Rattle.trees.specs.Tree.{Tree, leaf, node, labels_of}
+use Rattle.trees.specs.Tree.{Tree, node, labels_of}
 use Rattle.trees.proofs.MoveLaws.{both}
 use Rattle.list_laws.specs.Tests.{all_below}
 use Rattle.list_laws.proofs.BoolLaws.{and_both}

@@ -4,12 +4,11 @@
 --     product-accepts    so its answer is the joined answers
 --     product-below      and its states are below the product of the counts
 use Prim.Native.Nat.{ℕ, ◌+◌, ◌*◌, ◌/◌, ◌%◌, ◌<◌}
-use mathlib.Core.Path.{◌≡◌, refl, sym, ap, ap₂, ◌∙◌}
+use mathlib.Core.Path.{◌≡◌, refl, ap, ap₂, ◌∙◌}
 use mathlib.Core.Bool.{Bool}
-use native.Mathlib.Omega.{arith}
 use lib.Arith.{digits_div, digits_mod, digits_lt}
 use Rattle.trees.specs.Tree.{Tree, leaf, node}
-use Rattle.trees.specs.Automaton.{Automaton, root_label, run, state, accepts}
+use Rattle.trees.specs.Automaton.{Automaton, run, state, accepts}
 use Rattle.products.specs.Product.{product, pair_tree}
 
 module _ (f : Bool → Bool → Bool) (A B : Automaton) (below : (t : Tree) → state B t < B.states) where

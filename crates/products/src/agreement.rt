@@ -6,8 +6,7 @@ pub mod reachable;
 
 ghost use Rattle.std.specs.Prelude.{◌≡◌, []};
 ghost use Rattle.products.specs.agreement.reachable.SearchRecord.{lines_to};
-ghost use Rattle.products.specs.agreement.Reply.{reply_of, shown_reply, FrontArgs, Front, CutArgs, AgreeDone};
-ghost use Rattle.products.specs.TwoTables.{TwoTables};
+ghost use Rattle.products.specs.agreement.Reply.{reply_of, shown_reply, FrontArgs, Front, CutArgs, AnswerArgs, AgreeDone};
 
 use crate::agreement::reachable::{
     PAIR_LIMIT, Search, empty_search, first_differing, over_leaves, searched,
@@ -81,7 +80,7 @@ fn cut(t: Search, s1: usize, s2: usize, n: usize) -> Agreement
 
 // The reply for two tables that pass their checks.
 fn answered(first: &[u8], second: &[u8], s1: usize, s2: usize, k: usize) -> Agreement
-    requires { TwoTables first.now second.now s1 s2 k }
+    requires { AnswerArgs first.now second.now s1 s2 k }
     ensures { result ≡ reply_of 0 (shown_reply first.now second.now) }
 {
     let i = RULES_HEAD + k;

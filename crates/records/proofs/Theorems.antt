@@ -21,7 +21,6 @@ use Rattle.formats.proofs.ByteLaws.{bytes-number, number-bytes}
 use Rattle.list_laws.proofs.SliceLaws.{length_part}
 use Rattle.list_laws.proofs.BoolLaws.{and_left, and_right, and_both}
 use Rattle.session.specs.declared.state.Session.{Session}
-use Rattle.session.specs.declared.state.Last.{Last}
 use Rattle.session.specs.Records.{zero_from, no_question, is_none, valid_in, valid, fresh_session}
 use Rattle.records.specs.Layout.{numbers16, bytes16, phase_byte, yes_byte, head_bytes, last_bytes, rest_bytes, encoded}
 use Rattle.records.specs.Layout.{run, decoded_head, decoded_last, decoded, flags_fit, laid_out, valid_bytes, InTypes, Bytes}

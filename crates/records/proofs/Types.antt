@@ -1,6 +1,6 @@
 -- What a struct's types say, from what the prover knows of every struct that code holds.
 use native.Mathlib.Omega.{arith}
-use lib.ListN.{length, get_or}
+use lib.ListN.{get_or}
 use denote.Laws.{Is}
 use denote.Struct.Laws as S
 use mir.Syntax.{w8, w16}

@@ -1,14 +1,13 @@
 -- The iterations of the pass over a plan's nodes.
---     top-most, inner-two, rule-args, left_below     what the machine asks in an iteration
+--     top-most, inner-two, rule-args, left-state     what the machine asks in an iteration
 --     leaf-step, inner-step   the iteration of a node
 --     stretch-start, stretch-step     the nodes up to the next mark: what holds at first, and an iteration keeps it
 --     stretch-inside, stretch-before  no mark is passed
 --     Passed, span-start, span-step, span-end   the nodes whose changes are marked
---     part-stacked, part-done, part_same   the nodes from v on, as a list of their own
 --     pass-start, pass-end   the whole pass: what holds before its first node, and what its last one returns
 -- Not here: the marks (ChangeLaws).
 use Prim.Native.Nat.{ℕ, ◌+◌, ◌-◌, ◌*◌, ◌≤◌, ◌<◌}
-use mathlib.Core.Path.{◌≡◌, refl, sym, ap, ap₂, ◌∙◌, subst}
+use mathlib.Core.Path.{◌≡◌, refl, sym, ap, ap₂, ◌∙◌}
 use mathlib.Core.Bool.{true}
 use mathlib.Core.List.{List, [], ◌∷◌}
 use mathlib.Core.Option.{Option, none, some}
@@ -17,7 +16,7 @@ use native.Mathlib.Nat.{mul-le-mul_right}
 use native.Mathlib.Omega.{arith}
 use borrow.Author.Tests.{eqb-true}
 use lib.ListN.{length, get_or, set, drop, length-set, length-drop, drop_of_length-le}
-use lib.Seq.{get_or-set_same, get_or-set_other, get_or-drop, drop-drop}
+use lib.Seq.{get_or-set_same, get_or-set_other}
 use Rattle.trees.specs.Automaton.{Automaton, state}
 use Rattle.trees.specs.Postorder.{waiting, is_single, is_postorder, tree_of}
 use Rattle.trees.proofs.PostorderLaws.{state-fold, read_whole, tree_of-kinds, tree_of-labels}
@@ -51,7 +50,7 @@ rule-args {s = s} {k = k} {p = p} {a = a} hp ha hq hs hk e =
 -- no more trees wait than half the nodes, rounded up
 pub top-most : {ks : List ℕ} {s : ℕ} {st : List ℕ} {w : Waiting} → Stacked ks s st w → w.count < length st
 top-most {ks = ks} {w = w} p =
-    omega (arith, waiting-most (drop w.node ks) w.count p.one, length-drop w.node ks, p.here, p.room)
+    omega (arith, waiting-most (drop w.node ks) w.count p.one, length-drop w.node ks, p.few, p.here, p.room)
 
 -- ---- the iteration of a node
 
@@ -61,7 +60,8 @@ module _ {ks : List ℕ} {s : ℕ} {st : List ℕ} {w : Waiting} (p : Stacked ks
       → Stacked ks s (set st w.count w.last) (trees (w.node + 1) (w.count + 1) y)
   leaf-stacked e y l most = record {
     here = omega arith;
-    room = omega (arith, length-set st w.count w.last, p.room);
+    room = rw length-set p.room;
+    few = omega (arith, p.few);
     one = sym (leaf-at ks w.node h w.count e) ∙ p.one;
     last_below = omega arith;
     last_state = λ z. l;
@@ -88,17 +88,22 @@ module _ {ks : List ℕ} {s : ℕ} {st : List ℕ} {w : Waiting} (p : Stacked ks
         ]
 
     -- the left child's state is in its cell
-    pub left_below : get_or st (w.count - 1) 0 < s
-    left_below = p.below (w.count - 1) (omega (arith, inner-two)) (omega (arith, inner-two))
+    pub left-state : get_or (set st w.count w.last) (w.count - 1) 0 ≡ get_or st (w.count - 1) 0
+    left-state = get_or-set_other st w.count (w.count - 1) w.last 0 (λ e. omega (arith, inner-two))
 
-    inner-stacked : (y : ℕ) → y < s → s ≤ 16 → Stacked ks s st (trees (w.node + 1) (w.count - 1) y)
+    pub left_below : get_or (set st w.count w.last) (w.count - 1) 0 < s
+    left_below = rw left-state (p.below (w.count - 1) (omega (arith, inner-two)) (omega (arith, inner-two)))
+
+    inner-stacked : (y : ℕ) → y < s → s ≤ 16
+        → Stacked ks s (set st w.count w.last) (trees (w.node + 1) (w.count - 1) y)
     inner-stacked y l most = record {
       here = omega arith;
-      room = omega (arith, p.room, inner-two);
+      room = rw length-set p.room;
+      few = omega (arith, p.few);
       one = sym (inner-at ks w.node h w.count inner-kind inner-two) ∙ p.one;
       last_below = omega arith;
       last_state = λ z. l;
-      below = λ i a b. p.below i a (omega arith);
+      below = λ i a b. rw (get_or-set_other st w.count i w.last 0 (λ e. omega arith)) (p.below i a (omega arith));
     }
 
 module _ {ks lv inn : List ℕ} {s k a : ℕ} {st : List ℕ} {w : Waiting} (r : RuleStates ks lv inn s k) (p : Stacked ks s st w)
@@ -116,26 +121,26 @@ module _ {ks lv inn : List ℕ} {s k a : ℕ} {st : List ℕ} {w : Waiting} (r :
   }
 
   pub inner-step : (get_or ks w.node 0 ≡ 0 → ⊥)
-      → StepDone ks lv inn s k a st w st
-      (trees (w.node + 1) (w.count - 1) (inner_of s k inn (get_or st (w.count - 1) 0) a w.last))
+      → StepDone ks lv inn s k a st w (set st w.count w.last)
+      (trees (w.node + 1) (w.count - 1) (inner_of s k inn (get_or (set st w.count w.last) (w.count - 1) 0) a w.last))
   inner-step ne =
       let top : ℕ = w.count in
       let x : ℕ = w.last in
-      let q : ℕ = get_or st (w.count - 1) 0 in
+      let q : ℕ = get_or (set st w.count w.last) (w.count - 1) 0 in
       let y : ℕ = inner_of s k inn q a x in
       let two : 2 ≤ w.count = inner-two p h ne in
       let i : ℕ = w.count - 2 in
       let f : w.count ≡ i + 2 = omega arith in
       let g : w.count - 1 ≡ i + 1 = omega arith in
-      let left : q ≡ get_or st (i + 1) 0 = ap (λ (j : ℕ). get_or st j 0) g in
+      let left : q ≡ get_or st (i + 1) 0 = left-state p h ne ∙ ap (λ (j : ℕ). get_or st j 0) g in
       record {
         next = refl;
         stacked = inner-stacked p h ne y (r.inner_below ((q * k + a) * s + x)) r.states;
-        size = refl;
+        size = length-set st w.count w.last;
         same = λ bs l m.
             ap (reads s k lv inn (drop (w.node + 1) ks) (drop (w.node + 1) bs))
-            (ap (λ (j : ℕ). stack_of st j y) g
-            ∙ stack-join st i y
+            (ap (λ (j : ℕ). stack_of (set st top x) j y) g
+            ∙ stack-join st i top x y (omega arith)
             ∙ ap₂ (λ (t b : ℕ). inner_of s k inn t b x ∷ lower_of st i) left m)
             ∙ sym (read-inner (leaf_of lv) (inner_of s k inn) ks bs w.node h (omega (arith, l)) (get_or st (i + 1) 0) x (lower_of st i)
             (inner-kind p h ne))
@@ -144,8 +149,8 @@ module _ {ks lv inn : List ℕ} {s k a : ℕ} {st : List ℕ} {w : Waiting} (r :
 
 -- ---- the nodes up to the next mark
 
-pub stretch-start : {ks ls cs lv inn : List ℕ} {s k : ℕ} {st : List ℕ} {w : Waiting} → Stacked ks s st w
-    → StretchDone ks ls cs lv inn s k st w st w
+pub stretch-start : {ks ls cs : List ℕ} {from : ℕ} {lv inn : List ℕ} {s k : ℕ} {st : List ℕ} {w : Waiting} → Stacked ks s st w
+    → StretchDone ks ls cs from lv inn s k st w st w
 stretch-start p = record {
   rising = omega arith;
   unlisted = λ u g h. absurd (omega arith);
@@ -155,8 +160,8 @@ stretch-start p = record {
 }
 
 -- no mark is passed
-pub stretch-inside : {ks ls cs lv inn : List ℕ} {s k : ℕ} {st st' : List ℕ} {w w' : Waiting}
-    → (a : StretchArgs ks ls cs k w) → StretchDone ks ls cs lv inn s k st w st' w' → w'.node ≤ a.end
+pub stretch-inside : {ks ls cs : List ℕ} {from : ℕ} {lv inn : List ℕ} {s k : ℕ} {st st' : List ℕ} {w w' : Waiting}
+    → (a : StretchArgs ks ls cs from k w) → StretchDone ks ls cs from lv inn s k st w st' w' → w'.node ≤ a.end
 stretch-inside {w' = w'} a d =
     elim (dec_lt a.end w'.node) [
       | yes l ↦ absurd (omega (arith, d.unlisted a.end a.ahead l, a.stop))
@@ -164,24 +169,24 @@ stretch-inside {w' = w'} a d =
     ]
 
 -- nor is there one at a node that is not listed
-pub stretch-before : {ks ls cs lv inn : List ℕ} {s k : ℕ} {st st' : List ℕ} {w w' : Waiting}
-    → (a : StretchArgs ks ls cs k w) → StretchDone ks ls cs lv inn s k st w st' w' → get_or cs w'.node 0 ≡ 255
+pub stretch-before : {ks ls cs : List ℕ} {from : ℕ} {lv inn : List ℕ} {s k : ℕ} {st st' : List ℕ} {w w' : Waiting}
+    → (a : StretchArgs ks ls cs from k w) → StretchDone ks ls cs from lv inn s k st w st' w' → get_or cs (w'.node - from) 0 ≡ 255
     → w'.node < a.end
-stretch-before {cs = cs} {w' = w'} a d e =
+stretch-before {cs = cs} {from = from} {w' = w'} a d e =
     elim (ℕ_discrete w'.node a.end) [
       | yes q ↦ (
-          let z : get_or cs w'.node 0 ≡ 0 = ap (λ (u : ℕ). get_or cs u 0) q ∙ a.stop in
+          let z : get_or cs (w'.node - from) 0 ≡ 0 = ap (λ (u : ℕ). get_or cs (u - from) 0) q ∙ a.stop in
           absurd (omega arith))
       | no q ↦ omega (arith, stretch-inside a d)
     ]
 
-pub stretch-step : {ks ls cs lv inn : List ℕ} {s k a : ℕ} {st₀ st st' : List ℕ} {w₀ w w' : Waiting}
-    → StretchDone ks ls cs lv inn s k st₀ w₀ st w → get_or cs w.node 0 ≡ 255 → a ≡ get_or ls w.node 0
-    → StepDone ks lv inn s k a st w st' w' → StretchDone ks ls cs lv inn s k st₀ w₀ st' w'
-stretch-step {cs = cs} {w = w} d e f n = record {
+pub stretch-step : {ks ls cs : List ℕ} {from : ℕ} {lv inn : List ℕ} {s k a : ℕ} {st₀ st st' : List ℕ} {w₀ w w' : Waiting}
+    → StretchDone ks ls cs from lv inn s k st₀ w₀ st w → get_or cs (w.node - from) 0 ≡ 255 → a ≡ get_or ls w.node 0
+    → StepDone ks lv inn s k a st w st' w' → StretchDone ks ls cs from lv inn s k st₀ w₀ st' w'
+stretch-step {cs = cs} {from = from} {w = w} d e f n = record {
   rising = omega (arith, d.rising, n.next);
   unlisted = λ u g h. elim (ℕ_discrete u w.node) [
-    | yes q ↦ ap (λ (x : ℕ). get_or cs x 0) q ∙ e
+    | yes q ↦ ap (λ (x : ℕ). get_or cs (x - from) 0) q ∙ e
     | no q ↦ d.unlisted u g (omega (arith, n.next))
   ];
   stacked = n.stacked;
@@ -201,7 +206,7 @@ pub record Passed (ks ls cs : List ℕ) (to : ℕ) (lv inn : List ℕ) (s k : �
   pub stacked : Stacked ks s st w
   pub size : length st ≡ length st₀
   pub same : (bs : List ℕ) → length bs ≡ length ks
-      → ((u : ℕ) → w₀.node ≤ u → u < to → marked (get_or ls u 0) (get_or cs u 0) ≡ get_or bs u 0)
+      → ((u : ℕ) → w₀.node ≤ u → u < to → marked (get_or ls u 0) (get_or cs (u - w₀.node) 0) ≡ get_or bs u 0)
       → read_on s k lv inn ks bs st w ≡ read_on s k lv inn ks bs st₀ w₀
 
 pub span-start : {ks ls cs : List ℕ} {to : ℕ} {lv inn : List ℕ} {s k : ℕ} {st : List ℕ} {w : Waiting} → w.node ≤ to
@@ -215,10 +220,11 @@ span-end p h = record { reached = omega (arith, p.inside); stacked = p.stacked; 
 module _ {ks ls cs : List ℕ} {to : ℕ} {lv inn : List ℕ} {s k : ℕ} {st₀ st : List ℕ} {w₀ w t : Waiting}
     (a : SpanArgs ks ls cs to k w₀) (p : Passed ks ls cs to lv inn s k st₀ w₀ st w) (h : w.node < to) where
   -- after the iteration of one node
-  pub stretch-args : t.node ≡ w.node + 1 → StretchArgs ks ls cs k t
+  pub stretch-args : t.node ≡ w.node + 1 → StretchArgs ks ls cs w₀.node k t
   stretch-args n = record {
     labelled = a.labelled;
     labels_below = a.labels_below;
+    first = omega (arith, p.rising);
     end = to;
     ahead = omega arith;
     inside = a.inside;
@@ -226,8 +232,8 @@ module _ {ks ls cs : List ℕ} {to : ℕ} {lv inn : List ℕ} {s k : ℕ} {st₀
     stop = a.stop;
   }
 
-  pub span-step : {b : ℕ} {st₁ st' : List ℕ} {w' : Waiting} → b ≡ marked (get_or ls w.node 0) (get_or cs w.node 0)
-      → StepDone ks lv inn s k b st w st₁ t → StretchDone ks ls cs lv inn s k st₁ t st' w'
+  pub span-step : {b : ℕ} {st₁ st' : List ℕ} {w' : Waiting} → b ≡ marked (get_or ls w.node 0) (get_or cs (w.node - w₀.node) 0)
+      → StepDone ks lv inn s k b st w st₁ t → StretchDone ks ls cs w₀.node lv inn s k st₁ t st' w'
       → Passed ks ls cs to lv inn s k st₀ w₀ st' w'
   unfolding stretch-args
   span-step {w' = w'} e n d =
@@ -238,63 +244,11 @@ module _ {ks ls cs : List ℕ} {to : ℕ} {lv inn : List ℕ} {s k : ℕ} {st₀
         stacked = d.stacked;
         size = d.size ∙ n.size ∙ p.size;
         same = λ bs l m.
-            d.same bs l (λ u g z. sym (marked-none (get_or ls u 0) (get_or cs u 0) (d.unlisted u g z))
+            d.same bs l (λ u g z. sym (marked-none (get_or ls u 0) (get_or cs (u - w₀.node) 0) (d.unlisted u g z))
             ∙ m u (omega (arith, p.rising, n.next)) (omega arith))
             ∙ n.same bs l (e ∙ m w.node p.rising h)
             ∙ p.same bs l m;
       }
-
--- ---- the nodes from v on, as a list of their own
-
-module _ {ks : List ℕ} {s : ℕ} {st : List ℕ} {v : ℕ} (g : v ≤ length ks) where
-  pub part-stacked : {top x : ℕ} → Stacked ks s st (trees v top x) → Stacked (drop v ks) s st (trees 0 top x)
-  part-stacked p = record {
-    here = omega arith;
-    room = omega (arith, length-drop v ks, p.room);
-    one = p.one;
-    last_below = p.last_below;
-    last_state = p.last_state;
-    below = p.below;
-  }
-
-  whole-stacked : {to : ℕ} {w : Waiting} → v + w.node ≡ to → Stacked (drop v ks) s st w
-      → Stacked ks s st (trees to w.count w.last)
-  whole-stacked {to = to} {w = w} e p = record {
-    here = omega (arith, length-drop v ks, p.here);
-    room = omega (arith, length-drop v ks, p.room);
-    one =
-        ap (λ (l : List ℕ). waiting l w.count) (sym (drop-drop w.node v ks ∙ ap (λ (i : ℕ). drop i ks) e)) ∙ p.one;
-    last_below = p.last_below;
-    last_state = p.last_state;
-    below = p.below;
-  }
-
--- what holds of the part after its nodes up to before `to` holds of the whole
-module _ (ks ls : List ℕ) (v to : ℕ) {kp lp cs lv inn : List ℕ} {s k : ℕ} {st st' : List ℕ} {top x : ℕ} {w : Waiting}
-    (g : v ≤ to) (h : to ≤ length ks) (ek : kp ≡ drop v ks) (el : lp ≡ drop v ls)
-    (d : SpanDone kp lp cs (to - v) lv inn s k st (trees 0 top x) st' w) where
-  reached : v + w.node ≡ to
-  reached = omega (arith, d.reached)
-
-  pub part-done : Stacked ks s st' (trees to w.count w.last)
-  part-done = whole-stacked (omega arith) reached (subst (λ (l : List ℕ). Stacked l s st' w) ek d.stacked)
-
-  pub part_same : (bs : List ℕ) → length bs ≡ length ks
-      → ((u : ℕ) → u < to - v → marked (get_or ls (v + u) 0) (get_or cs u 0) ≡ get_or bs (v + u) 0)
-      → read_on s k lv inn ks bs st' (trees to w.count w.last) ≡ read_on s k lv inn ks bs st (trees v top x)
-  part_same bs l m =
-      let kinds : drop to ks ≡ drop w.node kp =
-      sym (ap (drop w.node) ek ∙ drop-drop w.node v ks ∙ ap (λ (i : ℕ). drop i ks) reached) in
-      let labels : drop to bs ≡ drop w.node (drop v bs) =
-      sym (drop-drop w.node v bs ∙ ap (λ (i : ℕ). drop i bs) reached) in
-      let size : length (drop v bs) ≡ length kp =
-      length-drop v bs ∙ ap (λ (n : ℕ). n - v) l ∙ sym (ap length ek ∙ length-drop v ks) in
-      ap₂ (λ (a b : List ℕ). reads s k lv inn a b (stack_with st' w)) kinds labels
-      ∙ d.same (drop v bs) size
-      (λ u a b. ap (λ (y : ℕ). marked y (get_or cs u 0)) (ap (λ (t : List ℕ). get_or t u 0) el ∙ get_or-drop v ls u 0)
-      ∙ m u b
-      ∙ sym (get_or-drop v bs u 0))
-      ∙ ap (λ (a : List ℕ). reads s k lv inn a (drop v bs) (stack_of st top x)) ek
 
 -- ---- the whole pass
 
@@ -311,7 +265,8 @@ pub pass-start : {ks : List ℕ} {s : ℕ} {st : List ℕ} → length ks + 1 < 2
 unfolding is_postorder
 pass-start {ks = ks} e p = record {
   here = omega arith;
-  room = omega arith;
+  room = e;
+  few = omega arith;
   one = is_one (waiting ks 0) p;
   last_below = omega arith;
   last_state = λ h. absurd (omega arith);

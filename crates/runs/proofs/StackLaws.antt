@@ -3,7 +3,7 @@
 --     waiting-most            no more trees wait than can still be joined
 --     read-leaf, read-inner   the reading of Postorder at a leaf and at an inner node
 use Prim.Native.Nat.{ℕ, zero, suc, ◌+◌, ◌≤◌, ◌<◌}
-use mathlib.Core.Path.{◌≡◌, refl, ap₂}
+use mathlib.Core.Path.{◌≡◌, refl, ap, ap₂}
 use mathlib.Core.List.{List, [], ◌∷◌}
 use mathlib.Core.Option.{some}
 use native.Mathlib.Numerals.{add-one}
@@ -36,10 +36,10 @@ pub stack-two : (st : List ℕ) (w top x : ℕ) → top ≡ w + 2 → stack_of s
 unfolding stack_of lower_of
 stack-two st w top x e = let f : top ≡ suc (suc w) = omega arith in rw (f, add-one)
 
--- one on top of those below: the cells above do not matter
-pub stack-join : (st : List ℕ) (w y : ℕ) → stack_of st (w + 1) y ≡ y ∷ lower_of st w
+-- one on top of those below: the cell above does not matter
+pub stack-join : (st : List ℕ) (w i x y : ℕ) → w < i → stack_of (set st i x) (w + 1) y ≡ y ∷ lower_of st w
 unfolding stack_of
-stack-join st w y = rw add-one
+stack-join st w i x y h = rw add-one (ap (λ (l : List ℕ). y ∷ l) (lower-set st w i x h))
 
 -- ---- the machine, node by node
 

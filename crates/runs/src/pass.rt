@@ -1,4 +1,4 @@
-ghost use Rattle.std.specs.Prelude.{◌≡◌, ◌+◌, ◌*◌, ◌<◌, length, get_or};
+ghost use Rattle.std.specs.Prelude.{◌≡◌, ◌+◌, ◌-◌, ◌*◌, ◌≤◌, ◌<◌, length, get_or};
 ghost use Rattle.runs.specs.inner.Listed.{marked};
 ghost use Rattle.runs.specs.inner.Pass.{PassArgs, PassDone, RuleStates, Stacked, StepArgs, StepDone};
 ghost use Rattle.runs.specs.inner.Pass.{StretchArgs, StretchDone, SpanArgs, SpanDone, SpanEnd};
@@ -6,8 +6,8 @@ ghost use Rattle.runs.specs.inner.Pass.{StretchArgs, StretchDone, SpanArgs, Span
 use crate::changes::{SPAN, UNLISTED, mark_in, unmarked};
 use formats::rules::rule;
 
-// Before a node's iteration: the node's index in the kinds given, how many trees wait, and the state of the last
-// completed. Those of the others are in an array.
+// Before a node's iteration: the node, how many trees wait, and the state of the last completed. Those of the others
+// are in an array.
 #[derive(Clone, Copy)]
 pub struct Waiting {
     pub node: usize,
@@ -30,8 +30,7 @@ fn small_room() -> [u8; 1024]
 }
 
 // The iteration of a node with label a. A leaf stores the state of the tree completed before it in the array; an inner
-// node reads its left child's state there. The leaf's own state is read before the store: otherwise the compiler joins
-// the loads of leaf and inner node into one, which takes more instructions.
+// node reads its left child's state there.
 fn step(
     states: &mut [u8],
     before: Waiting,
@@ -49,13 +48,12 @@ fn step(
 {
     let v = before.node;
     let top = before.count;
+    states[top] = before.last;
     if kinds[v] == 0 {
-        let state = leaves[a];
-        states[top] = before.last;
         return Waiting {
             node: v + 1,
             count: top + 1,
-            last: state,
+            last: leaves[a],
         };
     }
     let p = states[top - 1] as usize;
@@ -74,19 +72,20 @@ fn stretch(
     kinds: &[u8],
     labels: &[u8],
     marks: &[u8],
+    from: usize,
     leaves: &[u8],
     inner: &[u8],
     s: usize,
     k: usize,
 ) -> Waiting
-    requires { RuleStates kinds.now leaves.now inner.now s k × StretchArgs kinds.now labels.now marks.now k before
+    requires { RuleStates kinds.now leaves.now inner.now s k × StretchArgs kinds.now labels.now marks.now from k before
         × Stacked kinds.now s states.old before }
-    ensures { StretchDone kinds.now labels.now marks.now leaves.now
+    ensures { StretchDone kinds.now labels.now marks.now from leaves.now
         inner.now s k states.old before states.new result }
 {
     let mut waiting = before;
     let mut v = before.node;
-    while marks[v] == UNLISTED {
+    while marks[v - from] == UNLISTED {
         let a = labels[v] as usize;
         waiting = step(states, waiting, kinds, a, leaves, inner, s, k);
         v += 1;
@@ -95,11 +94,11 @@ fn stretch(
 }
 
 // The label of node v as changed: its mark, or where it is not listed its own.
-fn label_at(labels: &[u8], marks: &[u8], v: usize) -> u8
-    requires { (v < length labels.now) × (v < length marks.now) }
-    ensures { result ≡ marked (get_or labels.now v 0) (get_or marks.now v 0) }
+fn label_at(labels: &[u8], marks: &[u8], from: usize, v: usize) -> u8
+    requires { (from ≤ v) × (v < length labels.now) × (v < from + length marks.now) }
+    ensures { result ≡ marked (get_or labels.now v 0) (get_or marks.now (v - from) 0) }
 {
-    let mark = marks[v];
+    let mark = marks[v - from];
     if mark == UNLISTED {
         return labels[v];
     }
@@ -125,12 +124,15 @@ fn turns(
     ensures { SpanDone kinds.now labels.now marks.now to leaves.now
         inner.now s k states.old before states.new result }
 {
+    let from = before.node;
     let mut waiting = before;
-    let mut v = before.node;
+    let mut v = from;
     while v < to {
-        let a = label_at(labels, marks, v) as usize;
+        let a = label_at(labels, marks, from, v) as usize;
         let turned = step(states, waiting, kinds, a, leaves, inner, s, k);
-        waiting = stretch(states, turned, kinds, labels, marks, leaves, inner, s, k);
+        waiting = stretch(
+            states, turned, kinds, labels, marks, from, leaves, inner, s, k,
+        );
         v = waiting.node;
     }
     waiting
@@ -149,8 +151,7 @@ fn span_end(v: usize, n: usize) -> usize
 
 // The root's state in the run over the plan with the listed labels changed. One pass over the nodes in order: the
 // states of the trees that wait are kept in the room given. The changes of some nodes at a time are marked, so that a
-// node's label is read from the plan unless it is marked, with no search of the list. Kinds and labels are handed on
-// from the first of these nodes on: so the three have one index.
+// node's label is read from the plan unless it is marked, with no search of the list.
 fn pass_in(
     states: &mut [u8],
     kinds: &[u8],
@@ -178,10 +179,7 @@ fn pass_in(
         let to = span_end(v, n);
         let mut marks = unmarked();
         mark_in(&mut marks, nodes, news, v, to);
-        turn.node = 0;
-        let rest = &kinds[v..];
-        let own = &labels[v..];
-        turn = turns(states, turn, rest, own, &marks, to - v, leaves, inner, s, k);
+        turn = turns(states, turn, kinds, labels, &marks, to, leaves, inner, s, k);
         v = to;
     }
     turn.last

@@ -5,5 +5,6 @@ pub mod SaidLaws
 pub mod StreamLaws
 pub mod TextLaws
 pub mod Theorems
+pub mod ToldLaws
 pub mod TripleLaws
 pub mod TurnLaws

@@ -1,61 +1,53 @@
 -- Text in a buffer.
---     decimal-is    the fewest digits of a number are its decimal text
---     ten-digits    a 32-bit number has at most ten
+--     decimal-is    what std writes of a number is its decimal text
 --     word-put      a word copied to where the text ends
 --     put-nothing, put_then      nothing appended; one text appended after another
 --     yes-or-no-short
-use Prim.Native.Nat.{ℕ, zero, suc, ◌+◌, ◌-◌, ◌/◌, ◌^◌, ◌≤◌, ◌<◌}
+use Prim.Native.Nat.{ℕ, zero, suc, ◌+◌, ◌/◌, ◌%◌, ◌^◌, ◌≤◌, ◌<◌}
 use mathlib.Core.Path.{◌≡◌, refl, ap, sym, ◌∙◌}
-use mathlib.Core.Bool.{Bool, true, false}
-use mathlib.Core.List.{List, [], ◌++◌, append_assoc, append-nil}
-use native.Mathlib.Nat.{pow-le-pow_right}
+use mathlib.Core.Bool.{Bool, true, false, cond}
+use mathlib.Core.List.{List, [], ◌∷◌, ◌++◌, append_assoc, append-nil}
 use native.Mathlib.Omega.{arith}
-use lib.Dec.{leb}
+use lib.Dec.{ltb}
 use lib.ListN.{length, take, length-append}
 use lib.Seq.{take_at, take-length, length-take-le}
-use borrow.Author.Tests.{lt-ltb, le-ltb, leb-true, leb-false}
-use Rattle.io.specs.Digits.{last_digits, IsDigitCount}
+use borrow.Author.Tests.{lt-ltb, le-ltb}
+use Rattle.std.specs.Fmt.{decimal as digits_text}
+use Rattle.std.proofs.lemmas.Fmt.{decimal_by_steps}
 use Rattle.whatif.specs.Text.{places_in, decimal, Put}
 use Rattle.whatif.specs.Line.{yes_or_no}
 
-ten-positive : (j : ℕ) → 1 ≤ 10 ^ j
-ten-positive zero = omega arith
-ten-positive (suc j) = omega (arith, ten-positive j)
-
-places_are : (f n k : ℕ) → IsDigitCount 10 1 n k → n ≤ f → places_in f n ≡ k
+-- more fuel than a number needs makes no difference
+enough-fuel : (f g n : ℕ) → n ≤ f → n ≤ g → places_in f n ≡ places_in g n
 unfolding places_in
-places_are zero n zero w h = absurd (let z : 1 ≤ 0 = w.0 in omega arith)
-places_are zero n (suc zero) w h = refl
-places_are zero n (suc (suc j)) w h =
-    let p : suc (suc j) - 1 ≡ suc j = omega arith in
-    let a : 10 ^ (suc (suc j) - 1) ≤ n = w.2 (omega arith) in
-    let q : 10 ^ suc j ≤ n = rw p at a in
-    absurd (omega (arith, ten-positive j))
-places_are (suc f) n zero w h = absurd (let z : 1 ≤ 0 = w.0 in omega arith)
-places_are (suc f) n (suc zero) w h = let z : n < 10 ^ 1 = w.1 in rw (lt-ltb n 10 (omega arith)) refl
-places_are (suc f) n (suc (suc j)) w h =
-    let a : 10 ^ (suc (suc j) - 1) ≤ n = w.2 (omega arith) in
-    let p : suc (suc j) - 1 ≡ suc j = omega arith in
-    let q : 10 ^ suc j ≤ n = rw p at a in
-    let b : n < 10 ^ suc (suc j) = w.1 in
-    let r : suc j - 1 ≡ j = omega arith in
-    rw (le-ltb n 10 (omega (arith, ten-positive j)))
-    (ap suc (places_are f (n / 10) (suc j) (omega arith, omega arith, λ g. rw r (omega arith)) (omega arith)))
+enough-fuel zero zero n h k = refl
+enough-fuel zero (suc g) n h k = rw (lt-ltb n 10 (omega arith)) refl
+enough-fuel (suc f) zero n h k = rw (lt-ltb n 10 (omega arith)) refl
+enough-fuel (suc f) (suc g) n h k =
+    ap (λ (x : ℕ). cond (ltb n 10) 1 (suc x)) (enough-fuel f g (n / 10) (omega arith) (omega arith))
 
-pub decimal-is : (n k : ℕ) → IsDigitCount 10 1 n k → last_digits 10 k n ≡ decimal n
+one-place : (f n : ℕ) → n < 10 → places_in f n ≡ 1
+unfolding places_in
+one-place zero n h = refl
+one-place (suc f) n h = rw (lt-ltb n 10 h) refl
+
+more-places : (f n : ℕ) → 10 ≤ n → n ≤ f → places_in f n ≡ suc (places_in (n / 10) (n / 10))
+unfolding places_in
+more-places zero n h k = absurd (omega arith)
+more-places (suc f) n h k = rw (le-ltb n 10 h) (ap suc (enough-fuel f (n / 10) (n / 10) (omega arith) (omega arith)))
+
+one-digit : (n : ℕ) → n < 10 → (48 + n) ∷ [] ≡ decimal n
 unfolding decimal
-decimal-is n k w = ap (λ (j : ℕ). last_digits 10 j n) (sym (places_are n n k w (omega arith)))
+one-digit n h =
+    let r : n % 10 ≡ n = omega arith in
+    rw (one-place n n h) (ap (λ (d : ℕ). (48 + d) ∷ []) (sym r))
 
-pub ten-digits : (n k : ℕ) → IsDigitCount 10 1 n k → n < 4294967296 → k ≤ 10
-ten-digits n k w h = go (leb k 10) refl
-  where
-    go : (b : Bool) → leb k 10 ≡ b → k ≤ 10
-    go true e = leb-true k 10 e
-    go false e =
-        let l : 10 < k = leb-false k 10 e in
-        let a : 10 ^ (k - 1) ≤ n = w.2 (omega arith) in
-        let b : 10 ^ 10 ≤ 10 ^ (k - 1) = pow-le-pow_right {n = 10} (omega arith) {i = 10} {j = k - 1} (omega arith) in
-        absurd (omega arith)
+last-digit : (n : ℕ) (ds : List ℕ) → 10 ≤ n → ds ≡ decimal (n / 10) → ds ++ ((48 + n % 10) ∷ []) ≡ decimal n
+unfolding decimal
+last-digit n ds h e = rw (more-places n n h (omega arith)) (ap (λ (l : List ℕ). l ++ ((48 + n % 10) ∷ [])) e)
+
+pub decimal-is : (n : ℕ) → n < 2 ^ 64 → digits_text n ≡ decimal n
+decimal-is = decimal_by_steps (λ (n : ℕ) (ds : List ℕ). ds ≡ decimal n) one-digit last-digit
 
 pub word-put : (out word part old rest : List ℕ) (at : ℕ) → at ≤ length out → part ≡ take (length word) word ++ old
     → take (at + length word) (take at out ++ (part ++ rest)) ≡ take at out ++ word

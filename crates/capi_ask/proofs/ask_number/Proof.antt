@@ -1,18 +1,14 @@
 -- `ask_number` meets its contract.
 use Rattle.capi_ask.proofs.AskNumberLaws.{answered, not-answered}
-use native.Mathlib.Omega.{arith}
 use borrow.Author.Rules.{rules}
 use Rattle.capi_ask.proofs.ask_number.Statement.{statement}
 use Rattle.capi_ask.proofs.ask_number.Tie as tie
-use Rattle.capi_ask.proofs.ask_number.Reads as reads
-use Rattle.capi_ask.proofs.ask_number.Lts as lts
-use Rattle.capi.proofs.numbers.bit.Reads as bit-reads
 
 returns : tie.Need-returns-in-Answered
-returns c = answered _ _ _ _ _ _ _ _ _ _ _ _ c.before.before.answer-1.given.1 c.bit.ensures
+returns c = answered _ _ _ _ _ _ _ _ _ _ _ _ c.in-Answered.is c.bit.ensures
 
 returns-2 : tie.Need-returns-in-Refused
-returns-2 c = not-answered _ _ _ _ _ _ _ c.before.answer-in-Refused-1.given.1
+returns-2 c = not-answered _ _ _ _ _ _ _ c.in-Refused.is
 
 pub ask_number_spec : {M : Type 1} → statement M
 ask_number_spec =

@@ -268,7 +268,6 @@ module _ (ks ls lv inn may : List ℕ) (s k : ℕ) (G : PassArgs ks ls lv inn s 
 
         inner-args : InnerDownArgs b inn s k i (get_or ls i 0) (member (stock_of may i))
         inner-args = record {
-          own = G.below i;
           few = G.few;
           labels = G.labels;
           inner_count = G.inner_count;
@@ -295,7 +294,6 @@ module _ (ks ls lv inn may : List ℕ) (s k : ℕ) (G : PassArgs ks ls lv inn s 
       node-args stocks = record {
         kind_in = omega (arith, n_is);
         label_in = omega (arith, n_is, G.count);
-        own = G.below i;
         label_below = omega (arith, G.below i, G.labels);
         stock = λ z. omega (arith, stocks z, n_is);
         leaf = record {

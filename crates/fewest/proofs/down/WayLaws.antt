@@ -1,95 +1,31 @@
 -- The first way as the code finds it is the definition's choice.
 --     found                         below far there is a way
 --     left_is, right_is, label_is   its left state, right state and label are those of `witness`
---     own_first, own-none           over states that cost c, the node's own label or none
---     cost-none                     over states that cost neither c nor one less, none
---     leaf-own-first, leaf-own-none the same of a leaf that keeps its label
+--     none-under                    over states that cost more than c no label costs c
 use Prim.Native.Nat.{ℕ, ◌+◌, ◌*◌, ◌≤◌, ◌<◌}
-use mathlib.Core.Path.{◌≡◌, refl, sym, ap, ap₂, ◌∙◌}
+use mathlib.Core.Path.{◌≡◌, sym, ap, ap₂, ◌∙◌}
 use mathlib.Core.Bool.{Bool, true, false}
 use mathlib.Core.List.{List}
-use native.Mathlib.Decide.{ℕ_discrete}
 use native.Mathlib.Omega.{arith}
 use lib.Dec.{eqb}
 use lib.ListN.{get_or}
 use borrow.Author.Tests.{eqb-true, eq-eqb, ne_eqb}
-use Rattle.list_laws.proofs.Choice.{by-eq, by-test}
+use Rattle.list_laws.proofs.Choice.{by-eq}
 use Rattle.state_sets.specs.StateSets.{member}
 use Rattle.fewest.specs.inner.Cost.{inner_cost, least_label, least_right, least_left, left_choice, right_choice}
 use Rattle.fewest.specs.inner.Cost.{label_choice}
 use Rattle.fewest.proofs.costs.LeastLaws.{least-le}
 use Rattle.fewest.specs.inner.Rows.{label_cost, change_of, RowArgs, leaf_cost as leaf_label_cost}
 use Rattle.fewest.specs.inner.Problems.{problem_for}
-use Rattle.fewest.specs.inner.down.Search.{any_of, First, label_hit, right_hit, left_hit, Chosen, RightSearch, LeftSearch}
-use Rattle.fewest.proofs.down.AnyLaws.{any-ext, any-least, first-place, first-here, first-none}
+use Rattle.fewest.specs.inner.down.Search.{any_of, label_hit, right_hit, left_hit, Chosen, RightSearch, LeftSearch}
+use Rattle.fewest.proofs.down.AnyLaws.{any-no, any-ext, any-least, first-place}
 
--- ---- one label, by what the states cost together
-
-module _ (inn : List ℕ) (s k p q a : ℕ) (may : ℕ → Bool) (base j c : ℕ) (u : c < 65536) where
-  abbrev to : ℕ → ℕ
-  to b = get_or inn ((p * k + b) * s + q) 0
-
-  abbrev Missed : ℕ → Type 0
-  Missed b = label_hit inn s k p q a may base j c b ≡ false
-
-  missed : (b : ℕ) → (label_cost inn s k p q a may base j b ≡ c → ⊥) → Missed b
-  missed b n = ne_eqb (label_cost inn s k p q a may base j b) c n
-
-  other-missed : (b : ℕ) → base ≡ c → (a ≡ b → ⊥) → Missed b
-  unfolding label_cost
-  other-missed b e n = missed b (by-eq (λ (x : ℕ). x ≡ c → ⊥) (to b) j
-      (λ h. by-eq (λ (x : ℕ). base + x ≡ c → ⊥) a b (λ z. absurd (n z))
-      (λ z. by-test (λ (x : ℕ). base + x ≡ c → ⊥) (may b) (λ m w. omega arith) (λ m w. omega arith)))
-      (λ h w. omega arith))
-
-  state-missed : (b : ℕ) → (to b ≡ j → ⊥) → Missed b
-  unfolding label_cost
-  state-missed b n = missed b (by-eq (λ (x : ℕ). x ≡ c → ⊥) (to b) j (λ h. absurd (n h)) (λ h w. omega arith))
-
-  cost-missed : (b : ℕ) → (base ≡ c → ⊥) → (base + 1 ≡ c → ⊥) → Missed b
-  unfolding label_cost
-  cost-missed b n m = missed b (by-eq (λ (x : ℕ). x ≡ c → ⊥) (to b) j
-      (λ h. by-eq (λ (x : ℕ). base + x ≡ c → ⊥) a b (λ z w. n (omega arith))
-      (λ z. by-test (λ (x : ℕ). base + x ≡ c → ⊥) (may b) (λ y w. m w) (λ y w. omega arith)))
-      (λ h w. omega arith))
-
-  pub own_first : base ≡ c → a < k → to a ≡ j → First k (label_hit inn s k p q a may base j c) a
-  unfolding label_cost
-  own_first e h z =
-      let x : label_cost inn s k p q a may base j a ≡ c = rw (eq-eqb (to a) j z, eq-eqb a a refl) (omega arith) in
-      first-here k (label_hit inn s k p q a may base j c) a h (λ i l. other-missed i e (λ y. omega arith))
-      (eq-eqb (label_cost inn s k p q a may base j a) c x)
-
-  pub own-none : base ≡ c → (to a ≡ j → ⊥) → First k (label_hit inn s k p q a may base j c) k
-  own-none e n = first-none k (label_hit inn s k p q a may base j c) k refl (λ i l. elim (ℕ_discrete a i) [
-    | yes z ↦ state-missed i (λ w. n (ap to z ∙ w))
-    | no z ↦ other-missed i e z
-  ])
-
-  pub cost-none : (base ≡ c → ⊥) → (base + 1 ≡ c → ⊥) → First k (label_hit inn s k p q a may base j c) k
-  cost-none n m = first-none k (label_hit inn s k p q a may base j c) k refl (λ i l. cost-missed i n m)
-
--- the same of a leaf that keeps its label
-module _ (lv : List ℕ) (k a : ℕ) (may : ℕ → Bool) (j : ℕ) where
-  leaf-missed : (b : ℕ) → (a ≡ b → get_or lv b 0 ≡ j → ⊥) → eqb (leaf_label_cost lv a may j b) 0 ≡ false
-  unfolding leaf_label_cost
-  leaf-missed b n = ne_eqb (leaf_label_cost lv a may j b) 0 (by-eq (λ (x : ℕ). x ≡ 0 → ⊥) (get_or lv b 0) j
-      (λ h. by-eq (λ (x : ℕ). x ≡ 0 → ⊥) a b (λ z w. n z h)
-      (λ z. by-test (λ (x : ℕ). x ≡ 0 → ⊥) (may b) (λ m w. omega arith) (λ m w. omega arith)))
-      (λ h w. omega arith))
-
-  pub leaf-own-first : a < k → get_or lv a 0 ≡ j → First k (λ b. eqb (leaf_label_cost lv a may j b) 0) a
-  unfolding leaf_label_cost
-  leaf-own-first h z =
-      let x : leaf_label_cost lv a may j a ≡ 0 = rw (eq-eqb (get_or lv a 0) j z, eq-eqb a a refl) in
-      first-here k (λ b. eqb (leaf_label_cost lv a may j b) 0) a h (λ i l. leaf-missed i (λ y w. omega arith))
-      (eq-eqb (leaf_label_cost lv a may j a) 0 x)
-
-  pub leaf-own-none : (get_or lv a 0 ≡ j → ⊥) → First k (λ b. eqb (leaf_label_cost lv a may j b) 0) k
-  leaf-own-none n = first-none k (λ b. eqb (leaf_label_cost lv a may j b) 0) k refl
-      (λ i l. leaf-missed i (λ z w. n (ap (λ (x : ℕ). get_or lv x 0) z ∙ w)))
-
--- ---- the first way
+pub none-under : (inn : List ℕ) (s k p q a : ℕ) (may : ℕ → Bool) (base j c : ℕ) → c < base → c < 65536
+    → false ≡ any_of k (label_hit inn s k p q a may base j c)
+unfolding label_cost
+none-under inn s k p q a may base j c h u =
+    sym (any-no k (label_hit inn s k p q a may base j c) (λ b l. ne_eqb (label_cost inn s k p q a may base j b) c
+    (by-eq (λ (x : ℕ). x ≡ c → ⊥) (get_or inn ((p * k + b) * s + q) 0) j (λ e z. omega arith) (λ e z. omega arith))))
 
 module _ (s k : ℕ) (lv inn : List ℕ) (stock : ℕ → ℕ) (acc : ℕ → Bool) (v a j c : ℕ) (f g : ℕ → ℕ)
     (is : least_left (problem_for s k lv inn stock acc) v a j f g ≡ c) (u : c < 65536) where

@@ -1,24 +1,15 @@
 -- The turns of the loop that copies a row.
 --     part-start, part-next, part-done   before the first cost, one cost more, and the size at last
 --     row-filled                         a row lowered from 65,536s
---     others-row, leaf-done              a leaf's costs by its labels, and its row with that of its own label
---     every-stock                        the labels that a node may take where no sets are given
 use Prim.Native.Nat.{ℕ, ◌+◌, ◌*◌, ◌≤◌, ◌<◌}
-use mathlib.Core.Path.{◌≡◌, refl, sym, ap, ◌∙◌, subst}
-use mathlib.Core.Bool.{Bool, cond}
+use mathlib.Core.Path.{◌≡◌, refl, ◌∙◌}
 use mathlib.Core.List.{List}
 use native.Mathlib.Decide.{ℕ_discrete}
 use native.Mathlib.Omega.{arith}
-use lib.Dec.{eqb}
 use lib.ListN.{length, get_or, set, replicate, length-set, length-replicate, get_or-replicate}
 use lib.Seq.{get_or-set_same, get_or-set_other}
-use borrow.Author.Tests.{eq-eqb, ne_eqb}
-use Rattle.fewest.specs.Least.{no_way_out}
-use Rattle.fewest.specs.Relabelling.{every_label, stock_of}
-use Rattle.fewest.specs.inner.Rows.{leaf_costs, other_cost, others_cost, OthersRow, Relaxed, CostRow}
+use Rattle.fewest.specs.inner.Rows.{Relaxed, CostRow}
 use Rattle.fewest.specs.inner.passes.Cells.{RowDone}
-use Rattle.fewest.proofs.costs.LeastLaws.{least-far}
-use Rattle.fewest.proofs.rows.OtherLaws.{leaf-split}
 
 pub record RowPart (at i : ℕ) (row before after : List ℕ) : Type 0 where
   pub long : length after ≡ length before
@@ -70,57 +61,3 @@ row-filled s v z c row before after few low R D = record {
   costs = λ j h. D.costs j h ∙ omega (arith, R.costs j h, get_or-replicate {A = ℕ} 16 j 65536 0 (omega arith), low j);
   kept = D.kept;
 }
-
--- ---- a leaf
-
-pub others-row : (lv : List ℕ) (s k : ℕ) (may : ℕ → Bool) (row : List ℕ) → s ≤ 16
-    → Relaxed s (others_cost (λ b. get_or lv b 0) k may 1) (replicate 16 65536) row → OthersRow lv s k may row
-others-row lv s k may row few R = record {
-  wide = omega (arith, R.wide, length-replicate {A = ℕ} 16 65536);
-  costs = λ j h. omega (
-    arith,
-    R.costs j h,
-    get_or-replicate {A = ℕ} 16 j 65536 0 (omega arith),
-    least-far no_way_out k (other_cost (λ b. get_or lv b 0) may 1 j),
-  );
-}
-
-pub every-stock : (may : List ℕ) (v : ℕ) → length may ≡ 0 → every_label ≡ stock_of may v
-unfolding stock_of
-every-stock may v e = sym (ap (λ (c : Bool). cond c every_label (get_or may v 0)) (eq-eqb (length may) 0 e))
-
-module _ (lv : List ℕ) (s k a v : ℕ) (may : ℕ → Bool) (row before mid : List ℕ) (own : a < k) (low : get_or lv a 0 < s) where
-  done_at : OthersRow lv s k may row → RowDone s v 1 (λ j. get_or row j 0) before mid → v * (s + 1) + (s + 1) ≤ length before
-      → RowDone s v 1 (leaf_costs lv k a may) before (set mid (v * (s + 1) + 1 + get_or lv a 0) 0)
-  done_at O D room =
-      record {
-        long = length-set mid (v * (s + 1) + 1 + get_or lv a 0) 0 ∙ D.long;
-        size = get_or-set_other mid (v * (s + 1) + 1 + get_or lv a 0) (v * (s + 1)) 0 0 (omega arith) ∙ D.size;
-        costs = λ j h. elim (ℕ_discrete (get_or lv a 0) j) [
-          | yes e ↦ (let o : cond (eqb (get_or lv a 0) j) 0 no_way_out ≡ 0 = ap (λ (c : Bool). cond c 0 no_way_out) (eq-eqb (get_or lv a 0) j e) in
-              let g : get_or (set mid (v * (s + 1) + 1 + get_or lv a 0) 0) (v * (s + 1) + 1 + j) 0 ≡ 0 =
-              ap (λ (i : ℕ). get_or (set mid (v * (s + 1) + 1 + get_or lv a 0) 0) (v * (s + 1) + 1 + i) 0) (sym e)
-              ∙ get_or-set_same mid (v * (s + 1) + 1 + get_or lv a 0) 0 0 (omega (arith, D.long)) in
-              omega (arith, o, g, leaf-split lv k a may own j))
-          | no e ↦ (let o : cond (eqb (get_or lv a 0) j) 0 no_way_out ≡ no_way_out = ap (λ (c : Bool). cond c 0 no_way_out) (ne_eqb (get_or lv a 0) j e) in
-              omega (
-                arith,
-                o,
-                get_or-set_other mid (v * (s + 1) + 1 + get_or lv a 0) (v * (s + 1) + 1 + j) 0 0 (λ z. e (omega arith)),
-                D.costs j h,
-                O.costs j h,
-                leaf-split lv k a may own j,
-                least-far no_way_out k (other_cost (λ b. get_or lv b 0) may 1 j),
-              ))
-        ];
-        kept = λ j h.
-            let ne : j ≡ v * (s + 1) + 1 + get_or lv a 0 → ⊥ = λ e. h (omega arith) (omega arith) in
-            get_or-set_other mid (v * (s + 1) + 1 + get_or lv a 0) j 0 0 ne ∙ D.kept j h;
-      }
-
-  -- with the state as the code has it
-  pub leaf-done : (to : ℕ) → to ≡ get_or lv a 0 → OthersRow lv s k may row → RowDone s v 1 (λ j. get_or row j 0) before mid
-      → v * (s + 1) + (s + 1) ≤ length before
-      → RowDone s v 1 (leaf_costs lv k a may) before (set mid (v * (s + 1) + 1 + to) 0)
-  leaf-done to e O D room =
-      subst (λ (x : ℕ). RowDone s v 1 (leaf_costs lv k a may) before (set mid (v * (s + 1) + 1 + x) 0)) (sym e) (done_at O D room)

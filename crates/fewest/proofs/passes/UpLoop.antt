@@ -56,6 +56,9 @@ relaxed-as s c d before after e R = record { wide = R.wide; costs = λ j h. omeg
 pub costs-low : (inn : List ℕ) (s k a : ℕ) (may : ℕ → Bool) (f g : ℕ → ℕ) (j : ℕ) → inner_costs inn s k a may f g j ≤ 65536
 costs-low inn s k a may f g j = least-far 65536 s (λ p. least_to 65536 s (λ q. labels_cost inn s k p q a may (f p + g q) j))
 
+pub leaf-low : (lv : List ℕ) (k a : ℕ) (may : ℕ → Bool) (j : ℕ) → leaf_costs lv k a may j ≤ 65536
+leaf-low lv k a may j = least-far 65536 k (leaf_label_cost lv a may j)
+
 -- ---- a turn, by the node's kind
 
 row_as : (s v z z' : ℕ) (c d : ℕ → ℕ) (b after : List ℕ) → z ≡ z' → ((j : ℕ) → c j ≡ d j) → RowDone s v z c b after → RowDone s v z' d b after

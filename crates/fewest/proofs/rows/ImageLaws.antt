@@ -1,10 +1,10 @@
 -- The states that all labels give over two states, as sets, and a row lowered by such a set.
 --     member-with              a set and one state besides
 --     image-start, image-next  one label more; fill-next, images-all   one pair of states more
---     cost-own, cost-yes, cost-no    the cost of a state
---     set-start, set_next, set_all   a row lowered state by state
+--     cost-yes, cost-no        the cost of a state of a set
+--     set-start, set_next, set_all   a row lowered by a set; own-lowered   and by one state
 --     image-cost, image-relaxed      the least over all labels, by the node's own label and the set
---     image-args, images-fit         what the loops need of the sets; prefix-images   all of them, or none
+--     image-args, images-fit         what the loops need of the sets
 use Prim.Native.Nat.{ℕ, ◌+◌, ◌*◌, ◌/◌, ◌%◌, ◌^◌, ◌≤◌, ◌<◌, min, max}
 use mathlib.Core.Path.{◌≡◌, refl, sym, ap, ap₂, ◌∙◌, subst}
 use mathlib.Core.Bool.{Bool, false, cond, ◌||◌}
@@ -16,9 +16,9 @@ use native.Mathlib.Omega.{arith}
 use lib.Arith.{digits_div, digits_mod}
 use lib.Bits.{bit_and, bit_or, and_mask, or_shr, or_step}
 use lib.Dec.{eqb}
-use lib.ListN.{length, get_or, set, take, length-set}
+use lib.ListN.{length, get_or, set, length-set}
 use lib.Pow.{pow-lt}
-use lib.Seq.{get_or-set_same, get_or-set_other, take_all}
+use lib.Seq.{get_or-set_same, get_or-set_other}
 use borrow.Author.Tests.{eq-eqb, ne_eqb}
 use Rattle.list_laws.proofs.BoolLaws.{true-false}
 use Rattle.list_laws.proofs.Choice.{by-eq, by-test}
@@ -27,8 +27,8 @@ use Rattle.state_sets.specs.StateSets.{member}
 use Rattle.state_sets.proofs.SetLaws.{member-single}
 use Rattle.fewest.specs.Least.{least_to, no_way_out}
 use Rattle.fewest.specs.Relabelling.{stock_of}
-use Rattle.fewest.specs.inner.Rows.{label_cost, labels_cost, Relaxed, RowArgs}
-use Rattle.fewest.specs.inner.Images.{image_cost, Image, Images, ImagesArgs, ImageArgs, ImagesFit, ImagesFor}
+use Rattle.fewest.specs.inner.Rows.{label_cost, labels_cost, Relaxed, CostRow, RowArgs}
+use Rattle.fewest.specs.inner.Images.{Image, Images, ImagesArgs, ImageArgs, ImagesFit, ImagesFor}
 use Rattle.fewest.specs.inner.down.Search.{any_of}
 use Rattle.fewest.proofs.costs.LeastLaws.{least-far, least-le}
 use Rattle.fewest.proofs.down.AnyLaws.{any-yes, any-no}
@@ -63,7 +63,7 @@ member-with x j h i =
     ap (λ (y : ℕ). member (bit_or x y) i) e ∙ member-or x (2 ^ j) i
     ∙ ap (λ (b : Bool). member x i || b) (member-single j i ∙ eqb-turn i j)
 
-pub member-none : (i : ℕ) → member 0 i ≡ false
+member-none : (i : ℕ) → member 0 i ≡ false
 unfolding member
 member-none i = ap (λ (x : ℕ). eqb (x % 2) 1) (zero-div (2 ^ i))
 
@@ -119,22 +119,19 @@ module _ (inn : List ℕ) (s k m : ℕ) (A : ImagesArgs inn s k m) where
       go : (j p q : ℕ) → j / s ≡ p → j % s ≡ q → j < s * s → Image inn s k p q (get_or I j 0)
       go j p q ep eq h = rw (← ep, ← eq) (L j h)
 
--- ---- the cost of a state
+-- ---- the cost of a state of a set
 
-pub cost-own : (x to base j : ℕ) → to ≡ j → base ≡ image_cost x to base j
-cost-own x to base j e = rw (eq-eqb to j e)
-
-pub cost-yes : (x to base j : ℕ) → (to ≡ j → ⊥) → bit_and (x / 2 ^ j) 1 ≡ 1 → base + 1 ≡ image_cost x to base j
+pub cost-yes : (x j c : ℕ) → bit_and (x / 2 ^ j) 1 ≡ 1 → c ≡ cond (member x j) c no_way_out
 unfolding member
-cost-yes x to base j n e =
+cost-yes x j c e =
     let z : x / 2 ^ j % 2 ≡ 1 = sym (and_mask (x / 2 ^ j) 1) ∙ e in
-    rw (ne_eqb to j n, eq-eqb (x / 2 ^ j % 2) 1 z)
+    rw (eq-eqb (x / 2 ^ j % 2) 1 z)
 
-pub cost-no : (x to base j : ℕ) → (to ≡ j → ⊥) → (bit_and (x / 2 ^ j) 1 ≡ 1 → ⊥) → 65536 ≡ image_cost x to base j
+pub cost-no : (x j c : ℕ) → (bit_and (x / 2 ^ j) 1 ≡ 1 → ⊥) → 65536 ≡ cond (member x j) c no_way_out
 unfolding member
-cost-no x to base j n e =
+cost-no x j c e =
     let z : x / 2 ^ j % 2 ≡ 1 → ⊥ = λ q. e (and_mask (x / 2 ^ j) 1 ∙ q) in
-    rw (ne_eqb to j n, ne_eqb (x / 2 ^ j % 2) 1 z)
+    rw (ne_eqb (x / 2 ^ j % 2) 1 z)
 
 -- ---- a row lowered state by state
 
@@ -159,6 +156,23 @@ set_next f j before r x y room L ex ey = record {
 
 pub set_all : (s : ℕ) (f : ℕ → ℕ) (j : ℕ) (before after : List ℕ) → s ≤ j → LoweredTo f j before after → Relaxed s f before after
 set_all s f j before after h L = record { wide = L.wide; costs = λ i l. L.done i (omega arith) }
+
+-- the cost of one state
+lowered-at : (s at base y : ℕ) (row : List ℕ) → at < s → CostRow s row → y ≡ min (get_or row at 0) base
+    → Relaxed s (λ j. cond (eqb at j) base no_way_out) row (set row at y)
+lowered-at s at base y row h C e = record {
+  wide = length-set row at y;
+  costs = λ j l. by-eq (λ (z : ℕ). get_or (set row at y) j 0 ≡ min (get_or row j 0) z) at j
+      (λ q. rw (← q) (get_or-set_same row at y 0 (omega (arith, C.wide)) ∙ e))
+      (λ q. omega (arith, get_or-set_other row at j y 0 (λ z. q (sym z)), C.low j l));
+}
+
+-- the same with the number as the code has it
+pub own-lowered : (s to at base y : ℕ) (row : List ℕ) → to ≡ at → at < s → CostRow s row → y ≡ min (get_or row to 0) base
+    → Relaxed s (λ j. cond (eqb at j) base no_way_out) row (set row to y)
+own-lowered s to at base y row e h C ey =
+    subst (λ (x : ℕ). Relaxed s (λ j. cond (eqb at j) base no_way_out) row (set row x y)) (sym e)
+    (lowered-at s at base y row h C (ey ∙ ap (λ (x : ℕ). min (get_or row x 0) base) e))
 
 -- ---- the least over all labels
 
@@ -222,35 +236,22 @@ module _ (inn : List ℕ) (s k p q a : ℕ) (may : ℕ → Bool) (base x : ℕ) 
         | no e ↦ omega (arith, own-low, miss b e)
       ]
 
-      others-range : (base + 1 ≤ others j) × (others j ≤ 65536)
-      others-range = by-test (λ (y : ℕ). (base + 1 ≤ y) × (y ≤ 65536)) (member x j)
-          (λ e. (omega arith, omega (arith, A.below))) (λ e. (omega (arith, A.below), omega arith))
-
-      labels_least : labels_cost inn s k p q a may base j ≡ min (own j) (others j)
-      labels_least = omega (
+      pub image-cost : labels_cost inn s k p q a may base j
+          ≡ min (cond (eqb (get_or inn ((p * k + a) * s + q) 0) j) base no_way_out) (cond (member x j) (base + 1) no_way_out)
+      image-cost = omega (
         arith,
         own-most,
         others-most,
         least-ge (min (own j) (others j)) (omega (arith, own-low)) k (by j) each,
       )
 
-      pub image-cost : labels_cost inn s k p q a may base j ≡ image_cost x (to a) base j
-      image-cost = labels_least ∙ by-eq (λ (y : ℕ). min (own j) (others j) ≡ y) (to a) j
-          (λ e. let o : own j ≡ base = ap (λ (c : Bool). cond c base no_way_out) (eq-eqb (to a) j e) in
-          omega (arith, o, others-range.0))
-          (λ e. let o : own j ≡ no_way_out = ap (λ (c : Bool). cond c base no_way_out) (ne_eqb (to a) j e) in
-          omega (arith, o, others-range.1))
-
-  pub image-relaxed : (at : ℕ) → at ≡ get_or inn ((p * k + a) * s + q) 0 → (before after : List ℕ)
-      → Relaxed s (image_cost x at base) before after → Relaxed s (labels_cost inn s k p q a may base) before after
-  image-relaxed at e before after L = record {
-    wide = L.wide;
-    costs = λ j h. omega (
-      arith,
-      L.costs j h,
-      ap (λ (z : ℕ). image_cost x z base j) e,
-      image-cost j h,
-    );
+  pub image-relaxed : (before row after : List ℕ)
+      → Relaxed s (λ j. cond (eqb (get_or inn ((p * k + a) * s + q) 0) j) base no_way_out) before row
+      → Relaxed s (λ j. cond (member x j) (base + 1) no_way_out) row after
+      → Relaxed s (labels_cost inn s k p q a may base) before after
+  image-relaxed before row after L M = record {
+    wide = M.wide ∙ L.wide;
+    costs = λ j h. omega (arith, L.costs j h, M.costs j h, image-cost j h);
   }
 
 -- ---- what the loops need of the sets
@@ -259,26 +260,16 @@ pub image-args : (inn : List ℕ) (s k p q a : ℕ) (may : ℕ → Bool) (base :
     → ImagesFit inn s k a may I → (length I ≡ 0 → ⊥) → ImageArgs inn s k p q a may base (get_or I (p * s + q) 0)
 image-args inn s k p q a may base I R h F e = record {
   row = R;
-  own = F.own;
-  all = (F.imaged e).all;
+  own = (F e).own;
+  all = (F e).all;
   below = h;
-  image = (F.imaged e).images.are p q R.left R.right;
+  image = (F e).images.are p q R.left R.right;
 }
-
--- all of the sets, or none
-pub prefix-images : {P : Type 0} (inn : List ℕ) (s k r : ℕ) (I : List ℕ) → ((r ≡ 0 → ⊥) → P × (r ≡ length I) × Images inn s k I)
-    → (length (take r I) ≡ 0 → ⊥) → P × Images inn s k (take r I)
-prefix-images inn s k r I F e =
-    let x = F (λ z. e (ap (λ (n : ℕ). length (take n I)) z)) in
-    let whole : take r I ≡ I = take_all r I (omega (arith, x.1)) in
-    (x.0, subst (λ (J : List ℕ). Images inn s k J) (sym whole) x.2)
 
 pub images-fit : (inn : List ℕ) (s k : ℕ) (ls may : List ℕ) (v m : ℕ) (I : List ℕ) → k ≤ 64 → m ≡ stock_of may v
     → ImagesFor inn s k ls may I → ImagesFit inn s k (get_or ls v 0) (member m) I
-images-fit inn s k ls may v m I h em F = record {
-  own = F.own v;
-  imaged = λ e. record {
-    all = λ b l. ap (λ (x : ℕ). member x b) em ∙ every-label may (F.imaged e).0 v b (omega arith);
-    images = (F.imaged e).1;
-  };
+images-fit inn s k ls may v m I h em F e = record {
+  own = (F e).1 v;
+  all = λ b l. ap (λ (x : ℕ). member x b) em ∙ every-label may (F e).0 v b (omega arith);
+  images = (F e).2;
 }

@@ -1,17 +1,17 @@
 -- The turns of the loops over a row of costs.
---     change-same, change-may, change-not   what a label costs
---     rule-args                             what a label's entry of the rules needs
---     relax-none                            states that cost too much lower nothing
---     step_start, step-next                 one state more
+--     bit-is                a shift and a mask tell membership
+--     relax-start, relax-next   one label more; step_start, step-next   one state more
 use Prim.Native.Nat.{ℕ, zero, suc, ◌+◌, ◌*◌, ◌/◌, ◌%◌, ◌^◌, ◌≤◌, ◌<◌, min}
-use mathlib.Core.Path.{◌≡◌, refl, sym, ◌∙◌}
-use mathlib.Core.Bool.{Bool}
+use mathlib.Core.Path.{◌≡◌, refl, sym, ap, ◌∙◌}
+use mathlib.Core.Bool.{Bool, cond}
 use mathlib.Core.List.{List}
+use native.Mathlib.Decide.{ℕ_discrete}
 use native.Mathlib.Numerals.{add-one}
 use native.Mathlib.Nat.{mul-le-mul_right}
 use native.Mathlib.Omega.{arith}
 use lib.Bits.{bit_and, and_mask}
-use lib.ListN.{get_or}
+use lib.ListN.{length, get_or, set, length-set}
+use lib.Seq.{get_or-set_same, get_or-set_other}
 use borrow.Author.Tests.{eq-eqb, ne_eqb}
 use Rattle.list_laws.proofs.Choice.{by-eq}
 use Rattle.list_laws.proofs.RowLaws.{stride}
@@ -19,8 +19,9 @@ use Rattle.formats.specs.inner.InnerChecks.{RuleArgs}
 use Rattle.formats.proofs.RuleLaws.{rule-in}
 use Rattle.state_sets.specs.StateSets.{member}
 use Rattle.fewest.specs.Least.{least_to, no_way_out}
-use Rattle.fewest.specs.inner.Rows.{change_of, label_cost, labels_cost, Relaxed, CostRow, RowArgs}
-use Rattle.fewest.specs.inner.Rows.{RightArgs, LeftArgs}
+use Rattle.fewest.proofs.costs.LeastLaws.{least-far}
+use Rattle.fewest.specs.inner.Rows.{change_of, label_cost, labels_cost, leaf_cost, Relaxed, CostRow, RowArgs}
+use Rattle.fewest.specs.inner.Rows.{RightArgs, LeftArgs, LeafArgs}
 
 -- ---- labels in a set
 
@@ -39,7 +40,11 @@ change-not m a b n e =
     let z : m / 2 ^ b % 2 ≡ 1 → ⊥ = λ q. e (and_mask (m / 2 ^ b) 1 ∙ q) in
     rw (ne_eqb a b n, ne_eqb (m / 2 ^ b % 2) 1 z)
 
--- ---- a label's entry of the rules
+-- ---- one label more
+
+-- the costs by the first b labels
+abbrev pub so_far : List ℕ → ℕ → ℕ → ℕ → ℕ → ℕ → (ℕ → Bool) → ℕ → ℕ → ℕ → ℕ
+so_far inn s k p q a may base b j = least_to no_way_out b (label_cost inn s k p q a may base j)
 
 module _ (inn : List ℕ) (s k p q a base : ℕ) (may : ℕ → Bool) (R : RowArgs inn s k p q a base) where
   pub rule-args : (b : ℕ) → b < k → RuleArgs inn s k p b q
@@ -47,6 +52,51 @@ module _ (inn : List ℕ) (s k p q a base : ℕ) (may : ℕ → Bool) (R : RowAr
     small = omega (arith, stride k p s R.left, mul-le-mul_right k R.few, R.labels);
     inside = omega (arith, rule-in s k p b q R.left h R.right, R.inner_count);
   }
+
+  pub relax-start : (row : List ℕ) → CostRow s row → Relaxed s (so_far inn s k p q a may base 0) row row
+  unfolding least_to
+  relax-start row C = record { wide = refl; costs = λ j h. omega (arith, C.low j h) }
+
+  pub relax-next : (b : ℕ) (before r : List ℕ) (x : ℕ) → s ≤ length before → Relaxed s (so_far inn s k p q a may base b) before r
+      → x ≡ base + change_of may a b
+      → Relaxed s (so_far inn s k p q a may base (b + 1)) before
+      (set r (get_or inn ((p * k + b) * s + q) 0) (min (get_or r (get_or inn ((p * k + b) * s + q) 0) 0) x))
+  unfolding least_to label_cost
+  relax-next b before r x room L e =
+      let to : ℕ = get_or inn ((p * k + b) * s + q) 0 in
+      let ht : get_or inn ((p * k + b) * s + q) 0 < s = R.inner_below ((p * k + b) * s + q) in
+      record {
+        wide = length-set r (get_or inn ((p * k + b) * s + q) 0) (min (get_or r (get_or inn ((p * k + b) * s + q) 0) 0) x) ∙ L.wide;
+        costs = λ j h. elim (ℕ_discrete j (get_or inn ((p * k + b) * s + q) 0)) [
+          | yes z ↦ (let c : label_cost inn s k p q a may base j b ≡ base + change_of may a b =
+              ap (λ (y : Bool). cond y (base + change_of may a b) no_way_out) (eq-eqb (get_or inn ((p * k + b) * s + q) 0) j (sym z)) in
+              let n : least_to no_way_out (b + 1) (label_cost inn s k p q a may base j)
+              ≡ min (least_to no_way_out b (label_cost inn s k p q a may base j)) (label_cost inn s k p q a may base j b) = rw (add-one b) in
+              let g : get_or (set r (get_or inn ((p * k + b) * s + q) 0) (min (get_or r (get_or inn ((p * k + b) * s + q) 0) 0) x)) j 0
+              ≡ min (get_or r (get_or inn ((p * k + b) * s + q) 0) 0) x =
+              ap (λ (i : ℕ). get_or (set r (get_or inn ((p * k + b) * s + q) 0) (min (get_or r (get_or inn ((p * k + b) * s + q) 0) 0) x)) i 0) z
+              ∙ get_or-set_same r (get_or inn ((p * k + b) * s + q) 0) (min (get_or r (get_or inn ((p * k + b) * s + q) 0) 0) x) 0
+              (omega (arith, L.wide)) in
+              let f : get_or r (get_or inn ((p * k + b) * s + q) 0) 0
+              ≡ min (get_or before j 0) (least_to no_way_out b (label_cost inn s k p q a may base j)) =
+              ap (λ (i : ℕ). get_or r i 0) (sym z) ∙ L.costs j h in
+              omega (arith, c, n, g, f, e))
+          | no z ↦ (let c : label_cost inn s k p q a may base j b ≡ no_way_out =
+              ap (λ (y : Bool). cond y (base + change_of may a b) no_way_out) (ne_eqb (get_or inn ((p * k + b) * s + q) 0) j (λ w. z (sym w))) in
+              let n : least_to no_way_out (b + 1) (label_cost inn s k p q a may base j)
+              ≡ min (least_to no_way_out b (label_cost inn s k p q a may base j)) (label_cost inn s k p q a may base j b) = rw (add-one b) in
+              let g = get_or-set_other r (get_or inn ((p * k + b) * s + q) 0) j
+              (min (get_or r (get_or inn ((p * k + b) * s + q) 0) 0) x) 0 z in
+              omega (arith, c, n, g, L.costs j h, least-far no_way_out b (label_cost inn s k p q a may base j)))
+        ];
+      }
+
+  -- the same with the numbers as the code has them
+  pub relax-turn : (b : ℕ) (before r : List ℕ) (to c y : ℕ) → s ≤ length before → Relaxed s (so_far inn s k p q a may base b) before r
+      → to ≡ get_or inn ((p * k + b) * s + q) 0 → c ≡ change_of may a b → y ≡ min (get_or r to 0) (base + c)
+      → Relaxed s (so_far inn s k p q a may base (b + 1)) before (set r to y)
+  relax-turn b before r to c y room L et ec ey =
+      rw (ey, et) (relax-next b before r (base + c) room L (ap (λ (z : ℕ). base + z) ec))
 
 -- ---- states that cost 65,536 or more together lower nothing
 
@@ -113,3 +163,42 @@ right-args inn s k a L R A p h = record {
   inner_below = A.inner_below;
   right = A.right;
 }
+
+-- ---- a leaf: one label more
+
+module _ (lv : List ℕ) (s k a : ℕ) (may : ℕ → Bool) (A : LeafArgs lv s k) where
+  pub leaf-start : (row : List ℕ) → CostRow s row → Relaxed s (λ j. least_to no_way_out 0 (leaf_cost lv a may j)) row row
+  unfolding least_to
+  leaf-start row C = record { wide = refl; costs = λ j h. omega (arith, C.low j h) }
+
+  pub leaf-turn : (b : ℕ) (before r : List ℕ) (c y : ℕ) → s ≤ length before → Relaxed s (λ j. least_to no_way_out b (leaf_cost lv a may j)) before r
+      → c ≡ change_of may a b → y ≡ min (get_or r (get_or lv b 0) 0) c
+      → Relaxed s (λ j. least_to no_way_out (b + 1) (leaf_cost lv a may j)) before (set r (get_or lv b 0) y)
+  unfolding least_to leaf_cost
+  leaf-turn b before r c y room L ec ey =
+      let ht : get_or lv b 0 < s = A.below b in
+      record {
+        wide = length-set r (get_or lv b 0) y ∙ L.wide;
+        costs = λ j h.
+            let n : least_to no_way_out (b + 1) (leaf_cost lv a may j) ≡ min (least_to no_way_out b (leaf_cost lv a may j)) (leaf_cost lv a may j b) =
+            rw (add-one b) in
+            elim (ℕ_discrete j (get_or lv b 0)) [
+              | yes z ↦ (let x : leaf_cost lv a may j b ≡ change_of may a b =
+                  ap (λ (w : Bool). cond w (change_of may a b) no_way_out) (eq-eqb (get_or lv b 0) j (sym z)) in
+                  let g : get_or (set r (get_or lv b 0) y) j 0 ≡ y =
+                  ap (λ (i : ℕ). get_or (set r (get_or lv b 0) y) i 0) z ∙ get_or-set_same r (get_or lv b 0) y 0 (omega (arith, L.wide)) in
+                  let f : get_or r (get_or lv b 0) 0 ≡ min (get_or before j 0) (least_to no_way_out b (leaf_cost lv a may j)) =
+                  ap (λ (i : ℕ). get_or r i 0) (sym z) ∙ L.costs j h in
+                  omega (arith, x, n, g, f, ec, ey))
+              | no z ↦ (let x : leaf_cost lv a may j b ≡ no_way_out =
+                  ap (λ (w : Bool). cond w (change_of may a b) no_way_out) (ne_eqb (get_or lv b 0) j (λ w. z (sym w))) in
+                  omega (
+                    arith,
+                    x,
+                    n,
+                    get_or-set_other r (get_or lv b 0) j y 0 z,
+                    L.costs j h,
+                    least-far no_way_out b (leaf_cost lv a may j),
+                  ))
+            ];
+      }

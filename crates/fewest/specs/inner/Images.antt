@@ -3,15 +3,12 @@
 -- image_has inn s k p q j == whether some label gives state j over states p and q
 -- Image inn s k p q x == x is the set of these states, as bits
 -- Images inn s k I == I has these sets of all states p and q, at p s + q; ImagesArgs == what it takes to write them
--- image_cost x to base j == the cost of state j over states that cost `base` together, where `to` is the state of the
---   node's own label, and x the set of the states that all labels give
 -- ImageArgs == what a row is lowered by with such a set: the labels are all permitted, and the states cost less than
 --   65,536 together
--- ImagesFit inn s k a may I == label a is below k; and I is empty, or it has these sets, and the node may take every
---   label
--- ImagesFor inn s k ls may I == the labels ls are below k; and I is empty, or it has these sets, and no sets of labels
---   are given
-use Rattle.std.specs.Prelude.{ℕ, ◌+◌, ◌*◌, ◌≤◌, ◌<◌, ◌≡◌, Bool, true, cond, List, eqb, length, get_or}
+-- ImagesFit inn s k a may I == I is empty; or it has these sets, and a node of label a may take every label
+-- ImagesFor inn s k ls may I == I is empty; or it has these sets, the labels ls are below k, and no sets of labels are
+--   given
+use Rattle.std.specs.Prelude.{ℕ, ◌+◌, ◌*◌, ◌≤◌, ◌<◌, ◌≡◌, Bool, true, List, eqb, length, get_or}
 use Rattle.state_sets.specs.StateSets.{member}
 use Rattle.fewest.specs.Least.{no_way_out}
 use Rattle.fewest.specs.inner.Rows.{RowArgs}
@@ -35,9 +32,6 @@ pub record ImagesArgs (inn : List ℕ) (s k m : ℕ) : Type 0 where
   pub inner_below : (j : ℕ) → get_or inn j 0 < s
   pub room : s * s ≤ m
 
-abbrev pub image_cost : ℕ → ℕ → ℕ → ℕ → ℕ
-image_cost x to base j = cond (eqb to j) base (cond (member x j) (base + 1) no_way_out)
-
 pub record ImageArgs (inn : List ℕ) (s k p q a : ℕ) (may : ℕ → Bool) (base x : ℕ) : Type 0 where
   pub row : RowArgs inn s k p q a base
   pub own : a < k
@@ -45,14 +39,13 @@ pub record ImageArgs (inn : List ℕ) (s k p q a : ℕ) (may : ℕ → Bool) (ba
   pub below : base < no_way_out
   pub image : Image inn s k p q x
 
-pub record Imaged (inn : List ℕ) (s k : ℕ) (may : ℕ → Bool) (I : List ℕ) : Type 0 where
+pub record Imaged (inn : List ℕ) (s k a : ℕ) (may : ℕ → Bool) (I : List ℕ) : Type 0 where
+  pub own : a < k
   pub all : (b : ℕ) → b < k → may b ≡ true
   pub images : Images inn s k I
 
-pub record ImagesFit (inn : List ℕ) (s k a : ℕ) (may : ℕ → Bool) (I : List ℕ) : Type 0 where
-  pub own : a < k
-  pub imaged : (length I ≡ 0 → ⊥) → Imaged inn s k may I
+abbrev pub ImagesFit : List ℕ → ℕ → ℕ → ℕ → (ℕ → Bool) → List ℕ → Type 0
+ImagesFit inn s k a may I = (length I ≡ 0 → ⊥) → Imaged inn s k a may I
 
-pub record ImagesFor (inn : List ℕ) (s k : ℕ) (ls may I : List ℕ) : Type 0 where
-  pub own : (v : ℕ) → get_or ls v 0 < k
-  pub imaged : (length I ≡ 0 → ⊥) → (length may ≡ 0) × Images inn s k I
+abbrev pub ImagesFor : List ℕ → ℕ → ℕ → List ℕ → List ℕ → List ℕ → Type 0
+ImagesFor inn s k ls may I = (length I ≡ 0 → ⊥) → (length may ≡ 0) × ((v : ℕ) → get_or ls v 0 < k) × Images inn s k I

@@ -5,9 +5,6 @@
 -- labels_cost, right_cost, left_cost == the least of these over all labels; over all right states, costing g q; over all
 --   left states, costing f p
 -- leaf_cost lv a m j b == the cost of state j of a leaf by label b; leaf_costs == the least over all labels
--- other_cost to may c j b == the cost of state j by label b where each label that the node may take costs c, and `to b`
---   is the state that b gives; others_cost == the least over all labels
--- OthersRow lv s k may row == the first s costs of `row` are those of a leaf's states by labels that cost a change
 -- inner_costs == left_cost with the children's costs as functions
 -- Relaxed s c before after == each of the s costs of `before` is lowered to c where c is lower
 -- CostRow s row == s costs, none above 65,536; RowArgs, RightArgs, LeftArgs == what the loops need
@@ -44,16 +41,6 @@ leaf_cost lv a may j b = cond (eqb (get_or lv b 0) j) (change_of may a b) no_way
 
 abbrev pub leaf_costs : List ℕ → ℕ → ℕ → (ℕ → Bool) → ℕ → ℕ
 leaf_costs lv k a may j = least_to no_way_out k (leaf_cost lv a may j)
-
-unfoldable pub other_cost : (ℕ → ℕ) → (ℕ → Bool) → ℕ → ℕ → ℕ → ℕ
-other_cost to may c j b = cond (eqb (to b) j) (cond (may b) c no_way_out) no_way_out
-
-abbrev pub others_cost : (ℕ → ℕ) → ℕ → (ℕ → Bool) → ℕ → ℕ → ℕ
-others_cost to k may c j = least_to no_way_out k (other_cost to may c j)
-
-pub record OthersRow (lv : List ℕ) (s k : ℕ) (may : ℕ → Bool) (row : List ℕ) : Type 0 where
-  pub wide : s ≤ length row
-  pub costs : (j : ℕ) → j < s → get_or row j 0 ≡ others_cost (λ b. get_or lv b 0) k may 1 j
 
 pub record Relaxed (s : ℕ) (c : ℕ → ℕ) (before after : List ℕ) : Type 0 where
   pub wide : length after ≡ length before

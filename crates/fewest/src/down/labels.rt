@@ -1,5 +1,5 @@
 // The pass down: each node's state goes to its children as theirs, and its label is told, in falling node number.
-ghost use Rattle.std.specs.Prelude.{◌≡◌, List, ℕ, ◌<◌, length};
+ghost use Rattle.std.specs.Prelude.{◌≡◌, List, ℕ, length};
 ghost use Rattle.state_sets.specs.StateSets.{member};
 ghost use Rattle.fewest.specs.inner.down.Down.{placed, ChoiceAt, InnerDown, LeafDown, NodeDown};
 ghost use Rattle.fewest.specs.inner.down.Down.{InnerDownArgs, LeafDownArgs, NodeDownArgs, PlaceArgs, DownGiven, Down};
@@ -9,7 +9,7 @@ use crate::passes::cells::stock;
 
 // The turn of a leaf of label a that may take the labels of the set.
 fn leaf_down(work: &mut [u32], leaves: &[u8], s: usize, k: usize, v: usize, a: usize, labels: u64)
-    requires { LeafDownArgs work.old leaves.now s k v × (a < k) }
+    requires { LeafDownArgs work.old leaves.now s k v }
     ensures { LeafDown work.old leaves.now s k v a (member labels) work.new }
 {
     let own = v * (s + 1);

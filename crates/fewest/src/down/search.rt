@@ -31,8 +31,8 @@ fn label_cost(
     base + change_cost(a, b, labels)
 }
 
-// The first label that gives state j at cost c; k where none does. All labels are tried.
-fn try_labels(
+// The first label that gives state j at cost c; k where none does.
+fn find_label(
     inner: &[u8],
     s: usize,
     k: usize,
@@ -57,54 +57,7 @@ fn try_labels(
     k
 }
 
-// The node's own label where it gives state j, else k: over states that cost as much as the state, no other label will do.
-fn own_label(
-    inner: &[u8],
-    s: usize,
-    k: usize,
-    p: usize,
-    q: usize,
-    a: usize,
-    labels: u64,
-    base: u32,
-    j: usize,
-) -> usize
-    requires { RowArgs inner.now s k p q a base × (base < 65536) × (a < k) }
-    ensures { First k (label_hit inner.now s k p q a (member labels) base j base) result }
-{
-    let to = rule(inner, s, k, p, a, q) as usize;
-    if to == j {
-        return a;
-    }
-    k
-}
-
-// The first label that gives state j at cost c; k where none does. Labels are tried only over states that cost one less.
-fn find_label(
-    inner: &[u8],
-    s: usize,
-    k: usize,
-    p: usize,
-    q: usize,
-    a: usize,
-    labels: u64,
-    base: u32,
-    j: usize,
-    c: u32,
-) -> usize
-    requires { RowArgs inner.now s k p q a base × (c < 65536) × (a < k) }
-    ensures { First k (label_hit inner.now s k p q a (member labels) base j c) result }
-{
-    if base == c {
-        return own_label(inner, s, k, p, q, a, labels, base, j);
-    }
-    if base + 1 != c {
-        return k;
-    }
-    try_labels(inner, s, k, p, q, a, labels, base, j, c)
-}
-
-// Whether some label gives state j at cost c.
+// Whether some label gives state j at cost c. Where the states cost more than c, none does.
 fn label_hits(
     inner: &[u8],
     s: usize,
@@ -117,9 +70,12 @@ fn label_hits(
     j: usize,
     c: u32,
 ) -> bool
-    requires { RowArgs inner.now s k p q a base × (c < 65536) × (a < k) }
+    requires { RowArgs inner.now s k p q a base × (c < 65536) }
     ensures { result ≡ any_of k (label_hit inner.now s k p q a (member labels) base j c) }
 {
+    if c < base {
+        return false;
+    }
     find_label(inner, s, k, p, q, a, labels, base, j, c) < k
 }
 
@@ -138,7 +94,7 @@ fn find_right(
     j: usize,
     c: u32,
 ) -> usize
-    requires { RightSearch work.now inner.now s k p x at c × (a < k) }
+    requires { RightSearch work.now inner.now s k p x at c }
     ensures { First s (right_hit work.now inner.now s k p x at a (member labels) j c) result }
 {
     let mut q: usize = 0;
@@ -164,7 +120,7 @@ fn find_left(
     j: usize,
     c: u32,
 ) -> usize
-    requires { LeftSearch work.now inner.now s k from at c × (a < k) }
+    requires { LeftSearch work.now inner.now s k from at c }
     ensures { First s (left_hit work.now inner.now s k from at a (member labels) j c) result }
 {
     let mut p: usize = 0;
@@ -199,7 +155,7 @@ pub fn choose(
     c: u32,
 ) -> Choice
     requires { LeftSearch work.now inner.now s k from at c
-        × (any_of s (left_hit work.now inner.now s k from at a (member labels) j c) ≡ true) × (a < k) }
+        × (any_of s (left_hit work.now inner.now s k from at a (member labels) j c) ≡ true) }
     ensures { Chosen work.now inner.now s k from at a (member labels) j c result.left result.right result.label }
 {
     let p = find_left(work, inner, s, k, from, at, a, labels, j, c);
@@ -225,8 +181,8 @@ fn leaf_cost(leaves: &[u8], s: usize, k: usize, a: usize, labels: u64, j: usize,
     change_cost(a, b, labels)
 }
 
-// The first label that gives a leaf state j at cost c; k where none does. All labels are tried.
-fn try_leaf_labels(
+// The first label that gives a leaf state j at cost c; k where none does.
+pub fn find_leaf_label(
     leaves: &[u8],
     s: usize,
     k: usize,
@@ -246,35 +202,4 @@ fn try_leaf_labels(
         b += 1;
     }
     k
-}
-
-// The leaf's own label where it gives state j, else k: no other costs nothing.
-fn own_leaf_label(leaves: &[u8], s: usize, k: usize, a: usize, labels: u64, j: usize) -> usize
-    requires { LeafArgs leaves.now s k × (a < k) }
-    ensures { First k (λ b. eqb (leaf_cost leaves.now a (member labels) j b) 0) result }
-{
-    let to = leaves[a] as usize;
-    if to == j {
-        return a;
-    }
-    k
-}
-
-// The first label that gives a leaf state j at cost c; k where none does.
-pub fn find_leaf_label(
-    leaves: &[u8],
-    s: usize,
-    k: usize,
-    a: usize,
-    labels: u64,
-    j: usize,
-    c: u32,
-) -> usize
-    requires { LeafArgs leaves.now s k × (a < k) }
-    ensures { First k (λ b. eqb (leaf_cost leaves.now a (member labels) j b) c) result }
-{
-    if c == 0 {
-        return own_leaf_label(leaves, s, k, a, labels, j);
-    }
-    try_leaf_labels(leaves, s, k, a, labels, j, c)
 }

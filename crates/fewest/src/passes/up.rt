@@ -1,69 +1,26 @@
 // The pass up: each node's size and costs, in rising node number.
-ghost use Rattle.std.specs.Prelude.{◌≡◌, true, ◌-◌, ◌≤◌, ◌<◌, length};
+ghost use Rattle.std.specs.Prelude.{◌≡◌, true, ◌-◌, ◌≤◌, length};
 ghost use Rattle.state_sets.specs.StateSets.{member};
-ghost use Rattle.fewest.specs.inner.Images.{Images, ImagesArgs, ImagesFit, ImagesFor};
-ghost use Rattle.fewest.specs.inner.Rows.{leaf_costs, inner_costs, OthersRow, Relaxed, CostRow};
-ghost use Rattle.fewest.specs.Relabelling.{every_label, stock_of};
+ghost use Rattle.fewest.specs.inner.Images.{ImagesFit, ImagesFor};
+ghost use Rattle.fewest.specs.inner.Rows.{leaf_costs, inner_costs, Relaxed, CostRow};
 ghost use Rattle.fewest.specs.inner.passes.Cells.{cost_cell, left_within, inner_size, RowDone};
 ghost use Rattle.fewest.specs.inner.passes.Up.{node_size, node_costs, LeafTurnArgs, InnerTurnArgs, NodeTurnArgs, UpGiven, Up};
 
 use crate::passes::cells::{put_row, stock};
 use crate::rows::NO_WAY;
 use crate::rows::images::fill_images;
-use crate::rows::leaves::{own_state, relax_leaf};
+use crate::rows::leaves::relax_leaf;
 use crate::rows::relax::relax_left;
 use formats::limits::STATE_LIMIT;
 
-// Writes the row of the leaf v of label a that may take the labels of the set. `row` has the costs by these.
-fn put_leaf(
-    work: &mut [u32],
-    leaves: &[u8],
-    s: usize,
-    k: usize,
-    v: usize,
-    a: usize,
-    labels: u64,
-    row: &[u32],
-)
-    requires { LeafTurnArgs work.old leaves.now s k v × (a < k) × OthersRow leaves.now s k (member labels) row.now }
-    ensures { RowDone s v 1 (leaf_costs leaves.now k a (member labels)) work.old work.new }
-{
-    put_row(work, s, v, 1, row);
-    let to = own_state(leaves, s, k, a);
-    work[v * (s + 1) + 1 + to] = 0;
-}
-
 // The turn of a leaf of label a that may take the labels of the set.
 fn leaf_turn(work: &mut [u32], leaves: &[u8], s: usize, k: usize, v: usize, a: usize, labels: u64)
-    requires { LeafTurnArgs work.old leaves.now s k v × (a < k) }
+    requires { LeafTurnArgs work.old leaves.now s k v }
     ensures { RowDone s v 1 (leaf_costs leaves.now k a (member labels)) work.old work.new }
 {
     let mut row = [NO_WAY; STATE_LIMIT];
-    relax_leaf(&mut row, leaves, s, k, labels);
-    put_leaf(work, leaves, s, k, v, a, labels, &row);
-}
-
-// The same; by the row `free` where every label is permitted.
-fn any_leaf_turn(
-    work: &mut [u32],
-    leaves: &[u8],
-    may: &[u64],
-    free: &[u32],
-    s: usize,
-    k: usize,
-    v: usize,
-    a: usize,
-    labels: u64,
-)
-    requires { LeafTurnArgs work.old leaves.now s k v × (a < k) × (labels ≡ stock_of may.now v)
-        × OthersRow leaves.now s k (member every_label) free.now }
-    ensures { RowDone s v 1 (leaf_costs leaves.now k a (member labels)) work.old work.new }
-{
-    if may.len() == 0 {
-        put_leaf(work, leaves, s, k, v, a, labels, free);
-        return;
-    }
-    leaf_turn(work, leaves, s, k, v, a, labels);
+    relax_leaf(&mut row, leaves, s, k, a, labels);
+    put_row(work, s, v, 1, &row);
 }
 
 // Lowers the row by the rows of inner node v's children.
@@ -140,14 +97,13 @@ fn node_turn(
     inner: &[u8],
     may: &[u64],
     images: &[u16],
-    free: &[u32],
     s: usize,
     k: usize,
     work: &mut [u32],
     v: usize,
 )
     requires { NodeTurnArgs kinds.now labels.now leaves.now inner.now may.now s k work.old v
-        × ImagesFor inner.now s k labels.now may.now images.now × OthersRow leaves.now s k (member every_label) free.now }
+        × ImagesFor inner.now s k labels.now may.now images.now }
     ensures { RowDone s v (node_size kinds.now s work.old v)
         (node_costs kinds.now labels.now leaves.now inner.now may.now s k
         work.old v) work.old work.new }
@@ -155,14 +111,13 @@ fn node_turn(
     let a = labels[v] as usize;
     let m = stock(may, v);
     if kinds[v] == 0 {
-        any_leaf_turn(work, leaves, may, free, s, k, v, a, m);
+        leaf_turn(work, leaves, s, k, v, a, m);
         return;
     }
     inner_turn(work, inner, images, s, k, v, a, m);
 }
 
-// Writes each node's size and costs; by images where there are some. `free` has a leaf's costs where every label is
-// permitted and costs a change.
+// Writes each node's size and costs; by images where there are some.
 fn pass_up(
     kinds: &[u8],
     labels: &[u8],
@@ -170,22 +125,19 @@ fn pass_up(
     inner: &[u8],
     may: &[u64],
     images: &[u16],
-    free: &[u32],
     s: usize,
     k: usize,
     work: &mut [u32],
 )
     requires { UpGiven kinds.now labels.now leaves.now inner.now may.now s k (length work.old)
-        × ImagesFor inner.now s k labels.now may.now images.now × OthersRow leaves.now s k (member every_label) free.now }
+        × ImagesFor inner.now s k labels.now may.now images.now }
     ensures { Up kinds.now labels.now leaves.now inner.now may.now s k
         (length kinds.now) work.old work.new }
 {
     let n = kinds.len();
     let mut v: usize = 0;
     while v < n {
-        node_turn(
-            kinds, labels, leaves, inner, may, images, free, s, k, work, v,
-        );
+        node_turn(kinds, labels, leaves, inner, may, images, s, k, work, v);
         v += 1;
     }
 }
@@ -198,19 +150,6 @@ fn by_images(sets: usize, s: usize, k: usize) -> bool
         return false;
     }
     s < k
-}
-
-// Writes the images where they save time, and tells how many are to be used: all, or none.
-fn some_images(images: &mut [u16], inner: &[u8], sets: usize, s: usize, k: usize) -> usize
-    requires { ImagesArgs inner.now s k (length images.old) }
-    ensures { (result ≤ length images.new)
-        × ((result ≡ 0 → ⊥) → (sets ≡ 0) × (result ≡ length images.new) × Images inner.now s k images.new) }
-{
-    if by_images(sets, s, k) {
-        fill_images(images, inner, s, k);
-        return images.len();
-    }
-    0
 }
 
 // Writes each node's size and costs.
@@ -228,20 +167,11 @@ pub fn costs_up(
     ensures { Up kinds.now labels.now leaves.now inner.now may.now s k
         (length kinds.now) work.old work.new }
 {
-    let mut free = [NO_WAY; STATE_LIMIT];
-    relax_leaf(&mut free, leaves, s, k, 18446744073709551615);
     let mut images = [0u16; STATE_LIMIT * STATE_LIMIT];
-    let m = some_images(&mut images, inner, may.len(), s, k);
-    pass_up(
-        kinds,
-        labels,
-        leaves,
-        inner,
-        may,
-        &images[..m],
-        &free,
-        s,
-        k,
-        work,
-    );
+    if by_images(may.len(), s, k) {
+        fill_images(&mut images, inner, s, k);
+        pass_up(kinds, labels, leaves, inner, may, &images, s, k, work);
+        return;
+    }
+    pass_up(kinds, labels, leaves, inner, may, &images[..0], s, k, work);
 }

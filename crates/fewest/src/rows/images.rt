@@ -1,8 +1,9 @@
 // The states that all labels give over two states, as a set: worked out once, where every node may take every label.
-ghost use Rattle.std.specs.Prelude.{◌≡◌, ◌||◌, ℕ, ◌≤◌, ◌<◌, eqb, length};
+ghost use Rattle.std.specs.Prelude.{◌≡◌, cond, ◌||◌, ℕ, ◌*◌, ◌+◌, ◌≤◌, ◌<◌, eqb, length, get_or};
 ghost use Rattle.state_sets.specs.StateSets.{member};
+ghost use Rattle.fewest.specs.Least.{no_way_out};
 ghost use Rattle.fewest.specs.inner.Rows.{labels_cost, Relaxed, CostRow, RowArgs};
-ghost use Rattle.fewest.specs.inner.Images.{image_cost, Image, Images, ImagesArgs, ImageArgs};
+ghost use Rattle.fewest.specs.inner.Images.{Image, Images, ImagesArgs, ImageArgs};
 
 use crate::rows::NO_WAY;
 use crate::rows::relax::lesser;
@@ -44,35 +45,51 @@ pub fn fill_images(images: &mut [u16], inner: &[u8], s: usize, k: usize)
     }
 }
 
-// The cost of state j over states that cost `base` together: `base` where it is the state that the node's own label
-// gives, one more where it is in the set, else "no way".
-fn image_cost(states: u16, to: usize, base: u32, j: usize) -> u32
-    requires { (base < 65536) × (j < 16) }
-    ensures { result ≡ image_cost states to base j }
+// c where state j is in the set, else "no way".
+fn cost_in(states: u16, j: usize, c: u32) -> u32
+    requires { j < 16 }
+    ensures { result ≡ cond (member states j) c no_way_out }
 {
-    if to == j {
-        return base;
-    }
     if (states >> j) & 1 == 1 {
-        return base + 1;
+        return c;
     }
     NO_WAY
 }
 
-// Lowers the costs of the states of the set, and of the state `to`. One loop does both: where one cost was stored just
-// before several are read at once, the read has to wait for it, which took a third of the time.
-fn lower_image(row: &mut [u32], s: usize, states: u16, to: usize, base: u32)
-    requires { (s ≤ 16) × (base < 65536) × CostRow s row.old }
-    ensures { Relaxed s (image_cost states to base) row.old row.new }
+// Lowers the cost of each state of the set to c.
+fn lower_set(row: &mut [u32], s: usize, states: u16, c: u32)
+    requires { (s ≤ 16) × CostRow s row.old }
+    ensures { Relaxed s (λ j. cond (member states j) c no_way_out) row.old row.new }
 {
     let mut j: usize = 0;
     while j < s {
-        let x = image_cost(states, to, base, j);
+        let x = cost_in(states, j, c);
         let y = row[j];
         let z = lesser(y, x);
         row[j] = z;
         j += 1;
     }
+}
+
+// Lowers the cost of the state that label a gives over states p and q to `base`.
+fn lower_own(
+    row: &mut [u32],
+    inner: &[u8],
+    s: usize,
+    k: usize,
+    p: usize,
+    q: usize,
+    a: usize,
+    base: u32,
+)
+    requires { RowArgs inner.now s k p q a base × (a < k) × CostRow s row.old }
+    ensures { Relaxed s (λ j. cond (eqb (get_or inner.now ((p * k + a) * s + q) 0) j) base no_way_out)
+        row.old row.new }
+{
+    let to = rule(inner, s, k, p, a, q) as usize;
+    let y = row[to];
+    let x = lesser(y, base);
+    row[to] = x;
 }
 
 // Lowers the row by every label, over states p and q that cost `base` together, of a node of label a that may take
@@ -92,6 +109,6 @@ pub fn relax_image(
     requires { ImageArgs inner.now s k p q a (member labels) base image × CostRow s row.old }
     ensures { Relaxed s (labels_cost inner.now s k p q a (member labels) base) row.old row.new }
 {
-    let to = rule(inner, s, k, p, a, q) as usize;
-    lower_image(row, s, image, to, base);
+    lower_own(row, inner, s, k, p, q, a, base);
+    lower_set(row, s, image, base + 1);
 }

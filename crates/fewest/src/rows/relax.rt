@@ -1,13 +1,11 @@
 // An inner node's row, way by way: the cost of a state is lowered to that of each way into it.
-ghost use Rattle.std.specs.Prelude.{◌≡◌, cond, ◌+◌, ◌*◌, ◌≤◌, ◌<◌, min, eqb, get_or};
+ghost use Rattle.std.specs.Prelude.{◌≡◌, ◌≤◌, ◌<◌, min};
 ghost use Rattle.state_sets.specs.StateSets.{member};
-ghost use Rattle.fewest.specs.Least.{no_way_out};
 ghost use Rattle.fewest.specs.inner.Images.{ImagesFit};
-ghost use Rattle.fewest.specs.inner.Rows.{change_of, labels_cost, others_cost, right_cost, left_cost, Relaxed, CostRow, RowArgs, RightArgs, LeftArgs};
+ghost use Rattle.fewest.specs.inner.Rows.{change_of, labels_cost, right_cost, left_cost, Relaxed, CostRow, RowArgs, RightArgs, LeftArgs};
 
 use crate::rows::NO_WAY;
 use crate::rows::images::relax_image;
-use crate::rows::sets::{below, first_label, without_first};
 use formats::rules::rule;
 
 // The cost of label b at a node of label a that may take the labels of the set.
@@ -34,55 +32,7 @@ pub fn lesser(x: u32, y: u32) -> u32
     y
 }
 
-// Lowers the cost of each state that a label of the set gives over states p and q to c.
-fn relax_others(
-    row: &mut [u32],
-    inner: &[u8],
-    s: usize,
-    k: usize,
-    p: usize,
-    q: usize,
-    labels: u64,
-    c: u32,
-)
-    requires { RowArgs inner.now s k p q 0 0 × (0 < k) × CostRow s row.old }
-    ensures { Relaxed s (others_cost (λ b. get_or inner.now ((p * k + b) * s + q) 0) k (member labels) c)
-        row.old row.new }
-{
-    let mut m = below(labels, k);
-    while 0 < m {
-        let b = first_label(m);
-        let to = rule(inner, s, k, p, b, q) as usize;
-        let y = row[to];
-        let x = lesser(y, c);
-        row[to] = x;
-        m = without_first(m);
-    }
-}
-
-// Lowers the cost of the state that label a gives over states p and q to `base`.
-fn lower_own(
-    row: &mut [u32],
-    inner: &[u8],
-    s: usize,
-    k: usize,
-    p: usize,
-    q: usize,
-    a: usize,
-    base: u32,
-)
-    requires { RowArgs inner.now s k p q a base × (a < k) × CostRow s row.old }
-    ensures { Relaxed s (λ j. cond (eqb (get_or inner.now ((p * k + a) * s + q) 0) j) base no_way_out)
-        row.old row.new }
-{
-    let to = rule(inner, s, k, p, a, q) as usize;
-    let y = row[to];
-    let x = lesser(y, base);
-    row[to] = x;
-}
-
-// Lowers the row by every label, over states p and q that cost `base` together: by those of the set, and by the node's
-// own label a.
+// Lowers the row by every label, over states p and q that cost `base` together.
 pub fn relax_labels(
     row: &mut [u32],
     inner: &[u8],
@@ -94,11 +44,18 @@ pub fn relax_labels(
     labels: u64,
     base: u32,
 )
-    requires { RowArgs inner.now s k p q a base × (base < 65536) × (a < k) × CostRow s row.old }
+    requires { RowArgs inner.now s k p q a base × CostRow s row.old }
     ensures { Relaxed s (labels_cost inner.now s k p q a (member labels) base) row.old row.new }
 {
-    relax_others(row, inner, s, k, p, q, labels, base + 1);
-    lower_own(row, inner, s, k, p, q, a, base);
+    let mut b: usize = 0;
+    while b < k {
+        let to = rule(inner, s, k, p, b, q) as usize;
+        let c = change_cost(a, b, labels);
+        let y = row[to];
+        let x = lesser(y, base + c);
+        row[to] = x;
+        b += 1;
+    }
 }
 
 // The same, by the states' image where there is one; nothing is lowered where the states cost 65,536 or more together.

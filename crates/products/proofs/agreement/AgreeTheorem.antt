@@ -2,7 +2,7 @@
 --     none-agree       none shown → they agree
 --     agree-none       they agree → none shown
 --     separating       lines shown → they separate
-use Prim.Native.Nat.{ℕ, ◌*◌, ◌<◌}
+use Prim.Native.Nat.{ℕ, ◌<◌}
 use mathlib.Core.Path.{◌≡◌, refl, sym, ◌∙◌}
 use mathlib.Core.Bool.{Bool, true, false}
 use mathlib.Core.List.{List}
@@ -12,11 +12,10 @@ use Rattle.trees.specs.Tree.{Tree}
 use Rattle.trees.specs.Automaton.{Automaton, accepts}
 use Rattle.formats.specs.Rules.{label_count, rule_automaton}
 use Rattle.formats.proofs.RuleLaws.{RulesPass}
-use Rattle.products.specs.Product.{product, differ}
-use Rattle.products.specs.Plans.{PlanOf}
+use Rattle.products.specs.Product.{differ}
 use Rattle.products.proofs.RulePairs.{pair-leaf-below, pair-step-below, pair-accepts, pair-most}
-use Rattle.products.specs.agreement.Lines.{Line, lines_tree}
-use Rattle.products.specs.agreement.Agreement.{Agree, Differ, Separates}
+use Rattle.products.specs.agreement.Lines.{lines_tree}
+use Rattle.products.specs.agreement.Agreement.{Agree, Separates}
 use Rattle.products.specs.agreement.Answer.{differing, shown_count, shown_lines}
 use Rattle.products.proofs.agreement.Emptiness.{Shown, none-accepted, shown-accepted}
 

@@ -16,7 +16,7 @@ use Rattle.trees.specs.Tree.{Tree, leaf, height}
 use Rattle.trees.specs.Automaton.{Automaton, state, accepts}
 use Rattle.list_laws.proofs.BoolLaws.{true-false}
 use Rattle.products.specs.Plans.{PlanOf}
-use Rattle.products.specs.agreement.Lines.{Line, GoodLines, trees_from, lines_tree}
+use Rattle.products.specs.agreement.Lines.{GoodLines, trees_from, lines_tree}
 use Rattle.products.specs.agreement.Search.{reached, first_accepted}
 use Rattle.products.proofs.agreement.LineLaws.{good-take, trees-take}
 use Rattle.products.proofs.agreement.FoundLaws.{Kept, Has, tree_at}

@@ -5,7 +5,7 @@
 --     Grows F G          what was found stays, at its place
 --     Kept F             good lines, right states, heights that never fall, and what is seen is found
 --     tried              a state that is tried is found, and all this is kept
-use Prim.Native.Nat.{ℕ, zero, suc, ◌+◌, ◌-◌, ◌≤◌, ◌<◌}
+use Prim.Native.Nat.{ℕ, ◌+◌, ◌≤◌, ◌<◌}
 use mathlib.Core.Path.{◌≡◌, refl, sym, ap, ◌∙◌, subst}
 use mathlib.Core.Bool.{Bool, true, false, cond}
 use mathlib.Core.List.{List, [], ◌∷◌, ◌++◌}
@@ -15,7 +15,7 @@ use lib.Dec.{eqb}
 use lib.ListN.{length, get_or, set, length-append, length-set, get_or-append}
 use lib.Seq.{get_or_at, get_or-set_other}
 use borrow.Author.Tests.{eqb-true, eqb-false}
-use Rattle.trees.specs.Tree.{Tree, leaf, node, height}
+use Rattle.trees.specs.Tree.{Tree, leaf, height}
 use Rattle.trees.specs.Automaton.{Automaton, state}
 use Rattle.products.specs.Plans.{PlanOf}
 use Rattle.products.specs.agreement.Lines.{Line, GoodLine, GoodLines, line_tree, trees_from}

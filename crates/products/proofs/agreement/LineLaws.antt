@@ -3,14 +3,13 @@
 --     good_more                  one good line more
 --     good-take, trees-take      a front of good lines is good lines, with the same trees
 --     line-plan                  a good line over plans is a plan
-use Prim.Native.Nat.{ℕ, zero, suc, ◌+◌, ◌-◌, ◌≤◌, ◌<◌}
+use Prim.Native.Nat.{ℕ, zero, suc, ◌+◌, ◌<◌}
 use mathlib.Core.Path.{◌≡◌, refl, sym, ap, ◌∙◌, subst}
-use mathlib.Core.List.{List, [], ◌∷◌, ◌++◌, append_assoc}
+use mathlib.Core.List.{List, [], ◌∷◌, ◌++◌}
 use native.Mathlib.Omega.{arith}
 use lib.ListN.{length, get_or, take, drop, length-append, get_or-append, take-append-drop}
-use lib.Seq.{get_or_at}
-use Rattle.trees.specs.Tree.{Tree, leaf, node}
-use Rattle.products.specs.agreement.Lines.{Line, leaf_line, inner_line, GoodLine, GoodLines, line_tree, trees_from, lines_tree}
+use Rattle.trees.specs.Tree.{Tree, leaf}
+use Rattle.products.specs.agreement.Lines.{Line, leaf_line, inner_line, GoodLine, GoodLines, line_tree, trees_from}
 use Rattle.products.specs.Plans.{PlanOf}
 use Rattle.products.proofs.PlanParts.{below_one, parts-plan}
 

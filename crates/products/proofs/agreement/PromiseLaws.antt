@@ -2,10 +2,9 @@
 --     refused-done                      a refusal meets it
 --     first-no, second-no, labels-no    where each check refuses
 --     answered-done                     the named reply meets it
-use Prim.Native.Nat.{ℕ, zero, suc, ◌≤◌, ◌<◌}
+use Prim.Native.Nat.{ℕ, ◌≤◌, ◌<◌}
 use mathlib.Core.Path.{◌≡◌, refl, sym, ap, ◌∙◌, subst}
-use mathlib.Core.Bool.{true, false}
-use mathlib.Core.List.{List, [], ◌∷◌, ◌++◌}
+use mathlib.Core.List.{List, [], ◌∷◌}
 use mathlib.Core.Option.{Option, none, some}
 use native.Mathlib.Omega.{arith}
 use lib.Dec.{eqb}
@@ -13,11 +12,11 @@ use lib.ListN.{length, get_or}
 use borrow.Author.Tests.{eq-eqb, ne_eqb}
 use Rattle.trees.specs.Automaton.{Automaton}
 use Rattle.formats.specs.Rules.{label_count, rule_automaton}
-use Rattle.formats.specs.Checks.{Check, check, first_no, rule_checks}
-use Rattle.formats.proofs.RuleLaws.{RulesPass, rules-pass, rules-numbered}
+use Rattle.formats.specs.Checks.{check, first_no, rule_checks}
+use Rattle.formats.proofs.RuleLaws.{rules-pass, rules-numbered}
 use Rattle.formats.proofs.CheckLaws.{first_no-yes, first_no-no, first_no-none, first_no-append-zero, first_no-append-no}
 use Rattle.products.specs.agreement.Lines.{Line}
-use Rattle.products.specs.agreement.Agreement.{Agree, Separates}
+use Rattle.products.specs.agreement.Agreement.{Separates}
 use Rattle.products.specs.agreement.Answer.{agree_checks, shown_count, shown_lines}
 use Rattle.products.proofs.agreement.AgreeTheorem.{none-agree, agree-none, separating}
 use Rattle.products.specs.declared.agreement.Agreement.{Agreement}

@@ -4,19 +4,18 @@
 --     lines-reply      a reply shows the lines it was made of
 --     front-column     the front of a record's array is the column of its lines
 --     FrontLoop        the invariant of front
-use Prim.Native.Nat.{ℕ, zero, suc, ◌+◌, ◌-◌, ◌≤◌, ◌<◌}
+use Prim.Native.Nat.{ℕ, zero, suc, ◌+◌, ◌≤◌, ◌<◌}
 use mathlib.Core.Path.{◌≡◌, refl, sym, ap, ap₂, ◌∙◌, subst}
 use mathlib.Core.List.{List, [], ◌∷◌, ◌++◌}
 use native.Mathlib.Decide.{ℕ_discrete, dec_lt}
 use native.Mathlib.Omega.{arith}
-use lib.ListN.{length, get_or, take, set, replicate, length-set, length-append, get_or-append, get_or-eq_default}
+use lib.ListN.{length, get_or, take, set, replicate, length-set, get_or-append, get_or-eq_default}
 use lib.Seq.{get_or_at, get_or-set_same, get_or-set_other, take-suc, take-length}
-use Rattle.list_laws.specs.Rows.{tabulate}
 use Rattle.list_laws.proofs.RowLaws.{length-tabulate, get_d_tabulate, tabulate-of}
 use Rattle.products.specs.agreement.Lines.{Line, leaf_line, inner_line}
 use Rattle.products.proofs.agreement.Marks.{zeros-at}
 use Rattle.products.specs.declared.agreement.reachable.Search.{Search}
-use Rattle.products.specs.agreement.reachable.SearchRecord.{line_of, line_from, lines_from, line_at, lines_to, Fits}
+use Rattle.products.specs.agreement.reachable.SearchRecord.{line_of, line_from, lines_from, line_at, lines_to}
 use Rattle.products.proofs.agreement.reachable.RecordLaws.{length-lines}
 use Rattle.products.specs.declared.agreement.Agreement.{Agreement}
 use Rattle.products.specs.agreement.Reply.{line_kind, line_label, line_left, line_right, column, reply_of, lines_in, FrontArgs}

@@ -4,14 +4,12 @@
 --     same-labels            accepted, the tables have the same K
 --     renamed-reply, oddly-reply    computed: two tables that agree though different, and two that do not
 use Prim.Native.Nat.{ℕ, ◌<◌}
-use mathlib.Core.Path.{◌≡◌, refl, sym, ap, ◌∙◌}
-use mathlib.Core.Bool.{true}
+use mathlib.Core.Path.{◌≡◌, sym, ap, ◌∙◌}
 use mathlib.Core.List.{List, [], ◌∷◌}
 use native.Mathlib.Omega.{arith}
-use lib.Dec.{eqb}
 use borrow.Author.Tests.{eqb-true}
 use Rattle.formats.specs.Rules.{label_count, rule_automaton}
-use Rattle.formats.specs.Checks.{first_no, rule_checks}
+use Rattle.formats.specs.Checks.{rule_checks}
 use Rattle.formats.proofs.RuleLaws.{rules-numbered}
 use Rattle.formats.proofs.CheckLaws.{first_no-head, first_no-append-right}
 use Rattle.products.specs.agreement.Lines.{leaf_line, inner_line}

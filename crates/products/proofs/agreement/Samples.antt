@@ -8,15 +8,14 @@ use Prim.Native.Nat.{ℕ}
 use mathlib.Core.Path.{◌≡◌, refl}
 use mathlib.Core.List.{List, [], ◌∷◌}
 use mathlib.Core.Option.{none, some}
-use mathlib.Core.Bool.{true, false}
 use native.Mathlib.Omega.{arith}
 use lib.ListN.{get_or}
-use Rattle.trees.specs.Tree.{Tree, leaf, node, height}
+use Rattle.trees.specs.Tree.{leaf, node}
 use Rattle.list_laws.specs.Tests.{all_below}
-use Rattle.formats.specs.Rules.{label_count, rule_automaton}
+use Rattle.formats.specs.Rules.{rule_automaton}
 use Rattle.formats.specs.Checks.{first_no, rule_checks}
 use Rattle.formats.proofs.RuleLaws.{rules-pass}
-use Rattle.products.specs.agreement.Lines.{Line, leaf_line, inner_line, lines_tree}
+use Rattle.products.specs.agreement.Lines.{leaf_line, inner_line, lines_tree}
 use Rattle.products.specs.agreement.Agreement.{Agree, Separates}
 use Rattle.products.specs.agreement.Search.{added, over_leaves, over_labels, both_orders, over_found, searched, reached}
 use Rattle.products.specs.agreement.Search.{first_accepted}

@@ -5,22 +5,19 @@
 --     reached-most       at most 256 lines
 --     reaches            every plan's state is found, by a line of no more height
 use Prim.Native.Nat.{ℕ, zero, suc, ◌+◌, ◌≤◌, ◌<◌, max}
-use mathlib.Core.Path.{◌≡◌, refl, sym, ap, ap₂, ◌∙◌, subst}
-use mathlib.Core.Bool.{cond}
-use mathlib.Core.List.{List, [], ◌∷◌}
+use mathlib.Core.Path.{◌≡◌, refl, sym, ap₂, ◌∙◌, subst}
 use native.Mathlib.Decide.{ℕ_discrete, dec_lt}
 use native.Mathlib.Omega.{arith}
-use lib.Dec.{ltb}
 use lib.ListN.{length}
 use borrow.Author.Tests.{lt-ltb, le-ltb}
-use Rattle.trees.specs.Tree.{Tree, leaf, node, height}
+use Rattle.trees.specs.Tree.{Tree, height}
 use Rattle.trees.specs.Automaton.{Automaton, state}
 use Rattle.products.specs.Plans.{PlanOf}
-use Rattle.products.specs.agreement.Lines.{Line, leaf_line, inner_line}
+use Rattle.products.specs.agreement.Lines.{leaf_line, inner_line}
 use Rattle.products.specs.agreement.Search.{Found, nothing, added, state_at, over_leaves, over_labels, both_orders}
 use Rattle.products.specs.agreement.Search.{over_found, searched, reached}
 use Rattle.products.proofs.agreement.ClosedRuns.{Stable, runs-in}
-use Rattle.products.proofs.agreement.FoundLaws.{tree_at, height_at, Has, Under, Grows, grows_self, grows-on, has_on, has-higher}
+use Rattle.products.proofs.agreement.FoundLaws.{height_at, Has, Under, Grows, grows_self, grows-on, has_on, has-higher}
 use Rattle.products.proofs.agreement.FoundLaws.{Kept, kept-none, most-lines, Tried, tried}
 
 module _ (A : Automaton) (k : ℕ) (small-leaf : (a : ℕ) → A.ι a < 256) (small-step : (p a q : ℕ) → A.δ p a q < 256) where

@@ -13,23 +13,22 @@ use lib.Dec.{eqb}
 use lib.ListN.{length, get_or, take, drop, length-take, drop_of_length-le, length-append}
 use lib.Seq.{drop-cons, get_or-take, take_all, take-append-le}
 use Rattle.trees.specs.Automaton.{Automaton}
-use Rattle.formats.specs.Rules.{state_count, label_count, rule_length, leaf_states, inner_states, rule_marks, rule_automaton}
+use Rattle.formats.specs.Rules.{state_count, label_count, rule_length, leaf_states, inner_states, rule_marks}
 use Rattle.formats.specs.Checks.{first_no, rule_checks}
 use Rattle.formats.proofs.RuleLaws.{RulesPass, rules-pass, leaf-state-below, inner-state-below, mark-below}
 use Rattle.formats.proofs.RuleLaws.{length-leaf_states, length-inner_states, length-rule_marks}
+use Rattle.formats.proofs.RuleLaws.{leaves-part, inner-part, marks-part}
 use Rattle.formats.proofs.PlanLaws.{product-most}
 use Rattle.products.specs.Product.{differ}
 use Rattle.products.proofs.RulePairs.{pair-count}
-use Rattle.products.specs.agreement.Lines.{Line}
 use Rattle.products.specs.agreement.Search.{Found, nothing, over_leaves, searched, reached, first_accepted}
 use Rattle.products.specs.agreement.Answer.{differing, shown_count, shown_lines}
 use Rattle.products.specs.declared.agreement.reachable.Search.{Search}
 use Rattle.products.specs.agreement.reachable.SearchRecord.{empty_search, lines_from, lines_to, line_at, found_in, pair_leaf, step_of}
-use Rattle.products.specs.agreement.reachable.SearchRecord.{pair_step, Fits, Pair, Front}
+use Rattle.products.specs.agreement.reachable.SearchRecord.{Fits, Pair, Front}
 use Rattle.products.specs.agreement.reachable.SearchRecord.{LeavesArgs, LeavesDone, SearchArgs, SearchDone, MarksArgs, differing_from}
 use Rattle.products.proofs.agreement.reachable.RecordLaws.{count_most, length-lines, empty-fits, empty-found}
-use Rattle.products.specs.agreement.Reply.{shown_by, shown_reply, CutArgs}
-use Rattle.products.specs.TwoTables.{TwoTables}
+use Rattle.products.specs.agreement.Reply.{shown_by, shown_reply, AnswerArgs, CutArgs}
 
 abbrev pub shown_number : Option ℕ → ℕ
 shown_number none = 0
@@ -79,7 +78,7 @@ differing-most f g s2 t (suc n) i = go (eqb (get_or f (get_or t.codes i 0 / s2) 
     go true h = omega arith
     go false h = omega arith
 
-module _ (first second : List ℕ) (s1 s2 k : ℕ) (A : TwoTables first second s1 s2 k) where
+module _ (first second : List ℕ) (s1 s2 k : ℕ) (A : AnswerArgs first second s1 s2 k) where
   P : RulesPass first
   P = rules-pass first A.first_passes
 
@@ -197,6 +196,25 @@ module _ (first second : List ℕ) (s1 s2 k : ℕ) (A : TwoTables first second s
       → LeavesArgs x y s1 s2 k e
   leaf-args-at x y e p q z = rw (p, q, z) leaf-args
 
+  pub inner_first : (m : ℕ) → m ≡ s1 * k * s1 → take (20 + k + m - (20 + k)) (drop (20 + k) first) ≡ inner_states first
+  inner_first m e = rw e (inner-part first s1 k A.first_states A.first_labels)
+
+  pub inner-second : (m : ℕ) → m ≡ s2 * k * s2 → take (20 + k + m - (20 + k)) (drop (20 + k) second) ≡ inner_states second
+  inner-second m e = rw e (inner-part second s2 k A.second_states A.second_labels)
+
+  pub marks-first : (m : ℕ) → m ≡ s1 * k * s1 → take (length first - (20 + k + m)) (drop (20 + k + m) first) ≡ rule_marks first
+  marks-first m e = rw e (marks-part first s1 k P A.first_states A.first_labels)
+
+  pub marks-second : (m : ℕ) → m ≡ s2 * k * s2
+      → take (length second - (20 + k + m)) (drop (20 + k + m) second) ≡ rule_marks second
+  marks-second m e = rw e (marks-part second s2 k Q A.second_states A.second_labels)
+
+  pub leaves-first : take (20 + k - 20) (drop 20 first) ≡ leaf_states first
+  leaves-first = leaves-part first k A.first_labels
+
+  pub leaves-second : take (20 + k - 20) (drop 20 second) ≡ leaf_states second
+  leaves-second = leaves-part second k A.second_labels
+
   pub whole-args-at : (x y z w : List ℕ) (l : Search) → x ≡ inner_states first → y ≡ inner_states second → z ≡ rule_marks first
       → w ≡ rule_marks second → Fits s1 s2 l
       → SearchArgs x y z w s1 s2 k l
@@ -297,3 +315,25 @@ module _ (first second : List ℕ) (s1 s2 k : ℕ) (A : TwoTables first second s
   pub cut-args-at : (z w : List ℕ) (t : Search) (n : ℕ) → z ≡ rule_marks first → w ≡ rule_marks second → Fits s1 s2 t
       → n ≡ differing_from z w s2 t 0 (t.count - 0) → CutArgs s1 s2 t n
   cut-args-at z w t n pz pw F N = cut-args t n F (number_at z w t n pz pw N)
+
+-- ---- the counts as the call reads them
+
+pub answer-args : (first second : List ℕ) (a b x : ℕ) → first_no (rule_checks first) ≡ 0 → first_no (rule_checks second) ≡ 0
+    → a ≡ state_count first → b ≡ state_count second → x ≡ label_count first
+    → x ≡ label_count second → AnswerArgs first second a b x
+answer-args first second a b x p q e f g h =
+    let P : RulesPass first = rules-pass first p in
+    let Q : RulesPass second = rules-pass second q in
+    record {
+      first_passes = p;
+      second_passes = q;
+      first_states = e;
+      second_states = f;
+      first_labels = g;
+      second_labels = h;
+      first_most = omega (arith, P.states_most);
+      second_most = omega (arith, Q.states_most);
+      labels_most = omega (arith, P.labels_most);
+      first_exact = P.exact ∙ sym (ap₂ rule_length e g);
+      second_exact = Q.exact ∙ sym (ap₂ rule_length f h);
+    }

@@ -3,12 +3,11 @@
 --     refused-done                                          a refusal meets the promise
 --     table-args, merged-done                               past the checks the table can be written, and then the promise is met
 use Prim.Native.Nat.{ℕ, ◌+◌, ◌*◌, ◌≤◌, ◌<◌}
-use mathlib.Core.Path.{◌≡◌, refl, sym, ap, ap₂, ◌∙◌, subst}
-use mathlib.Core.Bool.{Bool, true, false}
-use mathlib.Core.List.{List, [], ◌∷◌, ◌++◌}
+use mathlib.Core.Path.{◌≡◌, refl, sym, ap₂, ◌∙◌, subst}
+use mathlib.Core.List.{List, [], ◌∷◌}
 use native.Mathlib.Omega.{arith}
 use lib.Dec.{eqb, leb}
-use lib.ListN.{length, drop}
+use lib.ListN.{length}
 use borrow.Author.Tests.{eq-eqb, ne_eqb, le-leb, lt-leb}
 use Rattle.formats.specs.Limits.{state_limit}
 use Rattle.formats.specs.Rules.{state_count, label_count, rule_length}
@@ -16,12 +15,10 @@ use Rattle.formats.specs.Checks.{Check, check, first_no, rule_checks}
 use Rattle.formats.proofs.RuleLaws.{RulesPass, rules-pass, rules-numbered}
 use Rattle.formats.proofs.CheckLaws.{first_no-yes, first_no-no, first_no-none, first_no-append-zero, first_no-append-no}
 use Rattle.products.proofs.RulePairs.{pair-most}
-use Rattle.products.specs.declared.merging.MergeAnswer.{MergeAnswer}
 use Rattle.products.specs.declared.merging.MergeAnswer.TheVariants.{Merged, Refused}
 use Rattle.products.specs.merging.Merged.{merged_states, merged_bytes, merge_checks}
 use Rattle.products.specs.merging.Writes.{written, TableArgs}
-use Rattle.products.proofs.TwoTables.{two-tables}
-use Rattle.products.specs.merging.Answer.{merge_number, MergeDone}
+use Rattle.products.specs.merging.Answer.{MergeDone}
 use Rattle.products.proofs.merging.WriteLaws.{written_all}
 
 module _ (first second out : List ℕ) where
@@ -101,11 +98,24 @@ module _ (first second out : List ℕ) where
 
           module _ (m : ℕ) (em : m ≡ s1 * s2 * k * (s1 * s2)) (fits : 20 + k + m + s1 * s2 ≤ length out) where
             pub table-args : TableArgs first second s1 s2 k out
-            table-args = record {
-              tables = two-tables first second s1 s2 k p q e1 e2 ek (ek ∙ same);
-              product = few;
-              room = omega arith;
-            }
+            table-args =
+                let P : RulesPass first = rules-pass first p in
+                let Q : RulesPass second = rules-pass second q in
+                record {
+                  first_passes = p;
+                  second_passes = q;
+                  first_states = e1;
+                  second_states = e2;
+                  first_labels = ek;
+                  second_labels = ek ∙ same;
+                  first_most = omega (arith, P.states_most);
+                  second_most = omega (arith, Q.states_most);
+                  labels_most = labels_most;
+                  product = few;
+                  first_exact = P.exact ∙ sym (ap₂ rule_length e1 ek);
+                  second_exact = Q.exact ∙ sym (ap₂ rule_length e2 (ek ∙ same));
+                  room = omega arith;
+                }
 
             pub merged-done : (r : List ℕ) → r ≡ written 0 (merged_bytes first second) out
                 → MergeDone first second out Merged r

@@ -4,24 +4,22 @@
 --     merged-accepts    "one table that clears exactly the plans that both clear"
 use Prim.Native.Nat.{ℕ, ◌+◌, ◌*◌, ◌/◌, ◌%◌, ◌≤◌, ◌<◌}
 use mathlib.Core.Path.{◌≡◌, refl, sym, ap, ap₂, ◌∙◌, subst}
-use mathlib.Core.Bool.{Bool, true, false, cond, ◌&&◌}
+use mathlib.Core.Bool.{Bool, true, false, ◌&&◌}
 use mathlib.Core.List.{List}
 use native.Mathlib.Omega.{arith}
 use lib.Arith.{digits_div, digits_mod, digits_lt}
 use lib.Dec.{eqb}
-use lib.ListN.{length, get_or}
 use Rattle.trees.specs.Tree.{Tree, leaf, node}
 use Rattle.trees.specs.Automaton.{Automaton, root_label, run, state, accepts}
 use Rattle.list_laws.specs.Rows.{tabulate}
-use Rattle.list_laws.proofs.RowLaws.{stride, length-tabulate, get_d_tabulate}
-use Rattle.trees.proofs.RunLaws.{state_below}
+use Rattle.list_laws.proofs.RowLaws.{length-tabulate, get_d_tabulate}
 use Rattle.list_laws.specs.Tests.{all_below}
 use Rattle.formats.specs.Rules.{state_count, label_count, tree_automaton, rule_automaton}
 use Rattle.list_laws.proofs.TestLaws.{at-all_below}
-use Rattle.formats.proofs.RuleLaws.{RulesPass, leaf-state-below, inner-state-below}
-use Rattle.products.specs.Product.{product, pair_tree}
+use Rattle.formats.proofs.RuleLaws.{RulesPass}
+use Rattle.products.specs.Product.{pair_tree}
 use Rattle.products.specs.Plans.{PlanOf}
-use Rattle.products.specs.merging.Merged.{rule_bytes, merged_states, bit, merged_automaton, merged_leaf, merged_inner}
+use Rattle.products.specs.merging.Merged.{merged_states, bit, merged_automaton, merged_leaf, merged_inner}
 use Rattle.products.specs.merging.Merged.{merged_mark, merged_bytes}
 use Rattle.products.proofs.RulePairs.{pair-count, pair-leaf-below, pair-step-below, pair-below, pair-run, pair-accepts}
 use Rattle.products.proofs.PlanParts.{Parts, plan-parts, one_below}

@@ -10,10 +10,10 @@ use mathlib.Core.List.{List, [], ◌∷◌, ◌++◌}
 use native.Mathlib.Omega.{arith}
 use native.Mathlib.Nat.{div-lt_iff_lt-mul, mod-lt}
 use lib.Arith.{digits_div, digits_mod, digits_lt}
-use lib.ListN.{length, get_or, take, drop, set, length-append}
+use lib.ListN.{length, get_or, take, drop, set}
 use lib.Seq.{get_or-take, get_or-drop}
 use Rattle.list_laws.specs.Rows.{tabulate}
-use Rattle.list_laws.proofs.RowLaws.{stride, length-tabulate, tabulate-ext}
+use Rattle.list_laws.proofs.RowLaws.{stride, tabulate-ext}
 use Rattle.formats.specs.Bytes.{le32_bytes}
 use Rattle.list_laws.proofs.SliceLaws.{length_part}
 use Rattle.formats.proofs.PlanLaws.{product-most}

@@ -1,15 +1,14 @@
 -- A rule table's bytes from its runs: the header and the runs are read back, and the checks pass.
 --     rule_bytes-passes       6 to 9 pass
 --     rule_bytes-automaton    the automaton of the bytes is that of the runs
-use Prim.Native.Nat.{ℕ, ◌+◌, ◌*◌, ◌≤◌, ◌<◌}
-use mathlib.Core.Path.{◌≡◌, refl, sym, ap, ap₂, ◌∙◌, subst}
-use mathlib.Core.Bool.{Bool, true}
-use mathlib.Core.List.{List, [], ◌∷◌, ◌++◌}
+use Prim.Native.Nat.{ℕ, ◌+◌, ◌*◌, ◌≤◌}
+use mathlib.Core.Path.{◌≡◌, refl, sym, ap, ap₂, ◌∙◌}
+use mathlib.Core.Bool.{true}
+use mathlib.Core.List.{List, ◌++◌}
 use native.Mathlib.Omega.{arith}
 use lib.ListN.{length, take, drop, length-append}
 use lib.Seq.{take_at, drop_at, drop-drop, take_all}
-use Rattle.trees.specs.Automaton.{Automaton}
-use Rattle.formats.specs.Bytes.{le32, le32_bytes}
+use Rattle.formats.specs.Bytes.{le32}
 use Rattle.list_laws.specs.Tests.{all_below}
 use Rattle.formats.specs.Rules.{state_count, label_count, rule_length, leaf_states, inner_states, rule_marks, tree_automaton}
 use Rattle.formats.specs.Rules.{rule_automaton}

@@ -3,7 +3,7 @@
 --     rule-decodes    bytes pass 6 to 9 exactly when they are the table of an automaton, given by its runs, whose values are inside
 -- That the automaton of the bytes is that of the runs: RuleBytesLaws, rule_bytes-automaton.
 use Prim.Native.Nat.{ℕ, ◌+◌, ◌*◌, ◌<◌}
-use mathlib.Core.Path.{◌≡◌, refl, sym, ap, ap₂, ◌∙◌, subst}
+use mathlib.Core.Path.{◌≡◌, refl, sym, ap, ◌∙◌, subst}
 use mathlib.Core.Bool.{true}
 use mathlib.Core.Logic.{◌↔◌}
 use mathlib.Core.List.{List, ◌++◌}

@@ -3,24 +3,23 @@
 --     table-written                                     the four parts, one behind the other, are the merged table
 use Prim.Native.Nat.{ℕ, zero, suc, ◌+◌, ◌*◌, ◌/◌, ◌%◌, ◌-◌, ◌≤◌, ◌<◌}
 use mathlib.Core.Path.{◌≡◌, refl, sym, ap, ap₂, ◌∙◌, subst}
-use mathlib.Core.Bool.{Bool, ◌&&◌}
-use mathlib.Core.List.{List, [], ◌∷◌, ◌++◌, append_assoc}
+use mathlib.Core.Bool.{◌&&◌}
+use mathlib.Core.List.{List, ◌++◌, append_assoc}
 use native.Mathlib.Omega.{arith}
 use lib.Arith.{digits_lt}
 use lib.Dec.{eqb}
 use lib.ListN.{length, get_or, take, drop, length-append}
 use Rattle.list_laws.specs.Rows.{tabulate}
-use Rattle.list_laws.proofs.RowLaws.{stride, length-tabulate, tabulate-ext}
-use Rattle.formats.specs.Rules.{state_count, label_count, rule_length, leaf_states, inner_states, rule_marks, rule_automaton}
-use Rattle.formats.specs.Checks.{first_no, rule_checks}
-use Rattle.formats.proofs.PlanLaws.{product-most}
+use Rattle.list_laws.proofs.RowLaws.{length-tabulate, tabulate-ext}
+use Rattle.formats.specs.Rules.{state_count, label_count, leaf_states, inner_states, rule_marks}
 use Rattle.formats.proofs.RuleAnswers.{product-inner}
 use Rattle.formats.proofs.RuleLaws.{RulesPass, rules-pass, leaf-state-below, inner-state-below, mark-below}
-use Rattle.formats.proofs.RuleLaws.{length-leaf_states, length-inner_states, length-rule_marks}
+use Rattle.formats.proofs.RuleLaws.{length-leaf_states, length-inner_states, length-rule_marks, leaves-part, inner-part}
+use Rattle.formats.proofs.RuleLaws.{marks-part}
 use Rattle.products.proofs.RulePairs.{pair-most}
 use Rattle.products.specs.merging.Merged.{rule_head, rule_bytes, merged_states, bit, merged_leaf, merged_inner, merged_mark}
 use Rattle.products.specs.merging.Merged.{merged_bytes}
-use Rattle.products.specs.merging.Writes.{written, leaf_cell, inner_cell, mark_cell, Room, HeadArgs, LeavesArgs, Inner}
+use Rattle.products.specs.merging.Writes.{written, leaf_cell, inner_cell, mark_cell, HeadArgs, LeavesArgs, Inner}
 use Rattle.products.specs.merging.Writes.{InnerArgs, MarksArgs, TableArgs}
 use Rattle.products.proofs.merging.WriteLaws.{length-written, written_behind}
 
@@ -39,28 +38,28 @@ head-length s k = refl
 
 module _ (first second : List ℕ) (s1 s2 k : ℕ) (l : List ℕ) (A : TableArgs first second s1 s2 k l) where
   P : RulesPass first
-  P = rules-pass first A.tables.first_passes
+  P = rules-pass first A.first_passes
 
   Q : RulesPass second
-  Q = rules-pass second A.tables.second_passes
+  Q = rules-pass second A.second_passes
 
   abbrev S : ℕ
   S = s1 * s2
 
   product_is : S ≡ merged_states first second
-  product_is = ap₂ (λ (x y : ℕ). x * y) A.tables.first_states A.tables.second_states
+  product_is = ap₂ (λ (x y : ℕ). x * y) A.first_states A.second_states
 
   pair_is : s1 * s2 ≤ 256
   pair_is = subst (λ (x : ℕ). x ≤ 256) (sym product_is) (pair-most first second P Q)
 
   pub inner-size : S * k * S ≤ 16384
-  inner-size = (product-inner S k A.product A.tables.labels_most).1
+  inner-size = (product-inner S k A.product A.labels_most).1
 
   pub head-args : HeadArgs S k l
   head-args = record {
     room = record { inside = omega (arith, A.room); small = omega arith };
     states = A.product;
-    labels = A.tables.labels_most;
+    labels = A.labels_most;
   }
 
   -- ---- the parts of the two tables, as they are handed on
@@ -68,34 +67,34 @@ module _ (first second : List ℕ) (s1 s2 k : ℕ) (l : List ℕ) (A : TableArgs
   pub leaves-args : (x y : List ℕ) (z : List ℕ) → x ≡ leaf_states first → y ≡ leaf_states second → length z ≡ length l
       → LeavesArgs x y s2 20 z
   leaves-args x y z p q e =
-      let m : length (leaf_states first) ≡ k = length-leaf_states first P ∙ sym A.tables.first_labels in
-      let n : length (leaf_states second) ≡ k = length-leaf_states second Q ∙ sym A.tables.second_labels in
+      let m : length (leaf_states first) ≡ k = length-leaf_states first P ∙ sym A.first_labels in
+      let n : length (leaf_states second) ≡ k = length-leaf_states second Q ∙ sym A.second_labels in
       rw (p, q) (record {
-        room = record { inside = omega (arith, A.room); small = omega (arith, A.tables.labels_most) };
+        room = record { inside = omega (arith, A.room); small = omega (arith, A.labels_most) };
         same = m ∙ sym n;
-        few = A.tables.second_most;
+        few = A.second_most;
         small = λ i.
             let h : leaf_cell (leaf_states first) (leaf_states second) s2 i < s1 * s2 =
-            digits_lt (omega (arith, leaf-state-below first P i, A.tables.first_states)) (omega
-            (arith, leaf-state-below second Q i, A.tables.second_states)) in
+            digits_lt (omega (arith, leaf-state-below first P i, A.first_states)) (omega
+            (arith, leaf-state-below second Q i, A.second_states)) in
             omega (arith, pair_is);
       })
 
   inner-runs : Inner (inner_states first) (inner_states second) s1 s2 k
   inner-runs = record {
-    first_least = omega (arith, P.states-least, A.tables.first_states);
-    first_most = A.tables.first_most;
-    second_least = omega (arith, Q.states-least, A.tables.second_states);
-    second_most = A.tables.second_most;
-    labels_least = omega (arith, P.labels_least, A.tables.first_labels);
-    labels_most = A.tables.labels_most;
+    first_least = omega (arith, P.states-least, A.first_states);
+    first_most = A.first_most;
+    second_least = omega (arith, Q.states-least, A.second_states);
+    second_most = A.second_most;
+    labels_least = omega (arith, P.labels_least, A.first_labels);
+    labels_most = A.labels_most;
     product = A.product;
-    first_length = length-inner_states first P ∙ sym (ap₂ (λ (x y : ℕ). x * y * x) A.tables.first_states A.tables.first_labels);
-    second_length = length-inner_states second Q ∙ sym (ap₂ (λ (x y : ℕ). x * y * x) A.tables.second_states A.tables.second_labels);
+    first_length = length-inner_states first P ∙ sym (ap₂ (λ (x y : ℕ). x * y * x) A.first_states A.first_labels);
+    second_length = length-inner_states second Q ∙ sym (ap₂ (λ (x y : ℕ). x * y * x) A.second_states A.second_labels);
     small = λ i j.
         let h : get_or (inner_states first) i 0 * s2 + get_or (inner_states second) j 0 < s1 * s2 =
-        digits_lt (omega (arith, inner-state-below first P i, A.tables.first_states)) (omega
-        (arith, inner-state-below second Q j, A.tables.second_states)) in
+        digits_lt (omega (arith, inner-state-below first P i, A.first_states)) (omega
+        (arith, inner-state-below second Q j, A.second_states)) in
         omega (arith, pair_is);
   }
 
@@ -103,21 +102,40 @@ module _ (first second : List ℕ) (s1 s2 k : ℕ) (l : List ℕ) (A : TableArgs
       → InnerArgs x y s1 s2 k (20 + k) z
   inner-args x y z p q e = rw (p, q) (record {
     inner = inner-runs;
-    room = record { inside = omega (arith, A.room); small = omega (arith, inner-size, A.tables.labels_most) };
+    room = record { inside = omega (arith, A.room); small = omega (arith, inner-size, A.labels_most) };
   })
 
   pub marks-args : (x y : List ℕ) (m : ℕ) (z : List ℕ) → x ≡ rule_marks first → y ≡ rule_marks second → m ≡ S * k * S
       → length z ≡ length l
       → MarksArgs x y s2 S (20 + k + m) z
   marks-args x y m z p q f e = rw (p, q) (record {
-    room = record { inside = omega (arith, A.room); small = omega (arith, inner-size, A.tables.labels_most, A.product) };
-    least = omega (arith, Q.states-least, A.tables.second_states);
-    states = (let n : length (rule_marks first) ≡ s1 = length-rule_marks first P ∙ sym A.tables.first_states in ap
+    room = record { inside = omega (arith, A.room); small = omega (arith, inner-size, A.labels_most, A.product) };
+    least = omega (arith, Q.states-least, A.second_states);
+    states = (let n : length (rule_marks first) ≡ s1 = length-rule_marks first P ∙ sym A.first_states in ap
         (λ (v : ℕ). v * s2) (sym n));
-    width = length-rule_marks second Q ∙ sym A.tables.second_states;
+    width = length-rule_marks second Q ∙ sym A.second_states;
     first_bit = mark-below first P;
     second_bit = mark-below second Q;
   })
+
+  pub leaves-first : take (20 + k - 20) (drop 20 first) ≡ leaf_states first
+  leaves-first = leaves-part first k A.first_labels
+
+  pub leaves-second : take (20 + k - 20) (drop 20 second) ≡ leaf_states second
+  leaves-second = leaves-part second k A.second_labels
+
+  pub inner_first : (m : ℕ) → m ≡ s1 * k * s1 → take (20 + k + m - (20 + k)) (drop (20 + k) first) ≡ inner_states first
+  inner_first m e = rw e (inner-part first s1 k A.first_states A.first_labels)
+
+  pub inner-second : (m : ℕ) → m ≡ s2 * k * s2 → take (20 + k + m - (20 + k)) (drop (20 + k) second) ≡ inner_states second
+  inner-second m e = rw e (inner-part second s2 k A.second_states A.second_labels)
+
+  pub marks-first : (m : ℕ) → m ≡ s1 * k * s1 → take (length first - (20 + k + m)) (drop (20 + k + m) first) ≡ rule_marks first
+  marks-first m e = rw e (marks-part first s1 k P A.first_states A.first_labels)
+
+  pub marks-second : (m : ℕ) → m ≡ s2 * k * s2
+      → take (length second - (20 + k + m)) (drop (20 + k + m) second) ≡ rule_marks second
+  marks-second m e = rw e (marks-part second s2 k Q A.second_states A.second_labels)
 
   -- ---- what is written is the merged table
 
@@ -132,23 +150,23 @@ module _ (first second : List ℕ) (s1 s2 k : ℕ) (l : List ℕ) (A : TableArgs
 
   leaf-cells : lv ≡ tabulate (label_count first) (merged_leaf first second)
   leaf-cells =
-      ap (λ (n : ℕ). tabulate n (leaf_cell (leaf_states first) (leaf_states second) s2)) A.tables.first_labels
+      ap (λ (n : ℕ). tabulate n (leaf_cell (leaf_states first) (leaf_states second) s2)) A.first_labels
       ∙ tabulate-ext (label_count first) _ _
-      (λ a h. ap (λ (x : ℕ). get_or (leaf_states first) a 0 * x + get_or (leaf_states second) a 0) A.tables.second_states)
+      (λ a h. ap (λ (x : ℕ). get_or (leaf_states first) a 0 * x + get_or (leaf_states second) a 0) A.second_states)
 
   inner-cells : inn ≡ tabulate (merged_states first second * label_count first * merged_states first second)
       (merged_inner first second)
   inner-cells =
       ap₂ (λ (x y : ℕ). tabulate (x * y * x) (inner_cell (inner_states first) (inner_states second) s1 s2 k)) product_is
-      A.tables.first_labels
+      A.first_labels
       ∙ tabulate-ext (merged_states first second * label_count first * merged_states first second) _ _
-      (λ i h. cc (A.tables.first_states, A.tables.second_states, A.tables.first_labels, A.tables.second_labels))
+      (λ i h. cc (A.first_states, A.second_states, A.first_labels, A.second_labels))
 
   mark-cells : mk ≡ tabulate (merged_states first second) (merged_mark first second)
   mark-cells =
       ap (λ (n : ℕ). tabulate n (mark_cell (rule_marks first) (rule_marks second) s2)) product_is
       ∙ tabulate-ext (merged_states first second) _ _
-      (λ c h. ap (λ (x : ℕ). get_or (rule_marks first) (c / x) 0 * get_or (rule_marks second) (c % x) 0) A.tables.second_states
+      (λ c h. ap (λ (x : ℕ). get_or (rule_marks first) (c / x) 0 * get_or (rule_marks second) (c % x) 0) A.second_states
       ∙ bits-and (get_or (rule_marks first) (c / state_count second) 0) (get_or (rule_marks second) (c % state_count second) 0)
       (mark-below first P (c / state_count second)) (mark-below second Q (c % state_count second)))
 
@@ -157,7 +175,7 @@ module _ (first second : List ℕ) (s1 s2 k : ℕ) (l : List ℕ) (A : TableArgs
   bytes_are =
       append_assoc (rule_head S k ++ lv) inn mk
       ∙ append_assoc (rule_head S k) lv (inn ++ mk)
-      ∙ ap₂ (λ (x y : ℕ). rule_head x y ++ (lv ++ (inn ++ mk))) product_is A.tables.first_labels
+      ∙ ap₂ (λ (x y : ℕ). rule_head x y ++ (lv ++ (inn ++ mk))) product_is A.first_labels
       ∙ ap₂ (λ (x y : List ℕ). rule_head (merged_states first second) (label_count first) ++ (x ++
       (y ++ mk))) leaf-cells inner-cells
       ∙ ap (λ (x : List ℕ). rule_head (merged_states first second) (label_count first)
@@ -183,7 +201,7 @@ module _ (first second : List ℕ) (s1 s2 k : ℕ) (l : List ℕ) (A : TableArgs
       leaves-are =
           ap₂ (λ (u v : List ℕ). tabulate (length u) (leaf_cell u v s2)) px py
           ∙ ap (λ (n : ℕ). tabulate n (leaf_cell (leaf_states first) (leaf_states second) s2)) (length-leaf_states first P ∙ sym
-          A.tables.first_labels)
+          A.first_labels)
 
       pub written_2 : l2 ≡ written 0 (rule_head S k ++ lv) l
       written_2 =

@@ -5,7 +5,7 @@
 --     tabulate-add                             a table in two parts
 --     Fill                                     the invariant of every loop here: i entries of the table are written
 --     fill_start, fill-next, fill-block, fill_done    its start, one entry more, a stretch of entries more, its end
-use Prim.Native.Nat.{ℕ, zero, suc, ◌+◌, ◌*◌, ◌-◌, ◌≤◌, ◌<◌}
+use Prim.Native.Nat.{ℕ, zero, suc, ◌+◌, ◌≤◌, ◌<◌}
 use mathlib.Core.Path.{◌≡◌, refl, sym, ap, ap₂, ◌∙◌, subst}
 use mathlib.Core.List.{List, [], ◌∷◌, ◌++◌, append_assoc, append-nil}
 use native.Mathlib.Omega.{arith}

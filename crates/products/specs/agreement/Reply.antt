@@ -6,12 +6,13 @@
 -- lines_in r == the lines that a reply shows
 -- shown_reply first second == the lines that are shown (products, specs/agreement/Answer); none where the tables agree
 -- AgreeDone first second r == the promise, on every input
--- Front n a r == r is the first n entries of the array a, then zeros; FrontArgs, CutArgs == what the parts of agree ask
+-- Front n a r == r is the first n entries of the array a, then zeros; FrontArgs, CutArgs, AnswerArgs == what the parts of agree ask
 use Rattle.std.specs.Prelude.{ℕ, ◌≤◌, ◌<◌, ◌≡◌, List, [], length, get_or}
 use Rattle.std.proofs.Math.Option.{Option, none, some}
 use Rattle.list_laws.specs.Rows.{tabulate}
-use Rattle.formats.specs.Rules.{label_count, rule_automaton}
-use Rattle.formats.specs.Checks.{first_no}
+use Rattle.formats.specs.Limits.{state_limit, label_limit}
+use Rattle.formats.specs.Rules.{state_count, label_count, rule_length, rule_automaton}
+use Rattle.formats.specs.Checks.{first_no, rule_checks}
 use Rattle.products.specs.agreement.Lines.{pair_limit, Line, leaf_line, inner_line}
 use Rattle.products.specs.agreement.Agreement.{Agree, Separates}
 use Rattle.products.specs.agreement.Answer.{agree_checks, shown_count, shown_lines}
@@ -90,3 +91,17 @@ pub record Front (n : ℕ) (a r : List ℕ) : Type 0 where
 pub record CutArgs (s1 s2 : ℕ) (t : Search) (n : ℕ) : Type 0 where
   pub fits : Fits s1 s2 t
   pub few : n ≤ pair_limit
+
+-- both tables pass 6 to 9, K is the same, and these are their counts
+pub record AnswerArgs (first second : List ℕ) (s1 s2 k : ℕ) : Type 0 where
+  pub first_passes : first_no (rule_checks first) ≡ 0
+  pub second_passes : first_no (rule_checks second) ≡ 0
+  pub first_states : s1 ≡ state_count first
+  pub second_states : s2 ≡ state_count second
+  pub first_labels : k ≡ label_count first
+  pub second_labels : k ≡ label_count second
+  pub first_most : s1 ≤ state_limit
+  pub second_most : s2 ≤ state_limit
+  pub labels_most : k ≤ label_limit
+  pub first_exact : length first ≡ rule_length s1 k
+  pub second_exact : length second ≡ rule_length s2 k

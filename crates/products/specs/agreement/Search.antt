@@ -16,7 +16,7 @@
 -- Line n is joined with the lines up to n only: a later line is joined with it when it is handled itself. So each pair
 -- of lines is tried once in each order, and at most 256 × 257 × K states are looked up; and the lines are in order of
 -- rising height, for what line n adds has one more than line n's height (proofs/FoundLaws).
-use Rattle.std.specs.Prelude.{ℕ, zero, suc, Bool, cond, List, [], ◌∷◌, ◌++◌, eqb, ltb, length, get_or, set, replicate}
+use Rattle.std.specs.Prelude.{ℕ, zero, suc, cond, List, [], ◌∷◌, ◌++◌, eqb, ltb, length, get_or, set, replicate}
 use Rattle.std.proofs.Math.Option.{Option, none, some}
 use Rattle.trees.specs.Automaton.{Automaton}
 use Rattle.products.specs.agreement.Lines.{pair_limit, Line, leaf_line, inner_line}

@@ -10,8 +10,8 @@
 use Rattle.std.specs.Prelude.{ℕ, ◌+◌, ◌*◌, ◌/◌, ◌%◌, ◌≤◌, ◌<◌, ◌≡◌, List, ◌++◌, length, get_or, take, drop}
 use Rattle.formats.specs.Layout.{rules_head}
 use Rattle.formats.specs.Limits.{state_limit, label_limit}
-use Rattle.formats.specs.Rules.{rule_length}
-use Rattle.products.specs.TwoTables.{TwoTables}
+use Rattle.formats.specs.Rules.{state_count, label_count, rule_length}
+use Rattle.formats.specs.Checks.{first_no, rule_checks}
 
 unfoldable pub written : ℕ → List ℕ → List ℕ → List ℕ
 written at xs l = take at l ++ (xs ++ drop (at + length xs) l)
@@ -95,8 +95,18 @@ pub record MarksArgs (f g : List ℕ) (s2 n at : ℕ) (l : List ℕ) : Type 0 wh
   pub first_bit : (i : ℕ) → get_or f i 0 < 2
   pub second_bit : (i : ℕ) → get_or g i 0 < 2
 
--- two tables, as specs/TwoTables has them, whose product is at most 16, and an output that is long enough
+-- both tables pass 6 to 9, K is the same, the product is at most 16, the output is long enough, and these are their counts
 pub record TableArgs (first second : List ℕ) (s1 s2 k : ℕ) (l : List ℕ) : Type 0 where
-  pub tables : TwoTables first second s1 s2 k
+  pub first_passes : first_no (rule_checks first) ≡ 0
+  pub second_passes : first_no (rule_checks second) ≡ 0
+  pub first_states : s1 ≡ state_count first
+  pub second_states : s2 ≡ state_count second
+  pub first_labels : k ≡ label_count first
+  pub second_labels : k ≡ label_count second
+  pub first_most : s1 ≤ state_limit
+  pub second_most : s2 ≤ state_limit
+  pub labels_most : k ≤ label_limit
   pub product : s1 * s2 ≤ state_limit
+  pub first_exact : length first ≡ rule_length s1 k
+  pub second_exact : length second ≡ rule_length s2 k
   pub room : rule_length (s1 * s2) k ≤ length l

@@ -12,13 +12,12 @@
 -- StepArgs, StepDone == what the iteration of one node asks and promises: reading on after it gives what reading on
 --   before it gives
 -- StretchArgs, StretchDone == the same of the nodes up to the next mark, with the plan's labels
--- SpanArgs, SpanDone == the same of the nodes up to before `to`, with the labels as marked; in these four, kinds, labels
---   and marks begin with the same node
+-- SpanArgs, SpanDone == the same of the nodes up to before `to`, with the labels as marked
 -- SpanEnd v n to == these nodes end at `to`
 -- RunArgs p r vs bs n s k == plan, rules and list that pass their checks, with N, S and K of their headers
 --
 -- A label or a state past a run's end counts 0, as in crate formats, so that the bounds hold at every index.
-use Rattle.std.specs.Prelude.{ℕ, zero, suc, ◌+◌, ◌*◌, ◌≤◌, ◌<◌, ◌≡◌, true, List, [], ◌∷◌, length, get_or, drop}
+use Rattle.std.specs.Prelude.{ℕ, zero, suc, ◌+◌, ◌-◌, ◌*◌, ◌≤◌, ◌<◌, ◌≡◌, true, List, [], ◌∷◌, length, get_or, drop}
 use Rattle.std.proofs.Math.Option.{Option, some}
 use Rattle.trees.specs.Automaton.{state}
 use Rattle.trees.specs.Postorder.{is_postorder, tree_of, waiting, read}
@@ -84,7 +83,8 @@ pub record RuleStates (ks lv inn : List ℕ) (s k : ℕ) : Type 0 where
 
 pub record Stacked (ks : List ℕ) (s : ℕ) (st : List ℕ) (w : Waiting) : Type 0 where
   pub here : w.node ≤ length ks
-  pub room : w.count + length ks + 1 < 2 * length st + w.node
+  pub room : length ks + 1 < 2 * length st
+  pub few : w.count ≤ w.node
   pub one : waiting (drop w.node ks) w.count ≡ some 1
   pub last_below : w.last < 16
   pub last_state : 0 < w.count → w.last < s
@@ -106,19 +106,20 @@ pub record StepDone (ks lv inn : List ℕ) (s k a : ℕ) (st : List ℕ) (w : Wa
 -- ---- those up to the next mark
 
 -- a mark is to come, at the plan's end at the latest
-pub record StretchArgs (ks ls cs : List ℕ) (k : ℕ) (w : Waiting) : Type 0 where
+pub record StretchArgs (ks ls cs : List ℕ) (from k : ℕ) (w : Waiting) : Type 0 where
   pub labelled : length ls ≡ length ks
   pub labels_below : (j : ℕ) → get_or ls j 0 < k
+  pub first : from ≤ w.node
   pub end : ℕ
   pub ahead : w.node ≤ end
   pub inside : end ≤ length ks
-  pub room : end < length cs
-  pub stop : get_or cs end 0 ≡ 0
+  pub room : end < from + length cs
+  pub stop : get_or cs (end - from) 0 ≡ 0
 
-pub record StretchDone (ks ls cs lv inn : List ℕ) (s k : ℕ) (st : List ℕ) (w : Waiting) (st' : List ℕ) (w' : Waiting)
+pub record StretchDone (ks ls cs : List ℕ) (from : ℕ) (lv inn : List ℕ) (s k : ℕ) (st : List ℕ) (w : Waiting) (st' : List ℕ) (w' : Waiting)
     : Type 0 where
   pub rising : w.node ≤ w'.node
-  pub unlisted : (u : ℕ) → w.node ≤ u → u < w'.node → get_or cs u 0 ≡ 255
+  pub unlisted : (u : ℕ) → w.node ≤ u → u < w'.node → get_or cs (u - from) 0 ≡ 255
   pub stacked : Stacked ks s st' w'
   pub size : length st' ≡ length st
   pub same : (bs : List ℕ) → length bs ≡ length ks → ((u : ℕ) → w.node ≤ u → u < w'.node → get_or ls u 0 ≡ get_or bs u 0)
@@ -129,11 +130,11 @@ pub record StretchDone (ks ls cs lv inn : List ℕ) (s k : ℕ) (st : List ℕ) 
 pub record SpanArgs (ks ls cs : List ℕ) (to k : ℕ) (w : Waiting) : Type 0 where
   pub labelled : length ls ≡ length ks
   pub labels_below : (j : ℕ) → get_or ls j 0 < k
-  pub marked_below : (u : ℕ) → w.node ≤ u → u < to → marked (get_or ls u 0) (get_or cs u 0) < k
+  pub marked_below : (u : ℕ) → w.node ≤ u → u < to → marked (get_or ls u 0) (get_or cs (u - w.node) 0) < k
   pub rising : w.node ≤ to
   pub inside : to ≤ length ks
-  pub room : to < length cs
-  pub stop : get_or cs to 0 ≡ 0
+  pub room : to < w.node + length cs
+  pub stop : get_or cs (to - w.node) 0 ≡ 0
 
 pub record SpanDone (ks ls cs : List ℕ) (to : ℕ) (lv inn : List ℕ) (s k : ℕ) (st : List ℕ) (w : Waiting) (st' : List ℕ) (w' : Waiting)
     : Type 0 where
@@ -141,7 +142,7 @@ pub record SpanDone (ks ls cs : List ℕ) (to : ℕ) (lv inn : List ℕ) (s k : 
   pub stacked : Stacked ks s st' w'
   pub size : length st' ≡ length st
   pub same : (bs : List ℕ) → length bs ≡ length ks
-      → ((u : ℕ) → w.node ≤ u → u < to → marked (get_or ls u 0) (get_or cs u 0) ≡ get_or bs u 0)
+      → ((u : ℕ) → w.node ≤ u → u < to → marked (get_or ls u 0) (get_or cs (u - w.node) 0) ≡ get_or bs u 0)
       → read_on s k lv inn ks bs st' w' ≡ read_on s k lv inn ks bs st w
 
 pub record SpanEnd (v n to : ℕ) : Type 0 where

@@ -61,7 +61,6 @@ pub record LeafDownArgs (b lv : List ℕ) (s k v : ℕ) : Type 0 where
   pub state_in : size_cell s b v < s
 
 pub record InnerDownArgs (b inn : List ℕ) (s k v a : ℕ) (may : ℕ → Bool) : Type 0 where
-  pub own : a < k
   pub few : s ≤ 16
   pub labels : k ≤ 64
   pub inner_count : length inn ≡ s * k * s
@@ -92,7 +91,6 @@ pub record PlaceArgs (b : List ℕ) (s v p q l : ℕ) : Type 0 where
 pub record NodeDownArgs (ks ls lv inn may : List ℕ) (s k : ℕ) (b : List ℕ) (v : ℕ) : Type 0 where
   pub kind_in : v < length ks
   pub label_in : v < length ls
-  pub own : get_or ls v 0 < k
   pub label_below : get_or ls v 0 < 64
   pub stock : StockArgs may v
   pub leaf : LeafDownArgs b lv s k v

@@ -1,12 +1,7 @@
 -- `cut` meets its contract.
 use Rattle.products.proofs.agreement.ReplyLaws.{cut-reply, cut-kinds, cut-labels, cut-lefts, cut-rights}
-use native.Mathlib.Omega.{arith}
-use borrow.Author.Rules.{rules}
 use Rattle.products.proofs.agreement.cut.Statement.{statement}
 use Rattle.products.proofs.agreement.cut.Tie as tie
-use Rattle.products.proofs.agreement.cut.Reads as reads
-use Rattle.products.proofs.agreement.cut.Lts as lts
-use Rattle.products.proofs.agreement.front.Reads as front_reads
 
 front-requires : tie.Need-front-kinds-requires
 front-requires c κs =

@@ -5,8 +5,6 @@ use native.Mathlib.Omega.{arith}
 use borrow.Author.Rules.{rules}
 use Rattle.products.proofs.agreement.front.Statement.{statement}
 use Rattle.products.proofs.agreement.front.Tie as tie
-use Rattle.products.proofs.agreement.front.Reads as reads
-use Rattle.products.proofs.agreement.front.Lts as lts
 
 abbrev invariant-loop : tie.invariant-loop-i
 invariant-loop n a r₀ i₀ r i = FrontLoop a n r i

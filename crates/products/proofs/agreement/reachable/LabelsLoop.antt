@@ -2,15 +2,15 @@
 --     labels_next, labels-end    the definition at a label, and past the last
 --     step_args                  the cells that one step reads are there
 --     LabelsLoop                 the invariant: what is left to do of the definition's work gives the whole
-use Prim.Native.Nat.{ℕ, zero, suc, ◌+◌, ◌*◌, ◌/◌, ◌%◌, ◌-◌, ◌≤◌, ◌<◌}
-use mathlib.Core.Path.{◌≡◌, refl, sym, ap, ap₂, ◌∙◌, subst}
-use mathlib.Core.List.{List, [], ◌∷◌, ◌++◌}
+use Prim.Native.Nat.{ℕ, suc, ◌+◌, ◌*◌, ◌/◌, ◌%◌, ◌-◌, ◌≤◌, ◌<◌}
+use mathlib.Core.Path.{◌≡◌, refl, sym, ap, ◌∙◌}
+use mathlib.Core.List.{List}
 use native.Mathlib.Omega.{arith}
 use native.Mathlib.Nat.{div-lt_iff_lt-mul, mod-lt}
 use lib.Arith.{digits_lt}
-use lib.ListN.{length, get_or}
+use lib.ListN.{get_or}
 use Rattle.formats.proofs.PlanLaws.{product-most}
-use Rattle.products.specs.agreement.Lines.{Line, inner_line}
+use Rattle.products.specs.agreement.Lines.{inner_line}
 use Rattle.products.specs.agreement.Search.{Found, added, over_labels}
 use Rattle.products.specs.declared.agreement.reachable.Search.{Search}
 use Rattle.products.specs.agreement.reachable.SearchRecord.{line_added, found_in, pair_step, step_of, Pair, Fits, StepArgs}

@@ -1,14 +1,14 @@
 -- The loop of over_leaves, one label at a time.
 --     leaves-next, leaves-end    the definition at a label, and past the last
 --     LeavesLoop                 the invariant
-use Prim.Native.Nat.{ℕ, zero, suc, ◌+◌, ◌*◌, ◌/◌, ◌%◌, ◌-◌, ◌≤◌, ◌<◌}
-use mathlib.Core.Path.{◌≡◌, refl, sym, ap, ap₂, ◌∙◌, subst}
-use mathlib.Core.List.{List, [], ◌∷◌, ◌++◌}
+use Prim.Native.Nat.{ℕ, suc, ◌+◌, ◌*◌, ◌-◌, ◌≤◌, ◌<◌}
+use mathlib.Core.Path.{◌≡◌, refl, sym, ap, ◌∙◌}
+use mathlib.Core.List.{List}
 use native.Mathlib.Omega.{arith}
 use lib.Arith.{digits_lt}
-use lib.ListN.{length, get_or}
+use lib.ListN.{get_or}
 use Rattle.formats.proofs.PlanLaws.{product-most}
-use Rattle.products.specs.agreement.Lines.{Line, leaf_line}
+use Rattle.products.specs.agreement.Lines.{leaf_line}
 use Rattle.products.specs.agreement.Search.{Found, added, over_leaves}
 use Rattle.products.specs.declared.agreement.reachable.Search.{Search}
 use Rattle.products.specs.agreement.reachable.SearchRecord.{line_added, found_in, Fits, pair_leaf, LeavesArgs, LeavesDone}

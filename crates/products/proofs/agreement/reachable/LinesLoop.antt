@@ -2,11 +2,11 @@
 --     found-next, found-end    the definition at a line, and past the last
 --     LinesLoop                the invariant
 --     lines-loop-stop          where the marks of a new line differ, the loop may end
-use Prim.Native.Nat.{ℕ, zero, suc, ◌+◌, ◌*◌, ◌/◌, ◌%◌, ◌-◌, ◌≤◌, ◌<◌}
-use mathlib.Core.Path.{◌≡◌, refl, sym, ap, ap₂, ◌∙◌, subst}
-use mathlib.Core.List.{List, [], ◌∷◌, ◌++◌}
+use Prim.Native.Nat.{ℕ, suc, ◌+◌, ◌-◌, ◌≤◌, ◌<◌}
+use mathlib.Core.Path.{◌≡◌, sym, ap, ap₂, ◌∙◌, subst}
+use mathlib.Core.List.{List}
 use native.Mathlib.Omega.{arith}
-use lib.ListN.{length, get_or}
+use lib.ListN.{get_or}
 use Rattle.formats.proofs.PlanLaws.{product-most}
 use Rattle.products.specs.agreement.Search.{Found, state_at, over_labels, both_orders, over_found}
 use Rattle.products.specs.declared.agreement.reachable.Search.{Search}

@@ -4,17 +4,17 @@
 --     found-more, fits_more  what the record says with one line more
 --     added_new, added-not   the definition's step, where the state was not seen, and where it was
 --     empty-fits, empty-found    the empty record
-use Prim.Native.Nat.{ℕ, zero, suc, ◌+◌, ◌*◌, ◌/◌, ◌%◌, ◌-◌, ◌≤◌, ◌<◌}
+use Prim.Native.Nat.{ℕ, zero, suc, ◌+◌, ◌*◌, ◌≤◌, ◌<◌}
 use mathlib.Core.Path.{◌≡◌, refl, sym, ap, ap₂, ◌∙◌, subst}
 use mathlib.Core.List.{List, [], ◌∷◌, ◌++◌}
 use native.Mathlib.Omega.{arith}
 use native.Mathlib.Decide.{ℕ_discrete}
 use native.Mathlib.Numerals.{add-one}
-use lib.ListN.{length, get_or, take, set, replicate, length-append, length-set}
+use lib.ListN.{length, get_or, take, set, length-append, length-set}
 use lib.Seq.{take-suc-set, get_or-take, get_or-set_same, get_or-set_other}
 use borrow.Author.Tests.{eq-eqb, ne_eqb}
 use Rattle.products.specs.agreement.Lines.{Line}
-use Rattle.products.specs.agreement.Search.{Found, nothing, with_line, added, state_at, marks}
+use Rattle.products.specs.agreement.Search.{Found, nothing, with_line, added, state_at}
 use Rattle.products.proofs.agreement.Marks.{marks-most, marks-none, marks-set, zeros-at}
 use Rattle.products.specs.declared.agreement.reachable.Search.{Search}
 use Rattle.products.specs.agreement.reachable.SearchRecord.{line_added, empty_search, line_of, line_from, lines_from, line_at, lines_to}

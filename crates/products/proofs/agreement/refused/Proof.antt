@@ -1,11 +1,7 @@
 -- `refused` meets its contract.
 use Rattle.products.proofs.agreement.ReplyLaws.{refusal-reply}
-use native.Mathlib.Omega.{arith}
-use borrow.Author.Rules.{rules}
 use Rattle.products.proofs.agreement.refused.Statement.{statement}
 use Rattle.products.proofs.agreement.refused.Tie as tie
-use Rattle.products.proofs.agreement.refused.Reads as reads
-use Rattle.products.proofs.agreement.refused.Lts as lts
 
 returns : tie.Need-returns
 returns c = refusal-reply c.args.number

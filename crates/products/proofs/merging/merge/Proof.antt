@@ -11,12 +11,6 @@ use native.Mathlib.Omega.{arith}
 use borrow.Author.Rules.{rules}
 use Rattle.products.proofs.merging.merge.Statement.{statement}
 use Rattle.products.proofs.merging.merge.Tie as tie
-use Rattle.products.proofs.merging.merge.Reads as reads
-use Rattle.products.proofs.merging.merge.Lts as lts
-use Rattle.formats.proofs.bytes.read32.Reads as read32-reads
-use Rattle.formats.proofs.rules.check_rule_bytes.Reads as check-rule-bytes-reads
-use Rattle.formats.proofs.rules.inner_count.Reads as inner-count-reads
-use Rattle.products.proofs.merging.put_table.Reads as put-table-reads
 
 first_passes : (e : tie.Else-n1-ne0) → first_no (rule_checks e.before.before.before.before.before.args.first.now) ≡ 0
 first_passes e = sym e.before.check_rule_bytes-n1.ensures ∙ e.if-n1-ne0.false

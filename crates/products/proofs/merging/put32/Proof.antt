@@ -5,8 +5,6 @@ use native.Mathlib.Omega.{arith}
 use borrow.Author.Rules.{rules}
 use Rattle.products.proofs.merging.put32.Statement.{statement}
 use Rattle.products.proofs.merging.put32.Tie as tie
-use Rattle.products.proofs.merging.put32.Reads as reads
-use Rattle.products.proofs.merging.put32.Lts as lts
 
 slice-write-out : tie.Need-bounds-out-at
 slice-write-out c = omega (arith, c.requires.inside)

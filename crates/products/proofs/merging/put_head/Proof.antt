@@ -1,13 +1,8 @@
 -- `put_head` meets its contract.
 use Rattle.products.proofs.merging.PartLaws.{head-written}
-use native.Mathlib.Omega.{arith}
 use borrow.Author.Rules.{rules}
 use Rattle.products.proofs.merging.put_head.Statement.{statement}
 use Rattle.products.proofs.merging.put_head.Tie as tie
-use Rattle.products.proofs.merging.put_head.Reads as reads
-use Rattle.products.proofs.merging.put_head.Lts as lts
-use Rattle.formats.proofs.rules.inner_count.Reads as inner-count-reads
-use Rattle.products.proofs.merging.put32.Reads as put32-reads
 
 returns : tie.Need-returns
 returns c =

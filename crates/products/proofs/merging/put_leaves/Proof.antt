@@ -8,8 +8,6 @@ use native.Mathlib.Omega.{arith}
 use borrow.Author.Rules.{rules}
 use Rattle.products.proofs.merging.put_leaves.Statement.{statement}
 use Rattle.products.proofs.merging.put_leaves.Tie as tie
-use Rattle.products.proofs.merging.put_leaves.Reads as reads
-use Rattle.products.proofs.merging.put_leaves.Lts as lts
 
 abbrev invariant-loop : tie.invariant-loop-i
 invariant-loop first second s2 out₀ at i₀ out i = LeavesArgs first second s2 at out₀ × Fill at (length first)

@@ -6,11 +6,8 @@ use Rattle.products.specs.merging.Writes.{mark_cell, MarksArgs}
 use Rattle.products.proofs.merging.WriteLaws.{Fill, fill_start, fill-place, fill-next, fill_done}
 use Rattle.products.proofs.merging.PartLaws.{mark-places, bits-product}
 use native.Mathlib.Omega.{arith}
-use borrow.Author.Rules.{rules}
 use Rattle.products.proofs.merging.put_marks.Statement.{statement}
 use Rattle.products.proofs.merging.put_marks.Tie as tie
-use Rattle.products.proofs.merging.put_marks.Reads as reads
-use Rattle.products.proofs.merging.put_marks.Lts as lts
 
 abbrev invariant-loop : tie.invariant-loop-c
 invariant-loop first second s2 n out₀ at c₀ out c = MarksArgs first second s2 n at out₀ × Fill at n

@@ -9,9 +9,6 @@ use native.Mathlib.Omega.{arith}
 use borrow.Author.Rules.{rules}
 use Rattle.products.proofs.merging.put_nth_row.Statement.{statement}
 use Rattle.products.proofs.merging.put_nth_row.Tie as tie
-use Rattle.products.proofs.merging.put_nth_row.Reads as reads
-use Rattle.products.proofs.merging.put_nth_row.Lts as lts
-use Rattle.products.proofs.merging.put_row.Reads as put-row-reads
 
 -- the rows' numbers, and where the rows end
 module _ (s : tie.Start) where

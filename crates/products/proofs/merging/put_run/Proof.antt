@@ -8,8 +8,6 @@ use native.Mathlib.Omega.{arith}
 use borrow.Author.Rules.{rules}
 use Rattle.products.proofs.merging.put_run.Statement.{statement}
 use Rattle.products.proofs.merging.put_run.Tie as tie
-use Rattle.products.proofs.merging.put_run.Reads as reads
-use Rattle.products.proofs.merging.put_run.Lts as lts
 
 abbrev invariant-loop : tie.invariant-loop-i
 invariant-loop second x out₀ at i₀ out i = RunArgs second x at out₀ × Fill at (length second) (λ q. x + get_or second q 0) out₀ out i

@@ -13,7 +13,7 @@
 -- differing_from f g s2 s i n == i and how many of n lines from i on, up to and with the first whose marks (runs f, g) differ; 0 where
 --   none does
 -- StepArgs, LabelsArgs, LinesArgs, SearchArgs, LeavesArgs, MarksArgs == what a function asks; LabelsDone, .. == what it promises
-use Rattle.std.specs.Prelude.{ℕ, zero, suc, ◌+◌, ◌*◌, ◌/◌, ◌%◌, ◌-◌, ◌≤◌, ◌<◌, ◌≡◌, List, [], ◌∷◌, ◌++◌, Bool, cond, eqb, length, get_or, take, set, replicate}
+use Rattle.std.specs.Prelude.{ℕ, zero, suc, ◌+◌, ◌*◌, ◌/◌, ◌%◌, ◌-◌, ◌≤◌, ◌<◌, ◌≡◌, List, [], ◌∷◌, ◌++◌, cond, eqb, length, get_or, take, set, replicate}
 use Rattle.formats.specs.Limits.{state_limit, label_limit}
 use Rattle.products.specs.agreement.Lines.{pair_limit, Line, leaf_line, inner_line}
 use Rattle.products.specs.agreement.Search.{Found, over_leaves, over_labels, over_found, searched, marks}

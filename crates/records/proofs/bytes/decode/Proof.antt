@@ -6,13 +6,8 @@ use Rattle.records.proofs.bytes.decode.Tie as tie
 
 returns : tie.Need-returns
 returns c =
-    let r₄ = c.before.before in
-    let r₃ = r₄.before.before.before.before in
-    let r₂ = r₃.before.before.before.before in
-    let r₁ = r₂.before.before.before.before in
-    let s = r₁.before.before.before.before in
-    record-read s.args.bytes.now _ _ _ _ _ c.decode_head-head.ensures
-    r₁.get_numbers.ensures r₂.copy_bytes.ensures r₃.get_numbers-2.ensures r₄.copy_bytes-2.ensures
+    record-read c.args.bytes.now _ _ _ _ _ c.decode_head-head.ensures
+    c.get_numbers.ensures c.copy_bytes.ensures c.get_numbers-2.ensures c.copy_bytes-2.ensures
 
 pub decode_spec : {M : Type 1} → statement M
 decode_spec =

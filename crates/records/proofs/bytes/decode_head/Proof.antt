@@ -6,13 +6,9 @@ use Rattle.records.proofs.bytes.decode_head.Tie as tie
 
 returns : tie.Need-returns
 returns c =
-    let d = c.before.before in
-    let m = d.before in
-    let p = m.before.before.before.before.before in
-    let n = p.before.before.before.before in
-    head_read n.before.before.args.bytes.now p.phase_at.result n.number16.result m.number32.result
-    d.number32-2.result c.decode_last.result p.phase_at.ensures n.number16.ensures m.number32.ensures
-    d.number32-2.ensures c.decode_last.ensures
+    head_read c.args.bytes.now c.phase_at.result c.number16.result c.number32.result
+    c.number32-2.result c.decode_last.result c.phase_at.ensures c.number16.ensures c.number32.ensures
+    c.number32-2.ensures c.decode_last.ensures
 
 pub decode_head_spec : {M : Type 1} → statement M
 decode_head_spec =

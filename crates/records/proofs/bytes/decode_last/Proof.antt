@@ -6,10 +6,8 @@ use Rattle.records.proofs.bytes.decode_last.Tie as tie
 
 returns : tie.Need-returns
 returns c =
-    let d = c.before in
-    let n = d.before in
-    last-read n.before.before.before.before.before.args.bytes.now n.number32.result d.number32-2.result
-    n.number32.ensures d.number32-2.ensures
+    last-read c.args.bytes.now c.number32.result c.number32-2.result
+    c.number32.ensures c.number32-2.ensures
 
 pub decode_last_spec : {M : Type 1} → statement M
 decode_last_spec =

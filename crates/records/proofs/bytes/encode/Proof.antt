@@ -10,28 +10,20 @@ use Rattle.records.proofs.bytes.encode.Statement.{statement}
 use Rattle.records.proofs.bytes.encode.Tie as tie
 
 returns : tie.Need-returns-then-out-ne-RECORD_BYTES
-returns c = encode-other c.before.before.args.out.now c.before.before.args.rec c.if-out-ne-RECORD_BYTES.true
+returns c = encode-other c.args.out.now c.args.rec c.if-out-ne-RECORD_BYTES.true
 
 slice-aggregate-put-head : tie.Need-slice_bounds-put_head-end-2
-slice-aggregate-put-head c = sym (length-take-le 13 c.before.before.before.before.args.out.now (omega arith))
+slice-aggregate-put-head c = sym (length-take-le 13 c.args.out.now (omega arith))
 
 put-head-requires : tie.Need-put_head-requires
-put-head-requires c κs = length-take-le 13 c.before.before.before.before.args.out.now (omega arith)
+put-head-requires c κs = length-take-le 13 c.args.out.now (omega arith)
 
 returns-2 : tie.Need-returns
 returns-2 c =
-    let p₆ = c.before.before in
-    let p₅ = p₆.before.before.before.before.before in
-    let p₄ = p₅.before.before.before.before.before.before.before in
-    let p₃ = p₄.before.before.before.before.before.before.before in
-    let p₂ = p₃.before.before.before.before.before.before.before in
-    let p₁ = p₂.before.before.before.before.before.before.before in
-    let e = p₁.before.before.before in
-    let a = e.before.before in
-    encode-done a.args.out.now a.args.rec _ (omega arith)
-    (record-written a.args.out.now a.args.rec _ _ _ _ _ _ (omega arith) (in-types a.args.rec a.well-formed.0)
-    p₁.put_head.ensures p₂.put_numbers.ensures p₃.copy_bytes.ensures p₄.put_numbers-2.ensures
-    p₅.copy_bytes-2.ensures p₆.put_last.ensures)
+    encode-done c.args.out.now c.args.rec _ (omega arith)
+    (record-written c.args.out.now c.args.rec _ _ _ _ _ _ (omega arith) (in-types c.args.rec c.well_formed.0)
+    c.put_head.ensures c.put_numbers.ensures c.copy_bytes.ensures c.put_numbers-2.ensures
+    c.copy_bytes-2.ensures c.put_last.ensures)
 
 pub encode_spec : {M : Type 1} → statement M
 encode_spec =

@@ -3,29 +3,24 @@
 use native.Mathlib.Omega.{arith}
 use mathlib.Core.Path.{sym}
 use lib.Seq.{length-take-le}
-use Rattle.records.specs.Layout.{step_bytes}
 use Rattle.records.proofs.ByteTests.{step_other, step-done}
 use borrow.Author.Rules.{rules}
 use Rattle.records.proofs.bytes.encode_step.Statement.{statement}
 use Rattle.records.proofs.bytes.encode_step.Tie as tie
 
 returns : tie.Need-returns-then-out-ne-RECORD_BYTES
-returns c = step_other c.before.before.args.out.now _ c.if-out-ne-RECORD_BYTES.true
+returns c = step_other c.args.out.now _ c.if-out-ne-RECORD_BYTES.true
 
 slice-aggregate-put-head : tie.Need-slice_bounds-put_head-end-2
-slice-aggregate-put-head c = sym (length-take-le 13 c.before.before.before.args.out.now (omega arith))
+slice-aggregate-put-head c = sym (length-take-le 13 c.args.out.now (omega arith))
 
 put-head-requires : tie.Need-put_head-requires
-put-head-requires c κs = length-take-le 13 c.before.before.before.args.out.now (omega arith)
+put-head-requires c κs = length-take-le 13 c.args.out.now (omega arith)
 
 returns-2 : tie.Need-returns
 returns-2 c =
-    let p₃ = c.before.before in
-    let p₂ = p₃.before.before.before.before in
-    let p₁ = p₂.before.before.before.before in
-    let a = p₁.before.before.before.before in
-    step-done a.args.out.now a.args.h a.args.at a.args.state _ _ _ (omega arith)
-    p₁.put_head.ensures p₂.put_state.ensures p₃.put_last.ensures
+    step-done c.args.out.now c.args.h c.args.at c.args.state _ _ _ (omega arith)
+    c.put_head.ensures c.put_state.ensures c.put_last.ensures
 
 pub encode_step_spec : {M : Type 1} → statement M
 encode_step_spec =

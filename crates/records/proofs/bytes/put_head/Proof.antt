@@ -4,20 +4,13 @@ use Rattle.records.proofs.ByteTests.{head-written}
 use borrow.Author.Rules.{rules}
 use Rattle.records.proofs.bytes.put_head.Statement.{statement}
 use Rattle.records.proofs.bytes.put_head.Tie as tie
-use Rattle.records.proofs.bytes.put_head.Reads as reads
-use Rattle.records.proofs.bytes.put_head.Lts as lts
-use Rattle.records.proofs.bytes.phase_byte.Reads as phase-byte-reads
-use Rattle.records.proofs.bytes.yes_byte.Reads as yes-byte-reads
 
 same_length : tie.Need-shape_of-out
 same_length c = simp length-set
 
 returns : tie.Need-returns
 returns c =
-    let y = c.before.before.before.before.before.before in
-    let p = y.before in
-    let s = p.before.before in
-    head-written s.args.out.now s.args.h _ _ s.requires p.phase_byte.ensures y.yes_byte.ensures
+    head-written c.args.out.now c.args.h _ _ c.requires c.phase_byte.ensures c.yes_byte.ensures
 
 pub put_head_spec : {M : Type 1} → statement M
 put_head_spec =

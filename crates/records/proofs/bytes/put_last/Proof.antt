@@ -11,10 +11,7 @@ same_length c = simp length-set
 
 returns : tie.Need-returns
 returns c =
-    let y = c.before.before.before.before.before.before.before.before.before.before.before.before in
-    let f = y.before in
-    let s = f.before.before.before in
-    last_written s.args.out.now s.args.h _ _ s.requires f.yes_byte.ensures y.yes_byte-2.ensures
+    last_written c.args.out.now c.args.h _ _ c.requires c.yes_byte.ensures c.yes_byte-2.ensures
 
 pub put_last_spec : {M : Type 1} → statement M
 put_last_spec =
@@ -25,13 +22,13 @@ put_last_spec =
     (λ c. simp length-set (omega arith)) (λ c. search rules) (λ c. simp length-set (omega arith)) (λ c. search rules)
     (λ c. simp length-set (omega arith)) (λ c. search rules) (λ c. simp length-set (omega arith)) (λ c. search rules)
     (λ c. simp length-set (omega arith)) (λ c. search rules)
-    (λ c. let y = c.before.before.before.before.before.before.before.before in simp length-set (omega (arith, y.before.before.before.before.requires)))
+    (λ c. let y = c.before.before.before.before.before.before.before.before in simp length-set (omega (arith, y.requires)))
     (λ c. search rules)
-    (λ c. let y = c.before.before.before.before.before.before.before.before.before in simp length-set (omega (arith, y.before.before.before.before.requires)))
+    (λ c. let y = c.before.before.before.before.before.before.before.before.before in simp length-set (omega (arith, y.requires)))
     (λ c. search rules)
-    (λ c. let y = c.before.before.before.before.before.before.before.before.before.before in simp length-set (omega (arith, y.before.before.before.before.requires)))
+    (λ c. let y = c.before.before.before.before.before.before.before.before.before.before in simp length-set (omega (arith, y.requires)))
     (λ c. search rules)
-    (λ c. let y = c.before.before.before.before.before.before.before.before.before.before.before in simp length-set (omega (arith, y.before.before.before.before.requires)))
+    (λ c. let y = c.before.before.before.before.before.before.before.before.before.before.before in simp length-set (omega (arith, y.requires)))
     (λ c. search rules)
-    (λ c. let y = c.before.before.before.before.before.before.before.before.before.before.before.before in simp length-set (omega (arith, y.before.before.before.before.requires)))
+    (λ c. let y = c.before.before.before.before.before.before.before.before.before.before.before.before in simp length-set (omega (arith, y.requires)))
     same_length returns)

@@ -1,4 +1,4 @@
-use Prim.Native.Nat.{◌+◌, ◌-◌, ◌≤◌}
+use Prim.Native.Nat.{◌-◌, ◌≤◌}
 use mathlib.Core.Path.{◌≡◌, refl}
 use mathlib.Core.List.{◌++◌}
 use native.Mathlib.Omega.{arith}
@@ -8,8 +8,6 @@ use Rattle.records.proofs.NumberLoop.{copy-end}
 use borrow.Author.Rules.{rules}
 use Rattle.records.proofs.numbers.copy_bytes.Statement.{statement}
 use Rattle.records.proofs.numbers.copy_bytes.Tie as tie
-use Rattle.records.proofs.numbers.copy_bytes.Reads as reads
-use Rattle.records.proofs.numbers.copy_bytes.Lts as lts
 
 abbrev invariant-loop : tie.invariant-loop-i
 invariant-loop bytes out₀ i₀ out i = (i ≤ length bytes) × (length out ≡ length out₀) × (out ≡ take i bytes ++ drop i out₀)
@@ -22,15 +20,15 @@ loop-holds c = (search rules, refl, refl)
 
 loop-again : tie.Need-loop-i-preserved invariant-loop decreases-loop
 loop-again c =
-    let l = c.before.before.loop-i in
-    let a = c.before.before.before.args in
+    let l = c.loop-i in
+    let a = c.args in
     let e = copy-iteration a.bytes.now a.out.now l.out l.i (omega arith) (omega arith) l.invariant.2 in
     (search rules, simp length-set (omega arith), e)
 
 returns : tie.Need-returns invariant-loop decreases-loop
 returns c =
-    let l = c.before.loop-i in
-    let a = c.before.before.args in
+    let l = c.loop-i in
+    let a = c.args in
     copy-end a.bytes.now a.out.now l.out l.i (omega arith) (omega arith) l.invariant.2
 
 pub copy_bytes_spec : {M : Type 1} → statement M

@@ -1,4 +1,4 @@
-use Prim.Native.Nat.{◌+◌, ◌-◌, ◌*◌, ◌≤◌}
+use Prim.Native.Nat.{◌-◌, ◌*◌, ◌≤◌}
 use mathlib.Core.Path.{◌≡◌, refl}
 use mathlib.Core.List.{◌++◌}
 use native.Mathlib.Omega.{arith}
@@ -8,9 +8,6 @@ use Rattle.records.proofs.NumberLoop.{get-iteration, get-end}
 use borrow.Author.Rules.{rules}
 use Rattle.records.proofs.numbers.get_numbers.Statement.{statement}
 use Rattle.records.proofs.numbers.get_numbers.Tie as tie
-use Rattle.records.proofs.numbers.get_numbers.Reads as reads
-use Rattle.records.proofs.numbers.get_numbers.Lts as lts
-use Rattle.records.proofs.numbers.number16.Reads as number16-reads
 
 abbrev invariant-loop : tie.invariant-loop-i
 invariant-loop bytes out₀ i₀ out i =
@@ -25,8 +22,8 @@ loop-holds c = (search rules, refl, refl)
 
 loop-again : tie.Need-loop-i-preserved invariant-loop decreases-loop
 loop-again c =
-    let l = c.before.before.loop-i in
-    let a = c.before.before.before.before.before.args in (
+    let l = c.loop-i in
+    let a = c.args in (
       search rules,
       simp length-set (omega arith),
       get-iteration a.bytes.now a.out.now l.out l.i c.number16.result (omega arith) (omega arith)
@@ -35,8 +32,8 @@ loop-again c =
 
 returns : tie.Need-returns invariant-loop decreases-loop
 returns c =
-    let l = c.before.loop-i in
-    let a = c.before.before.before.before.args in
+    let l = c.loop-i in
+    let a = c.args in
     get-end a.bytes.now a.out.now l.out l.i (omega arith) (omega arith) l.invariant.2
 
 pub get_numbers_spec : {M : Type 1} → statement M

@@ -3,15 +3,11 @@ use native.Mathlib.Omega.{arith}
 use borrow.Author.Rules.{rules}
 use Rattle.records.proofs.numbers.number32.Statement.{statement}
 use Rattle.records.proofs.numbers.number32.Tie as tie
-use Rattle.records.proofs.numbers.number32.Reads as reads
-use Rattle.records.proofs.numbers.number32.Lts as lts
-use Rattle.formats.proofs.bytes.read32.Reads as read32-reads
 
 cast-result : tie.Need-overflow_cast-result
 cast-result c =
-    let b = c.before.before in
-    let g = c.before.shared_slice_known-1.given in
-    let i = b.args.at in
+    let g = c.shared_slice_known-1.given in
+    let i = c.args.at in
     record { fits = omega (arith, g i, g (i + 1), g (i + 2), g (i + 3)) }
 
 pub number32_spec : {M : Type 1} → statement M

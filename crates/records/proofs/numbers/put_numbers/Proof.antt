@@ -1,4 +1,4 @@
-use Prim.Native.Nat.{◌+◌, ◌-◌, ◌*◌, ◌≤◌, ◌<◌}
+use Prim.Native.Nat.{◌-◌, ◌*◌, ◌≤◌, ◌<◌}
 use mathlib.Core.Path.{◌≡◌, refl}
 use mathlib.Core.List.{◌++◌}
 use native.Mathlib.Omega.{arith}
@@ -8,8 +8,6 @@ use Rattle.records.proofs.NumberLoop.{put-iteration, put-end}
 use borrow.Author.Rules.{rules}
 use Rattle.records.proofs.numbers.put_numbers.Statement.{statement}
 use Rattle.records.proofs.numbers.put_numbers.Tie as tie
-use Rattle.records.proofs.numbers.put_numbers.Reads as reads
-use Rattle.records.proofs.numbers.put_numbers.Lts as lts
 
 abbrev invariant-loop : tie.invariant-loop-i
 invariant-loop numbers out₀ i₀ out i =
@@ -23,15 +21,15 @@ unfolding bytes16
 loop-holds c = (search rules, refl, refl)
 
 cast-out-2 : tie.Need-overflow_cast-out-in-loop-i invariant-loop decreases-loop
-cast-out-2 c = record { fits = omega (arith, c.shared_slice_known-in-loop-i-1.given c.before.before.before.loop-i.i) }
+cast-out-2 c = record { fits = omega (arith, c.shared_slice_known-in-loop-i-1.given c.loop-i.i) }
 
 slice-write-out-2 : tie.Need-bounds-out-i-in-loop-i invariant-loop decreases-loop
 slice-write-out-2 c = simp length-set (omega arith)
 
 loop-again : tie.Need-loop-i-preserved invariant-loop decreases-loop
 loop-again c =
-    let l = c.before.before.before.loop-i in
-    let a = c.before.before.before.before.args in
+    let l = c.loop-i in
+    let a = c.args in
     let x : get_or a.numbers.now l.i 0 < 65536 = omega (arith, c.shared_slice_known-in-loop-i-1.given l.i) in (
       search rules,
       simp length-set (omega arith),
@@ -41,8 +39,8 @@ loop-again c =
 
 returns : tie.Need-returns invariant-loop decreases-loop
 returns c =
-    let l = c.before.loop-i in
-    let a = c.before.before.args in
+    let l = c.loop-i in
+    let a = c.args in
     put-end a.numbers.now a.out.now l.out l.i (omega arith) (omega arith) l.invariant.2
 
 pub put_numbers_spec : {M : Type 1} → statement M

@@ -10,11 +10,11 @@ use Rattle.runs.proofs.pass.stretch.Statement.{statement}
 use Rattle.runs.proofs.pass.stretch.Tie as tie
 
 abbrev invariant-loop : tie.invariant-loop-v
-invariant-loop states₀ kinds labels marks leaves inner s k waiting₀ v₀ states waiting v =
-    (v ≡ waiting.node) × StretchDone kinds labels marks leaves inner s k states₀ waiting₀ states waiting
+invariant-loop states₀ kinds labels marks from leaves inner s k waiting₀ v₀ states waiting v =
+    (v ≡ waiting.node) × StretchDone kinds labels marks from leaves inner s k states₀ waiting₀ states waiting
 
 abbrev decreases-loop : tie.decreases-loop-v
-decreases-loop states₀ kinds labels marks leaves inner s k waiting₀ v₀ states waiting v = length kinds - v
+decreases-loop states₀ kinds labels marks from leaves inner s k waiting₀ v₀ states waiting v = length kinds - v
 
 abbrev entered : tie.At-loop-v invariant-loop decreases-loop → tie.Start invariant-loop decreases-loop
 entered l = l.before.before.before.before.before.before.before
@@ -22,11 +22,11 @@ entered l = l.before.before.before.before.before.before.before
 -- the mark of the iteration's node
 mark-here : (c : tie.In-loop-v invariant-loop decreases-loop)
     → let l = c.before.before in
-    get_or (entered l).args.marks.now l.loop-v.waiting.node 0 ≡ 255
+    get_or (entered l).args.marks.now (l.loop-v.waiting.node - (entered l).args.from) 0 ≡ 255
 mark-here c =
     let l = c.before.before in
     let s = entered l in
-    ap (λ (u : ℕ). get_or s.args.marks.now u 0) (sym l.loop-v.invariant.0) ∙ c.loop-v-test.true
+    ap (λ (u : ℕ). get_or s.args.marks.now (u - s.args.from) 0) (sym l.loop-v.invariant.0) ∙ c.loop-v-test.true
 
 -- the iteration's node is one of the plan's
 inside : (c : tie.In-loop-v invariant-loop decreases-loop) → let l = c.before.before in l.loop-v.v < length (entered l).args.kinds.now
@@ -38,13 +38,16 @@ inside c =
 -- ---- the needs
 
 loop-holds : tie.Need-loop-v-init invariant-loop decreases-loop
-loop-holds c = (refl, stretch-start c.before.before.before.before.before.before.requires.2)
+loop-holds c = (refl, stretch-start c.requires.2)
+
+sub-if1 : tie.Need-overflow_sub-v invariant-loop decreases-loop
+sub-if1 c = omega (arith, c.loop-v.invariant.0, c.loop-v.invariant.1.rising, (entered c).requires.1.first)
 
 shared-slice-read-if1 : tie.Need-bounds-marks-v invariant-loop decreases-loop
 shared-slice-read-if1 c =
     let l = c.before in
     let a = (entered l).requires.1 in
-    omega (arith, l.loop-v.invariant.0, a.room, stretch-inside a l.loop-v.invariant.1)
+    omega (arith, l.loop-v.invariant.0, l.loop-v.invariant.1.rising, a.first, a.room, stretch-inside a l.loop-v.invariant.1)
 
 shared-slice-read-a : tie.Need-bounds-labels-v invariant-loop decreases-loop
 shared-slice-read-a c = omega (arith, inside c.before, (entered c.before.before.before).requires.1.labelled)
@@ -76,18 +79,18 @@ loop-again : tie.Need-loop-v-preserved invariant-loop decreases-loop
 loop-again c =
     let i = c.before.before.before.before.before in
     let l = i.before.before in
-    let d = c.before.before.step-waiting.ensures in
+    let d = c.step-waiting.ensures in
     let label = ap (λ (u : ℕ). get_or (entered l).args.labels.now u 0) l.loop-v.invariant.0 in
     (omega (arith, d.next, l.loop-v.invariant.0), stretch-step l.loop-v.invariant.1 (mark-here i) label d)
 
 same_length : tie.Need-shape_of-states invariant-loop decreases-loop
-same_length c = c.before.before.loop-v.invariant.1.size
+same_length c = c.loop-v.invariant.1.size
 
 returns : tie.Need-returns invariant-loop decreases-loop
-returns c = c.before.before.loop-v.invariant.1
+returns c = c.loop-v.invariant.1
 
 pub stretch_spec : {M : Type 1} → statement M
 stretch_spec =
     tie.close
-    (tie.spec invariant-loop decreases-loop loop-holds shared-slice-read-if1 shared-slice-read-a cast-a step-requires add-v
+    (tie.spec invariant-loop decreases-loop loop-holds sub-if1 shared-slice-read-if1 shared-slice-read-a cast-a step-requires add-v
     loop-less loop-again same_length returns)

@@ -19,7 +19,6 @@ choose-requires c κs =
         under = p.under;
       },
       p.found,
-      p.own,
     )
 
 returns : tie.Need-returns

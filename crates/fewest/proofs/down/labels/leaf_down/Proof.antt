@@ -7,11 +7,11 @@ use Rattle.fewest.proofs.down.labels.leaf_down.Tie as tie
 
 find-leaf-label-requires : tie.Need-find_leaf_label-b-requires
 find-leaf-label-requires c κs =
-    (c.requires.0.leaf, c.requires.1)
+    c.requires.leaf
 
 cast-work : tie.Need-overflow_cast-work
 cast-work c =
-    omega (arith, c.find_leaf_label-b.ensures.most, c.requires.0.labels)
+    omega (arith, c.find_leaf_label-b.ensures.most, c.requires.labels)
 
 returns : tie.Need-returns
 returns c =

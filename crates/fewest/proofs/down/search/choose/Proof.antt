@@ -11,7 +11,7 @@ use Rattle.fewest.proofs.down.search.choose.Tie as tie
 
 find-left-requires : tie.Need-find_left-p-requires
 find-left-requires c κs =
-    (c.requires.0, c.requires.2)
+    c.requires.0
 
 add-x : tie.Need-overflow_add-x
 add-x c =
@@ -35,7 +35,7 @@ find-right-requires : tie.Need-find_right-q-requires
 find-right-requires c κs =
     let g = c.args in
     let pin : c.find_left-p.result < g.s = first_found g.s (left_hit g.work.now g.inner.now g.s g.k g.from g.at g.a (member g.labels) g.j g.c) c.find_left-p.result c.find_left-p.ensures c.requires.1 in
-    (right-search g.work.now g.inner.now g.s g.k g.from g.at g.c c.find_left-p.result c.requires.0 pin, c.requires.2)
+    right-search g.work.now g.inner.now g.s g.k g.from g.at g.c c.find_left-p.result c.requires.0 pin
 
 add-find-label : tie.Need-overflow_add-at
 add-find-label c =
@@ -69,12 +69,9 @@ find-label-requires : tie.Need-find_label-b-requires
 find-label-requires c κs =
     let g = c.args in
     let pin : c.find_left-p.result < g.s = first_found g.s (left_hit g.work.now g.inner.now g.s g.k g.from g.at g.a (member g.labels) g.j g.c) c.find_left-p.result c.find_left-p.ensures c.requires.1 in
-    let qin : c.find_right-q.result < g.s = first_found g.s (right_hit g.work.now g.inner.now g.s g.k c.find_left-p.result (get_or g.work.now (g.from + c.find_left-p.result) 0) g.at g.a (member g.labels) g.j g.c) c.find_right-q.result c.find_right-q.ensures (c.find_left-p.ensures.hit pin) in (
-      row-args g.work.now g.inner.now g.s g.k c.find_left-p.result (get_or g.work.now (g.from + c.find_left-p.result) 0) g.at g.a g.c c.find_right-q.result
-          (right-search g.work.now g.inner.now g.s g.k g.from g.at g.c c.find_left-p.result c.requires.0 pin) qin,
-      c.requires.0.under,
-      c.requires.2,
-    )
+    let qin : c.find_right-q.result < g.s = first_found g.s (right_hit g.work.now g.inner.now g.s g.k c.find_left-p.result (get_or g.work.now (g.from + c.find_left-p.result) 0) g.at g.a (member g.labels) g.j g.c) c.find_right-q.result c.find_right-q.ensures (c.find_left-p.ensures.hit pin) in
+    row-args g.work.now g.inner.now g.s g.k c.find_left-p.result (get_or g.work.now (g.from + c.find_left-p.result) 0) g.at g.a g.c c.find_right-q.result
+    (right-search g.work.now g.inner.now g.s g.k g.from g.at g.c c.find_left-p.result c.requires.0 pin) qin
 
 returns : tie.Need-returns
 returns c =

@@ -28,7 +28,7 @@ loop-holds c =
 find-right-requires : tie.Need-find_right-requires invariant-loop decreases-loop
 find-right-requires c κs =
     let g = c.args in
-    (right-search g.work.now g.inner.now g.s g.k g.from g.at g.c c.loop-p.p c.requires.0 c.loop-p-test.true, c.requires.1)
+    right-search g.work.now g.inner.now g.s g.k g.from g.at g.c c.loop-p.p c.requires c.loop-p-test.true
 
 returns : tie.Need-returns-then-find_right-s invariant-loop decreases-loop
 returns c =

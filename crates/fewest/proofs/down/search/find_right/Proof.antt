@@ -25,12 +25,12 @@ loop-holds c =
 
 add-label-hits-2 : tie.Need-overflow_add-x invariant-loop decreases-loop
 add-label-hits-2 c =
-    omega (arith, c.requires.0.left_low, c.requires.0.right_low c.loop-q.q c.loop-q-test.true)
+    omega (arith, c.requires.left_low, c.requires.right_low c.loop-q.q c.loop-q-test.true)
 
 label-hits-requires : tie.Need-label_hits-requires invariant-loop decreases-loop
 label-hits-requires c κs =
     let g = c.args in
-    (row-args g.work.now g.inner.now g.s g.k g.p g.x g.at g.a g.c c.loop-q.q c.requires.0 c.loop-q-test.true, c.requires.0.under, c.requires.1)
+    (row-args g.work.now g.inner.now g.s g.k g.p g.x g.at g.a g.c c.loop-q.q c.requires c.loop-q-test.true, c.requires.under)
 
 returns : tie.Need-returns-then-label_hits invariant-loop decreases-loop
 returns c =

@@ -9,11 +9,7 @@ returns : tie.Need-returns-then-kinds-v-eq0
 returns c =
     let g = c.args in
     leaf-turned g.kinds.now g.labels.now g.leaves.now g.inner.now g.may.now g.s g.k g.work.now
-    c.any_leaf_turn.new.work g.v c.if-kinds-v-eq0.true c.stock-m.result c.stock-m.ensures c.any_leaf_turn.ensures
-
-any-leaf-turn-requires : tie.Need-any_leaf_turn-requires
-any-leaf-turn-requires c κs =
-    (c.requires.0.leaf, c.requires.1.own c.args.v, c.stock-m.ensures, c.requires.2)
+    c.leaf_turn.new.work g.v c.if-kinds-v-eq0.true c.stock-m.result c.stock-m.ensures c.leaf_turn.ensures
 
 inner-turn-requires : tie.Need-inner_turn-requires
 inner-turn-requires c κs =
@@ -32,5 +28,5 @@ returns-2 c =
 pub node_turn_spec : {M : Type 1} → statement M
 node_turn_spec =
     tie.close
-    (tie.spec (λ c. search rules) (λ c. search rules) (λ c κs. search rules) (λ c. search rules) any-leaf-turn-requires
-    (λ c. search rules) returns inner-turn-requires (λ c. search rules) returns-2)
+    (tie.spec (λ c. search rules) (λ c. search rules) (λ c κs. search rules) (λ c. search rules)
+    (λ c κs. search rules) (λ c. search rules) returns inner-turn-requires (λ c. search rules) returns-2)

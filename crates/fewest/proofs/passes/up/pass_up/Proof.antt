@@ -10,11 +10,11 @@ use Rattle.fewest.proofs.passes.up.pass_up.Statement.{statement}
 use Rattle.fewest.proofs.passes.up.pass_up.Tie as tie
 
 abbrev invariant-loop : tie.invariant-loop-v
-invariant-loop kinds labels leaves inner may images free s k work₀ n v₀ work v =
+invariant-loop kinds labels leaves inner may images s k work₀ n v₀ work v =
     (v ≤ n) × (length work ≡ length work₀) × Up kinds labels leaves inner may s k v work₀ work
 
 abbrev decreases-loop : tie.decreases-loop-v
-decreases-loop kinds labels leaves inner may images free s k work₀ n v₀ work v = n - v
+decreases-loop kinds labels leaves inner may images s k work₀ n v₀ work v = n - v
 
 loop-holds : tie.Need-loop-v-init invariant-loop decreases-loop
 loop-holds c =
@@ -28,7 +28,6 @@ node-turn-requires c κs =
       turn-args g.kinds.now g.labels.now g.leaves.now g.inner.now g.may.now g.s g.k c.requires.0.runs l.v
           g.work.now l.work c.loop-v-test.true l.invariant.2 c.requires.0.stocks (omega (arith, c.requires.0.room, l.invariant.1)),
       c.requires.1,
-      c.requires.2,
     )
 
 loop-again : tie.Need-loop-v-preserved invariant-loop decreases-loop

@@ -15,8 +15,7 @@ returns c =
     relax-none g.inner.now g.s g.k g.p g.q g.a (member g.labels) g.base g.row.now c.if-base-ge-NO_WAY.true c.requires.1
 
 relax-labels-requires : tie.Need-relax_labels-requires
-relax-labels-requires c κs =
-    (c.requires.0, omega (arith, c.if-base-ge-NO_WAY.false), c.requires.2.own, c.requires.1)
+relax-labels-requires c κs = (c.requires.0, c.requires.1)
 
 returns-2 : tie.Need-returns-then-images-eq0
 returns-2 c = c.relax_labels.ensures
@@ -31,7 +30,7 @@ mul-relax-image-2 : tie.Need-offset_bounds-images-p
 mul-relax-image-2 c = let g = c.args in omega (arith, stride g.s g.p g.s c.requires.0.left, mul-le-mul_right g.s c.requires.0.few, c.requires.0.few, c.requires.0.right)
 
 shared-slice-read-relax-image : tie.Need-bounds-images-p
-shared-slice-read-relax-image c = let g = c.args in omega (arith, stride g.s g.p g.s c.requires.0.left, mul-le-mul_right g.s c.requires.0.few, c.requires.0.few, c.requires.0.right, (c.requires.2.imaged c.if-images-eq0.false).images.wide)
+shared-slice-read-relax-image c = let g = c.args in omega (arith, stride g.s g.p g.s c.requires.0.left, mul-le-mul_right g.s c.requires.0.few, c.requires.0.few, c.requires.0.right, (c.requires.2 c.if-images-eq0.false).images.wide)
 
 relax-image-requires : tie.Need-relax_image-requires
 relax-image-requires c κs =

@@ -1,5 +1,5 @@
 -- `first_differing` meets its contract.
-use Prim.Native.Nat.{◌+◌, ◌-◌}
+use Prim.Native.Nat.{◌-◌}
 use mathlib.Core.Path.{refl}
 use native.Mathlib.Omega.{arith}
 use Rattle.products.specs.agreement.reachable.SearchRecord.{MarksArgs}
@@ -8,8 +8,6 @@ use Rattle.products.proofs.agreement.reachable.MarksLoop.{marks-loop-end, mark-f
 use borrow.Author.Rules.{rules}
 use Rattle.products.proofs.agreement.reachable.first_differing.Statement.{statement}
 use Rattle.products.proofs.agreement.reachable.first_differing.Tie as tie
-use Rattle.products.proofs.agreement.reachable.first_differing.Reads as reads
-use Rattle.products.proofs.agreement.reachable.first_differing.Lts as lts
 
 abbrev invariant-loop : tie.invariant-loop-i
 invariant-loop first second s2 start s i₀ i = MarksArgs first second s2 s × MarksLoop first second s2 s start i
@@ -18,55 +16,78 @@ abbrev decreases-loop : tie.decreases-loop-i
 decreases-loop first second s2 start s i₀ i = s.count - i
 
 loop-holds : tie.Need-loop-i-init invariant-loop decreases-loop
-loop-holds c = (c.requires, refl)
+loop-holds c =
+    (c.requires, refl)
 
 element-copy-out-c : tie.Need-bounds-s-i invariant-loop decreases-loop
-element-copy-out-c c = omega (arith, c.before.loop-i.invariant.0.few, c.loop-i-test.true)
+element-copy-out-c c =
+    let g = c.args in
+    let l = c.loop-i in
+    omega (arith, l.invariant.0.few, c.loop-i-test.true)
 
 cast-c : tie.Need-overflow_cast-c invariant-loop decreases-loop
 cast-c c =
-    let l = c.before.before.loop-i in
+    let g = c.args in
+    let l = c.loop-i in
     omega (arith, l.invariant.0.small l.i)
 
 div-if1 : tie.Need-nonzero_div-c invariant-loop decreases-loop
-div-if1 c = omega (arith, c.before.before.loop-i.invariant.0.second_least)
+div-if1 c =
+    let g = c.args in
+    let l = c.loop-i in
+    omega (arith, l.invariant.0.second_least)
 
 shared-slice-read-if1 : tie.Need-bounds-first-c invariant-loop decreases-loop
 shared-slice-read-if1 c =
-    let l = c.before.before.before.loop-i in
-    mark-first _ _ _ _ l.invariant.0 l.i
+    let g = c.args in
+    let l = c.loop-i in
+    mark-first g.first.now g.second.now g.s2 g.s l.invariant.0 l.i
 
 rem-if1 : tie.Need-nonzero_rem-c invariant-loop decreases-loop
-rem-if1 c = omega (arith, c.before.before.before.loop-i.invariant.0.second_least)
+rem-if1 c =
+    let g = c.args in
+    let l = c.loop-i in
+    omega (arith, l.invariant.0.second_least)
 
 shared-slice-read-if1-2 : tie.Need-bounds-second-c invariant-loop decreases-loop
 shared-slice-read-if1-2 c =
-    let l = c.before.before.before.before.loop-i in
-    mark-second _ _ _ _ l.invariant.0 l.i
+    let g = c.args in
+    let l = c.loop-i in
+    mark-second g.first.now g.second.now g.s2 g.s l.invariant.0 l.i
 
 add-result : tie.Need-overflow_add-result invariant-loop decreases-loop
 add-result c =
-    omega (arith, c.before.before.before.before.before.loop-i.invariant.0.few, c.before.before.before.before.loop-i-test.true)
+    let g = c.args in
+    let l = c.loop-i in
+    omega (arith, l.invariant.0.few, c.loop-i-test.true)
 
 returns : tie.Need-returns-then-first-c invariant-loop decreases-loop
 returns c =
-    marks-loop-found _ _ _ _ _ _ c.before.before.before.before.before.loop-i.invariant.1
-    c.before.before.before.before.loop-i-test.true c.if-first-c.true
+    let g = c.args in
+    let l = c.loop-i in
+    marks-loop-found g.first.now g.second.now g.s2 g.s g.start l.i l.invariant.1
+    c.loop-i-test.true c.if-first-c.true
 
 add-i : tie.Need-overflow_add-i invariant-loop decreases-loop
 add-i c =
-    omega (arith, c.before.before.before.before.before.loop-i.invariant.0.few, c.before.before.before.before.loop-i-test.true)
+    let g = c.args in
+    let l = c.loop-i in
+    omega (arith, l.invariant.0.few, c.loop-i-test.true)
 
 loop-again : tie.Need-loop-i-preserved invariant-loop decreases-loop
 loop-again c =
-    let l = c.before.before.before.before.before.loop-i in (
+    let g = c.args in
+    let l = c.loop-i in (
       l.invariant.0,
-      marks-loop-same _ _ _ _ _ _ l.invariant.1
-          c.before.before.before.before.loop-i-test.true c.if-first-c.false,
+      marks-loop-same g.first.now g.second.now g.s2 g.s g.start l.i l.invariant.1
+          c.loop-i-test.true c.if-first-c.false,
     )
 
 returns-2 : tie.Need-returns invariant-loop decreases-loop
-returns-2 c = marks-loop-end _ _ _ _ _ _ c.before.loop-i.invariant.1 c.loop-i-test.false
+returns-2 c =
+    let g = c.args in
+    let l = c.loop-i in
+    marks-loop-end g.first.now g.second.now g.s2 g.s g.start l.i l.invariant.1 c.loop-i-test.false
 
 pub first_differing_spec : {M : Type 1} → statement M
 first_differing_spec =

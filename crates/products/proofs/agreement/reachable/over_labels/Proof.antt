@@ -1,17 +1,12 @@
 -- `over_labels` meets its contract.
-use Prim.Native.Nat.{◌+◌, ◌*◌, ◌-◌}
+use Prim.Native.Nat.{◌-◌}
 use mathlib.Core.Path.{◌∙◌}
-use mathlib.Core.Logic.{◌⊎◌, inl, inr}
-use native.Mathlib.Omega.{arith}
 use Rattle.products.proofs.agreement.reachable.LabelsLoop.{LabelsLoop, labels-loop-start, labels-loop-step, labels-loop-room}
 use Rattle.products.proofs.agreement.reachable.LabelsLoop.{labels-loop-new, labels-loop-old, labels-loop-done}
 use borrow.Author.Rules.{rules}
 use Rattle.products.proofs.agreement.reachable.over_labels.Statement.{statement}
 use Rattle.products.proofs.agreement.reachable.over_labels.Tie as tie
-use Rattle.products.proofs.agreement.reachable.over_labels.Reads as reads
 use Rattle.products.proofs.agreement.reachable.over_labels.Lts as lts
-use Rattle.products.proofs.agreement.reachable.pair_step.Reads as pair-step-reads
-use Rattle.products.proofs.agreement.reachable.with_line.Reads as with-line-reads
 
 abbrev invariant-loop : tie.invariant-loop-a
 invariant-loop first second s1 s2 k i j p q p1 p2 q1 q2 t₀ a₀ t a =

@@ -1,8 +1,7 @@
 -- `over_leaves` meets its contract.
-use Prim.Native.Nat.{◌+◌, ◌-◌, ◌*◌, ◌<◌, ◌≤◌}
+use Prim.Native.Nat.{◌-◌, ◌*◌, ◌<◌, ◌≤◌}
 use lib.ListN.{get_or}
 use mathlib.Core.Path.{◌∙◌}
-use mathlib.Core.Logic.{◌⊎◌, inl, inr}
 use native.Mathlib.Omega.{arith}
 use Rattle.products.specs.agreement.reachable.SearchRecord.{pair_leaf}
 use Rattle.products.proofs.agreement.reachable.LeavesLoop.{LeavesLoop, leaves-loop-start, leaves-loop-first, leaves-loop-second}
@@ -11,9 +10,7 @@ use Rattle.products.proofs.agreement.reachable.LeavesLoop.{leaves-loop-new, leav
 use borrow.Author.Rules.{rules}
 use Rattle.products.proofs.agreement.reachable.over_leaves.Statement.{statement}
 use Rattle.products.proofs.agreement.reachable.over_leaves.Tie as tie
-use Rattle.products.proofs.agreement.reachable.over_leaves.Reads as reads
 use Rattle.products.proofs.agreement.reachable.over_leaves.Lts as lts
-use Rattle.products.proofs.agreement.reachable.with_line.Reads as with-line-reads
 
 abbrev invariant-loop : tie.invariant-loop-label
 invariant-loop first second s1 s2 k t₀ label₀ t label = LeavesLoop first second s1 s2 k t₀ t label

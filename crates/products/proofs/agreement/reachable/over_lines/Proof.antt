@@ -8,10 +8,6 @@ use Rattle.products.proofs.agreement.reachable.LinesLoop.{lines-loop-marks, line
 use borrow.Author.Rules.{rules}
 use Rattle.products.proofs.agreement.reachable.over_lines.Statement.{statement}
 use Rattle.products.proofs.agreement.reachable.over_lines.Tie as tie
-use Rattle.products.proofs.agreement.reachable.over_lines.Reads as reads
-use Rattle.products.proofs.agreement.reachable.over_lines.Lts as lts
-use Rattle.products.proofs.agreement.reachable.first_differing.Reads as first-differing-reads
-use Rattle.products.proofs.agreement.reachable.over_labels.Reads as over-labels-reads
 
 abbrev invariant-loop : tie.invariant-loop-j
 invariant-loop first second marks1 marks2 s1 s2 k n t₀ j₀ t j = LinesLoop first second marks1 marks2 s1 s2 k n t₀ t j
@@ -20,69 +16,104 @@ abbrev decreases-loop : tie.decreases-loop-j
 decreases-loop first second marks1 marks2 s1 s2 k n t₀ j₀ t j = n + 1 - j
 
 loop-holds : tie.Need-loop-j-init invariant-loop decreases-loop
-loop-holds c = lines-loop-start _ _ _ _ _ _ _ _ _ c.before.before.before.before.requires
+loop-holds c =
+    let g = c.args in
+    lines-loop-start g.first.now g.second.now g.marks1.now g.marks2.now g.s1 g.s2 g.k g.n g.s c.requires
 
 element-copy-out-p : tie.Need-bounds-t-n invariant-loop decreases-loop
-element-copy-out-p c = lines-loop-in _ _ _ _ _ _ _ _ _ _ _ c.before.loop-j.invariant
+element-copy-out-p c =
+    let g = c.args in
+    let l = c.loop-j in
+    lines-loop-in g.first.now g.second.now g.marks1.now g.marks2.now g.s1 g.s2 g.k g.n g.s l.t l.j l.invariant
 
 cast-p : tie.Need-overflow_cast-p invariant-loop decreases-loop
 cast-p c =
+    let g = c.args in
+    let l = c.loop-j in
     omega (
       arith,
-      lines-loop-code _ _ _ _ _ _ _ _ _ _ _
-          c.before.before.loop-j.invariant c.before.before.before.before.before.before.before.args.n,
+      lines-loop-code g.first.now g.second.now g.marks1.now g.marks2.now g.s1 g.s2 g.k g.n g.s l.t l.j
+          l.invariant g.n,
     )
 
 element-copy-out-q : tie.Need-bounds-t-j invariant-loop decreases-loop
 element-copy-out-q c =
-    omega (arith, lines-loop-in _ _ _ _ _ _ _ _ _ _ _ c.before.before.loop-j.invariant, c.before.loop-j-test.true)
+    let g = c.args in
+    let l = c.loop-j in
+    omega (
+      arith,
+      lines-loop-in g.first.now g.second.now g.marks1.now g.marks2.now g.s1 g.s2 g.k g.n g.s l.t l.j
+          l.invariant,
+      c.loop-j-test.true,
+    )
 
 cast-q : tie.Need-overflow_cast-q invariant-loop decreases-loop
 cast-q c =
-    let l = c.before.before.before.loop-j in
-    omega (arith, lines-loop-code _ _ _ _ _ _ _ _ _ _ _ l.invariant l.j)
+    let g = c.args in
+    let l = c.loop-j in
+    omega (
+      arith,
+      lines-loop-code g.first.now g.second.now g.marks1.now g.marks2.now g.s1 g.s2 g.k g.n g.s l.t l.j
+          l.invariant l.j,
+    )
 
 over-labels-requires : tie.Need-over_labels-u-requires invariant-loop decreases-loop
 over-labels-requires c κs =
-    lines-loop-first _ _ _ _ _ _ _ _ _ _ _ c.before.before.before.loop-j.invariant
-    c.before.before.loop-j-test.true
+    let g = c.args in
+    let l = c.loop-j in
+    lines-loop-first g.first.now g.second.now g.marks1.now g.marks2.now g.s1 g.s2 g.k g.n g.s l.t l.j l.invariant
+    c.loop-j-test.true
 
 over-labels-requires-2 : tie.Need-over_labels-t-requires invariant-loop decreases-loop
 over-labels-requires-2 c κs =
-    lines-loop-second _ _ _ _ _ _ _ _ _ _ _ c.before.before.before.before.loop-j.invariant
-    c.before.before.before.loop-j-test.true c.over_labels-u.result c.over_labels-u.ensures
+    let g = c.args in
+    let l = c.loop-j in
+    lines-loop-second g.first.now g.second.now g.marks1.now g.marks2.now g.s1 g.s2 g.k g.n g.s l.t l.j l.invariant
+    c.loop-j-test.true c.over_labels-u.result c.over_labels-u.ensures
 
 first-differing-requires : tie.Need-first_differing-requires invariant-loop decreases-loop
 first-differing-requires c κs =
-    let b = c.before.before.before.before in
-    lines-loop-marks _ _ _ _ _ _ _ _ _ _ _ b.before.loop-j.invariant b.loop-j-test.true
-    c.before.over_labels-u.result c.before.over_labels-u.ensures c.over_labels-t.result
-    c.over_labels-t.ensures
+    let o = c in
+    let g = o.args in
+    let l = o.loop-j in
+    lines-loop-marks g.first.now g.second.now g.marks1.now g.marks2.now g.s1 g.s2 g.k g.n g.s
+    l.t l.j l.invariant o.loop-j-test.true
+    o.over_labels-u.result o.over_labels-u.ensures o.over_labels-t.result o.over_labels-t.ensures
 
 returns : tie.Need-returns-then-first_differing-ne0 invariant-loop decreases-loop
 returns c =
-    let o = c.before.before in
-    let b = o.before.before.before.before in
-    lines-loop-stop _ _ _ _ _ _ _ _ _ _ _ b.before.loop-j.invariant b.loop-j-test.true
-    o.before.over_labels-u.result o.before.over_labels-u.ensures o.over_labels-t.result
-    o.over_labels-t.ensures
-    (λ e. c.if-first_differing-ne0.true (c.before.first_differing.ensures ∙ e))
+    let g = c.args in
+    let l = c.loop-j in
+    lines-loop-stop g.first.now g.second.now g.marks1.now g.marks2.now g.s1 g.s2 g.k g.n g.s
+    l.t l.j l.invariant c.loop-j-test.true
+    c.over_labels-u.result c.over_labels-u.ensures c.over_labels-t.result c.over_labels-t.ensures
+    (λ e. c.if-first_differing-ne0.true (c.first_differing.ensures ∙ e))
 
 add-j : tie.Need-overflow_add-j invariant-loop decreases-loop
 add-j c =
-    let b = c.before.before.before.before.before.before in
-    omega (arith, lines-loop-in _ _ _ _ _ _ _ _ _ _ _ b.before.loop-j.invariant, b.loop-j-test.true)
+    let g = c.args in
+    let l = c.loop-j in
+    omega (
+      arith,
+      lines-loop-in g.first.now g.second.now g.marks1.now g.marks2.now g.s1 g.s2 g.k g.n g.s l.t
+          l.j l.invariant,
+      c.loop-j-test.true,
+    )
 
 loop-again : tie.Need-loop-j-preserved invariant-loop decreases-loop
 loop-again c =
-    let o = c.before.before in
-    let b = o.before.before.before.before in
-    lines-loop-next _ _ _ _ _ _ _ _ _ _ _ b.before.loop-j.invariant b.loop-j-test.true
-    o.before.over_labels-u.result o.before.over_labels-u.ensures o.over_labels-t.result
-    o.over_labels-t.ensures
+    let g = c.args in
+    let l = c.loop-j in
+    lines-loop-next g.first.now g.second.now g.marks1.now g.marks2.now g.s1 g.s2 g.k g.n g.s
+    l.t l.j l.invariant c.loop-j-test.true
+    c.over_labels-u.result c.over_labels-u.ensures c.over_labels-t.result c.over_labels-t.ensures
 
 returns-2 : tie.Need-returns invariant-loop decreases-loop
-returns-2 c = lines-loop-done _ _ _ _ _ _ _ _ _ _ _ c.before.loop-j.invariant c.loop-j-test.false
+returns-2 c =
+    let g = c.args in
+    let l = c.loop-j in
+    lines-loop-done g.first.now g.second.now g.marks1.now g.marks2.now g.s1 g.s2 g.k g.n g.s l.t l.j l.invariant
+    c.loop-j-test.false
 
 pub over_lines_spec : {M : Type 1} → statement M
 over_lines_spec =

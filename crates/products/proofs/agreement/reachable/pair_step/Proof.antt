@@ -4,8 +4,6 @@ use native.Mathlib.Omega.{arith}
 use borrow.Author.Rules.{rules}
 use Rattle.products.proofs.agreement.reachable.pair_step.Statement.{statement}
 use Rattle.products.proofs.agreement.reachable.pair_step.Tie as tie
-use Rattle.products.proofs.agreement.reachable.pair_step.Reads as reads
-use Rattle.products.proofs.agreement.reachable.pair_step.Lts as lts
 
 cast-x : tie.Need-overflow_cast-x
 cast-x c =

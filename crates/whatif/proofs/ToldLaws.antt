@@ -1,0 +1,42 @@
+-- What is taken from a reader and written to a writer, piece by piece.
+--     write-more, write-failed    one more piece of a text written; the front that a write that failed leaves
+--     written-all                 a text of which no more is to be written
+--     read-more                   one more piece read into a buffer, behind what came before
+use Prim.Native.Nat.{ℕ, ◌+◌, ◌≤◌}
+use mathlib.Core.Path.{◌≡◌, refl, sym, ap, ◌∙◌, subst}
+use mathlib.Core.List.{List, [], ◌++◌, append_assoc}
+use native.Mathlib.Omega.{arith}
+use lib.ListN.{length, take, drop, length-take}
+use lib.Seq.{take-add, take-take, take_all, take_at, drop_at, take-append-le, length-take-le}
+use borrow.Rule.Slice.PartMut.{put_mid}
+use Rattle.std.specs.declared.option.Option.{Option}
+use Rattle.std.specs.Io.KnownBytes.{Appends, Consumes, Keeps}
+use Rattle.std.proofs.KnownBytes.{Appends-trans, Appends-kept, Consumes-trans}
+use Rattle.whatif.specs.Told.{AppendsFront}
+
+-- the piece is the front of what is left of t
+pub write-more : (a b c : Option (List ℕ)) (t : List ℕ) (done m n : ℕ) → n ≤ length (take m (drop done t)) → Appends a b (take done t)
+    → Appends b c (take n (take m (drop done t))) → Appends a c (take (done + n) t)
+write-more a b c t done m n w h k =
+    let l : n ≤ m = omega (arith, length-take m (drop done t)) in
+    let e : take done t ++ take n (take m (drop done t)) ≡ take (done + n) t =
+    ap (λ (x : List ℕ). take done t ++ x) (take-take n m (drop done t) l) ∙ sym (take-add done n t) in
+    subst (Appends a c) e (Appends-trans a b c _ _ h k)
+
+pub write-failed : (a b c : Option (List ℕ)) (t : List ℕ) (done : ℕ) → Appends a b (take done t) → Keeps b c → AppendsFront a c t
+write-failed a b c t done h k = (done, Appends-kept a b c (take done t) h k)
+
+pub written-all : (a b : Option (List ℕ)) (t : List ℕ) (done : ℕ) → length t ≤ done → Appends a b (take done t) → Appends a b t
+written-all a b t done h k = subst (Appends a b) (take_all done t h) k
+
+pub read-more : (a b c : Option (List ℕ)) (xs ys : List ℕ) (k done n : ℕ) → done ≤ length xs → n ≤ length ys
+    → Consumes a b (take done xs) → Consumes b c (take n ys) → Consumes a c (take (done + n) (put_mid done k xs ys))
+read-more a b c xs ys k done n h g p q =
+    let rest = drop k (drop done xs) in
+    let front : take done (take done xs ++ (ys ++ rest)) ≡ take done xs = take_at (take done xs) (ys ++ rest) done (length-take-le done xs h) in
+    let back : drop done (take done xs ++ (ys ++ rest)) ≡ ys ++ rest = drop_at (take done xs) (ys ++ rest) done (length-take-le done xs h) in
+    let pieces : take (done + n) (put_mid done k xs ys) ≡ take done xs ++ take n ys =
+    take-add done n (put_mid done k xs ys)
+    ∙ (ap (λ (l : List ℕ). l ++ take n (drop done (put_mid done k xs ys))) front
+    ∙ ap (λ (l : List ℕ). take done xs ++ l) (ap (take n) back ∙ take-append-le n ys rest g)) in
+    subst (Consumes a c) (sym pieces) (Consumes-trans a b c _ _ p q)

@@ -1,0 +1,47 @@
+use Rattle.std.proofs.Common.{ℕ, suc, ◌≡◌, ◌+◌, ◌-◌, ap, sym, ◌∙◌, arith}
+use Rattle.formats.specs.Inputs.{inputs_of}
+use Rattle.whatif.specs.Asked.{finished_in}
+use Rattle.whatif.proofs.AskLaws.{more-iteration, finished-iteration, refused-iteration}
+use Rattle.whatif.proofs.ask.finish.Goals as goal
+
+pub loop-iterations-preserved : goal.loop-iterations-preserved
+loop-iterations-preserved c =
+    let l = c.loop-iterations in
+    let x = inputs_of c.args.plan.now c.args.rules.now c.args.node_table.now c.args.state_table.now in
+    let d = c.advance-next.result in
+    let f = 254 - (l.iterations + 1) in
+    let e : suc f ≡ 254 - l.iterations = omega arith in record {
+      within = omega arith;
+      same =
+          sym (more-iteration f l.rec d.session x d.answer c.advance-next.ensures c.in-More.is)
+          ∙ (ap (λ (n : ℕ). finished_in n l.rec x) e ∙ l.invariant.same);
+    }
+
+pub returns-in-Finished : goal.returns-in-Finished
+returns-in-Finished c =
+    let l = c.loop-iterations in
+    let x = inputs_of c.args.plan.now c.args.rules.now c.args.node_table.now c.args.state_table.now in
+    let d = c.advance-next.result in
+    let f = 254 - (l.iterations + 1) in
+    let e : suc f ≡ 254 - l.iterations = omega arith in
+    c.read.ensures
+    ∙ (sym (finished-iteration f l.rec d.session x d.answer c.advance-next.ensures c.in-Finished.is)
+    ∙ (ap (λ (n : ℕ). finished_in n l.rec x) e ∙ l.invariant.same))
+
+pub returns-in-Refused : goal.returns-in-Refused
+returns-in-Refused c =
+    let l = c.loop-iterations in
+    let x = inputs_of c.args.plan.now c.args.rules.now c.args.node_table.now c.args.state_table.now in
+    let d = c.advance-next.result in
+    let f = 254 - (l.iterations + 1) in
+    let e : suc f ≡ 254 - l.iterations = omega arith in
+    sym (refused-iteration f l.rec d.session x d.answer c.advance-next.ensures _ c.in-Refused.is)
+    ∙ (ap (λ (n : ℕ). finished_in n l.rec x) e ∙ l.invariant.same)
+
+pub returns : goal.returns
+unfolding finished_in
+returns c =
+    let l = c.loop-iterations in
+    let x = inputs_of c.args.plan.now c.args.rules.now c.args.node_table.now c.args.state_table.now in
+    let e : 0 ≡ 254 - l.iterations = omega arith in
+    c.read-2.ensures ∙ (ap (λ (n : ℕ). finished_in n l.rec x) e ∙ l.invariant.same)

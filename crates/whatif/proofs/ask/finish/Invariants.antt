@@ -1,0 +1,15 @@
+use Rattle.std.proofs.Common.{◌≡◌, ◌-◌, ◌≤◌}
+use Rattle.formats.specs.Inputs.{inputs_of}
+use Rattle.whatif.specs.Asked.{finished_in, most_parts}
+use Rattle.whatif.proofs.ask.finish.Given as goal
+
+-- what is left to do comes to the answer
+abbrev pub invariant-loop-iterations : goal.invariant-loop-iterations
+invariant-loop-iterations l = record {
+  within : l.iterations ≤ 254;
+  same : finished_in (254 - l.iterations) l.rec (inputs_of l.plan l.rules l.node_table l.state_table)
+      ≡ finished_in most_parts l.fn.started (inputs_of l.plan l.rules l.node_table l.state_table)
+}
+
+abbrev pub decreases-loop-iterations : goal.decreases-loop-iterations
+decreases-loop-iterations l = 254 - l.iterations
