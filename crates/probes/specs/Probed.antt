@@ -20,7 +20,7 @@ use Rattle.tables.specs.declared.answers.Climbed.TheVariants.{Reached as To, Out
 use Rattle.questions.specs.declared.roots.Rooted.{Rooted}
 use Rattle.formats.specs.Inputs.{Inputs}
 use Rattle.model.specs.Calls.{load, start, advance, cancel, read, Answer, on_parts, on_refused}
-use Rattle.model.specs.Calls.{on_outcome, finished, outcome_answer}
+use Rattle.model.specs.Calls.{on_outcome}
 use Rattle.session.specs.declared.state.Session.{Session}
 use Rattle.session.specs.Promises.{answer_on, record_on}
 use Rattle.session.specs.Records.{session_of, fresh_session}

@@ -6,8 +6,6 @@ use native.Mathlib.Omega.{arith}
 use borrow.Author.Rules.{rules}
 use Rattle.probes.proofs.eight.deal_by.Statement.{statement}
 use Rattle.probes.proofs.eight.deal_by.Tie as tie
-use Rattle.probes.proofs.eight.deal_by.Reads as reads
-use Rattle.probes.proofs.eight.deal_by.Lts as lts
 
 abbrev invariant-loop : tie.invariant-loop-left
 invariant-loop count first plan rules node_table state_table u₀ at₀ left₀ u at left =
@@ -22,15 +20,14 @@ loop-holds c = (refl, refl)
 
 loop-again : tie.Need-loop-left-preserved invariant-loop decreases-loop
 loop-again c =
-    let d = c.before.before in
-    let l = d.before.before.loop-left in (
-      dealt-once _ l.u l.at l.left _ _ (omega arith) d.deal_on-out.ensures c.next_after-at.ensures ∙ l.invariant.0,
-      next-once _ l.u l.at l.left _ _ (omega arith) d.deal_on-out.ensures c.next_after-at.ensures ∙ l.invariant.1,
+    let l = c.loop-left in (
+      dealt-once _ l.u l.at l.left _ _ (omega arith) c.deal_on-out.ensures c.next_after-at.ensures ∙ l.invariant.0,
+      next-once _ l.u l.at l.left _ _ (omega arith) c.deal_on-out.ensures c.next_after-at.ensures ∙ l.invariant.1,
     )
 
 returns : tie.Need-returns invariant-loop decreases-loop
 returns c =
-    let l = c.before.loop-left in
+    let l = c.loop-left in
     (all-dealt _ l.u l.at l.left (omega arith) ∙ l.invariant.0, next-dealt _ l.u l.at l.left (omega arith) ∙ l.invariant.1)
 
 pub deal_by_spec : {M : Type 1} → statement M

@@ -1,14 +1,10 @@
 use Rattle.probes.proofs.ProbeLaws.{roots-probed}
-use native.Mathlib.Omega.{arith}
 use borrow.Author.Rules.{rules}
 use Rattle.probes.proofs.layers.probe_roots.Statement.{statement}
 use Rattle.probes.proofs.layers.probe_roots.Tie as tie
-use Rattle.probes.proofs.layers.probe_roots.Reads as reads
-use Rattle.probes.proofs.layers.probe_roots.Lts as lts
-use Rattle.questions.proofs.roots.roots.Reads as roots-reads
 
 returns : tie.Need-returns
-returns c = roots-probed _ _ c.before.roots-found.ensures.result
+returns c = roots-probed _ _ c.roots-found.ensures.result
 
 pub probe_roots_spec : {M : Type 1} → statement M
 probe_roots_spec = tie.close (tie.spec (λ c κs. search rules) returns)

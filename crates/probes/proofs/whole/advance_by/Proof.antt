@@ -6,8 +6,6 @@ use native.Mathlib.Omega.{arith}
 use borrow.Author.Rules.{rules}
 use Rattle.probes.proofs.whole.advance_by.Statement.{statement}
 use Rattle.probes.proofs.whole.advance_by.Tie as tie
-use Rattle.probes.proofs.whole.advance_by.Reads as reads
-use Rattle.probes.proofs.whole.advance_by.Lts as lts
 
 abbrev invariant-loop : tie.invariant-loop-left
 invariant-loop count plan rules node_table state_table u₀ left₀ u left =
@@ -21,12 +19,12 @@ loop-holds c = refl
 
 loop-again : tie.Need-loop-left-preserved invariant-loop decreases-loop
 loop-again c =
-    let l = c.before.before.before.loop-left in
-    once_more _ l.u _ l.left l.invariant _ (omega arith) c.before.advance_at-out.ensures.leaves
+    let l = c.loop-left in
+    once_more _ l.u _ l.left l.invariant _ (omega arith) c.advance_at-out.ensures.leaves
 
 returns : tie.Need-returns invariant-loop decreases-loop
 returns c =
-    let l = c.before.loop-left in
+    let l = c.loop-left in
     all_done _ _ _ l.left l.invariant (omega arith)
 
 pub advance_by_spec : {M : Type 1} → statement M

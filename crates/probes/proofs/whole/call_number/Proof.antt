@@ -5,10 +5,10 @@ use Rattle.probes.proofs.whole.call_number.Statement.{statement}
 use Rattle.probes.proofs.whole.call_number.Tie as tie
 
 returns : tie.Need-returns-in-Accepted
-returns c = number-none _ c.enum_told-1.given.1
+returns c = number-none _ c.in-Accepted.is
 
 returns-2 : tie.Need-returns-in-Refused
-returns-2 c = number-some _ _ c.before.answer-1.given.1
+returns-2 c = number-some _ _ c.in-Refused.is
 
 pub call_number_spec : {M : Type 1} → statement M
 call_number_spec =

@@ -11,8 +11,8 @@ use Rattle.probes.proofs.whole.loaded.Tie as tie
 returns : tie.Need-returns
 unfolding session_of phase_to idle
 returns c =
-    let a = c.before.before.args in
-    c.idle.ensures ∙ ap (λ (l : Last). idle_session Loaded (record { n = a.n; s = a.s; k = a.k }) l) c.before.no_last-last.ensures
+    let a = c.args in
+    c.idle.ensures ∙ ap (λ (l : Last). idle_session Loaded (record { n = a.n; s = a.s; k = a.k }) l) c.no_last-last.ensures
 
 pub loaded_spec : {M : Type 1} → statement M
 loaded_spec = tie.close (tie.spec (λ c κs. search rules) (λ c κs. search rules) returns)

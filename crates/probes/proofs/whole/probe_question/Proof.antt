@@ -9,11 +9,10 @@ use Rattle.probes.proofs.whole.probe_question.Tie as tie
 
 returns : tie.Need-returns
 returns c =
-    let l = c.before in
-    let a = l.before.before.before.before.before.before.before.args in
+    let a = c.args in
     c.question_on.ensures
     ∙ ap (λ (s : Session). question_in (inputs_of a.plan.now a.rules.now a.node_table.now a.state_table.now) a.nodes.now a.labels.now s)
-    l.loaded-before.ensures
+    c.loaded-before.ensures
 
 pub probe_question_spec : {M : Type 1} → statement M
 probe_question_spec =

@@ -7,11 +7,8 @@ use Rattle.probes.proofs.whole.question_on.Tie as tie
 
 returns : tie.Need-returns
 returns c =
-    let a = c.before.before in
-    let t = a.before in
-    let o = t.before.before in
-    question-answer _ _ _ _ _ _ refl o.start_at-out.ensures _ _ _ _ t.parts_in.ensures a.advance_by-end.ensures
-    c.before.read_at-outcome.ensures c.read_in.ensures
+    question-answer _ _ _ _ _ _ refl c.start_at-out.ensures _ _ _ _ c.parts_in.ensures c.advance_by-end.ensures
+    c.read_at-outcome.ensures c.read_in.ensures
 
 pub question_on_spec : {M : Type 1} → statement M
 question_on_spec =

@@ -1,16 +1,13 @@
 use Rattle.probes.proofs.ProbeLaws.{read_some, read_none}
-use native.Mathlib.Omega.{arith}
 use borrow.Author.Rules.{rules}
 use Rattle.probes.proofs.whole.read_in.Statement.{statement}
 use Rattle.probes.proofs.whole.read_in.Tie as tie
-use Rattle.probes.proofs.whole.read_in.Reads as reads
-use Rattle.probes.proofs.whole.read_in.Lts as lts
 
 returns : tie.Need-returns-in-Outcome
-returns c = read_some _ _ c.before.before.before.answer-1.given.1
+returns c = read_some _ _ c.in-Outcome.is
 
 returns-2 : tie.Need-returns-in-Refused
-returns-2 c = read_none _ _ c.before.answer-in-Refused-1.given.1
+returns-2 c = read_none _ _ c.in-Refused.is
 
 pub read_in_spec : {M : Type 1} → statement M
 read_in_spec =
