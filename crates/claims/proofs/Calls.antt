@@ -245,7 +245,7 @@ ask : (p r node_table state_table vs bs : List ℕ) (n s₀ y₀ m₀ k₀ d₀ 
     → Answers n (whole.ask_checks p r node_table state_table vs bs)
     ((s₁ ≡ s₀) × (y₁ ≡ y₀) × (m₁ ≡ m₀) × (k₁ ≡ k₀) × (d₁ ≡ d₀))
 ask p r a b vs bs n s₀ y₀ m₀ k₀ d₀ s₁ y₁ m₁ k₁ d₁ E =
-    answers _ _ _ (ask-ties.ask_number p r a b vs bs n s₀ y₀ m₀ k₀ d₀ s₁ y₁ m₁ k₁ d₁ E)
+    answers _ _ _ (ask-ties.ask-number p r a b vs bs n s₀ y₀ m₀ k₀ d₀ s₁ y₁ m₁ k₁ d₁ E)
     (ask-ties.ask-kept p r a b vs bs n s₀ y₀ m₀ k₀ d₀ s₁ y₁ m₁ k₁ d₁ E)
 
 -- 17 as a branch question has it, then Start's checks of the list and an advance's 18: "17; .. 12; nodes below N? 13;

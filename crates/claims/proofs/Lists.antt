@@ -146,13 +146,13 @@ left = differing-is
 -- listed nodes in W
 as_before : (z : Sizes) (q : Question) → Built z q.inputs → state_table_built z q.inputs ≡ true
     → last_state (parts_of (given_by z q q.inputs) (roots_of q)) 0
-    ≡ last_state (parts_of (given_by z q q.inputs) (roots (plan_tree q.inputs.plan) q.nodes-1)) 0
+    ≡ last_state (parts_of (given_by z q q.inputs) (roots (plan_tree q.inputs.plan) q.nodes)) 0
 as_before z q B e =
-    whole-state z q.inputs q.nodes-1 q.labels-1 B e ∙ sym (whole_before z q.inputs q.nodes-1 q.labels-1 B e)
+    whole-state z q.inputs q.nodes q.labels B e ∙ sym (whole_before z q.inputs q.nodes q.labels B e)
 
 -- "parts and advances needed never rise": of what every form answers, few and never_more of CleanOutcomes (Main,
 -- finished-answers)
-fewer-parts : (q : Question) → part_count q ≤ length (roots (plan_tree q.inputs.plan) q.nodes-1)
+fewer-parts : (q : Question) → part_count q ≤ length (roots (plan_tree q.inputs.plan) q.nodes)
 fewer-parts = parts-never-rise
 
 -- "links may go either way": parts and links with all listed nodes in W, and with those that are left
