@@ -9,7 +9,7 @@ use lib.Dec.{eqb}
 use lib.ListN.{length, get_or}
 use Rattle.tables.specs.declared.answers.Reached.{Reached}
 use Rattle.formats.specs.Inputs.{Inputs}
-use Rattle.model.specs.Calls.{Call, load, start, advance, cancel, read, Answer, more, finished}
+use Rattle.model.specs.Calls.{load, start, advance, cancel, read, Answer, more, finished}
 use Rattle.model.specs.Calls.{Outcome, outcome_answer}
 use Rattle.model.specs.Calls.{Phase}
 use Rattle.model.specs.Refusals.{refusal}

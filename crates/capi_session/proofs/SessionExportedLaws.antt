@@ -3,8 +3,8 @@
 --     done-stored .. read-refused    what is stored and reported of each answer
 --     not-laid, laid ..              the exported calls: bytes that are no record, and bytes that are laid out as one
 use Prim.Native.Nat.{ℕ}
-use mathlib.Core.Path.{◌≡◌, refl, sym, ap, ap₂, ◌∙◌, subst}
-use mathlib.Core.Bool.{Bool, true, false, not, cond, ◌&&◌}
+use mathlib.Core.Path.{◌≡◌, sym, ap, ap₂, ◌∙◌, subst}
+use mathlib.Core.Bool.{Bool, true, false, not, cond}
 use mathlib.Core.List.{List}
 use lib.Dec.{eqb}
 use lib.ListN.{length}
@@ -13,7 +13,7 @@ use Rattle.formats.specs.Built.{built_node_table, built_state_table}
 use Rattle.list_laws.proofs.BoolLaws.{true-false, and_left, and_right}
 use Rattle.tables.specs.Answers.{written}
 use Rattle.formats.specs.Inputs.{Inputs}
-use Rattle.model.specs.Calls.{Call, load, read, Answer, refused, accepted, parts, more, finished}
+use Rattle.model.specs.Calls.{Call, load, read, Answer, refused}
 use Rattle.session.specs.declared.answers.Called.{Called}
 use Rattle.session.specs.declared.answers.Started.{Started}
 use Rattle.session.specs.declared.answers.AdvanceStep.{AdvanceStep}
@@ -237,7 +237,7 @@ module _ (b : List ℕ) where
 
   pub read-laid : laid_out b ≡ true → (a : ReadAnswer) (old new : Places) (r : ℕ) → read_answer a ≡ answer_on (decoded b) read → ReadStored a old r new
       → ReadExported b r old new
-  read-laid h a old new r D S =
+  read-laid h a old _ r D S =
       let e : answer_for b read ≡ read_answer a = answer-by b read h (read_answer a) D in
       record { number = S.number ∙ sym (ap answer_number e); values_are = S.values_are ∙ sym (ap (λ (x : Answer). answered_places x old) e) }
 

@@ -6,7 +6,7 @@
 -- parts_of a old, finished_of a old, answered_places a old == what an output parameter holds afterwards: the answer's
 --   value, or the old one
 -- CallExported, StartExported, AdvanceExported, ReadExported, LoadExported == the promises
-use Rattle.std.specs.Prelude.{ℕ, ◌≡◌, Bool, true, cond, List}
+use Rattle.std.specs.Prelude.{ℕ, ◌≡◌, true, cond, List}
 use Rattle.formats.specs.Built.{built_node_table, built_state_table}
 use Rattle.tables.specs.Answers.{written}
 use Rattle.formats.specs.Inputs.{Inputs}

@@ -8,32 +8,22 @@ use Rattle.capi_session.proofs.calls.store_advanced.Tie as tie
 
 encode-step-requires : tie.Need-encode_step-requires
 encode-step-requires c κs =
-    let t = c.before in
-    let a = t.before.before.before in
-    a.requires.room (a.requires.stores ∙ ap stores_by t.enum_told-1.given.1)
+    c.requires.room (c.requires.stores ∙ ap stores_by c.in-More.is)
 
 returns : tie.Need-returns-in-More
 returns c =
-    let p = c.before.before in
-    let t = p.before.before in
-    let a = t.before.before.before in
-    more-stored _ _ _ _ _ a.requires.long t.enum_told-1.given.1 p.encode_step.ensures
+    more-stored _ _ _ _ _ c.requires.long c.in-More.is c.encode_step.ensures
 
 encode-step-requires-2 : tie.Need-encode_step-requires-in-Finished
 encode-step-requires-2 c κs =
-    let t = c.before in
-    let a = t.before.before.before in
-    a.requires.room (a.requires.stores ∙ ap stores_by t.enum_told-in-Finished-1.given.1)
+    c.requires.room (c.requires.stores ∙ ap stores_by c.in-Finished.is)
 
 returns-2 : tie.Need-returns-in-Finished
 returns-2 c =
-    let p = c.before.before in
-    let t = p.before.before in
-    let a = t.before.before.before in
-    finished-stored _ _ _ _ _ a.requires.long t.enum_told-in-Finished-1.given.1 p.encode_step-in-Finished.ensures
+    finished-stored _ _ _ _ _ c.requires.long c.in-Finished.is c.encode_step-in-Finished.ensures
 
 returns-3 : tie.Need-returns-in-Refused
-returns-3 c = advance-refused _ _ _ _ _ c.before.answer-1.given.1
+returns-3 c = advance-refused _ _ _ _ _ c.in-Refused.is
 
 pub store_advanced_spec : {M : Type 1} → statement M
 store_advanced_spec =

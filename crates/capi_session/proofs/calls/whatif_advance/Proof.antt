@@ -7,29 +7,21 @@ use Rattle.capi_session.proofs.calls.whatif_advance.Tie as tie
 
 returns : tie.Need-returns-then-not-laid_out
 returns c =
-    advance-not _ _ _ (refused-laid _ _ c.before.laid_out.ensures c.if-not-laid_out.true-raw)
+    advance-not _ _ _ (refused-laid _ _ c.laid_out.ensures c.if-not-laid_out.true-raw)
 
 decode-requires : tie.Need-decode-s-requires
 decode-requires c κs =
-    passed_length _ _ c.before.before.laid_out.ensures c.before.if-not-laid_out.false-raw
+    passed_length _ _ c.laid_out.ensures c.if-not-laid_out.false-raw
 
 store-advanced-requires : tie.Need-store_advanced-requires
 store-advanced-requires c κs =
-    let v = c.before.before.before in
-    let i = v.before.before.before in
-    let F = v.advance_step-step.ensures in
-    record { long = passed_length _ _ i.before.laid_out.ensures i.if-not-laid_out.false-raw; stores = F.stores; room = F.room }
+    let F = c.advance_step-step.ensures in
+    record { long = passed_length _ _ c.laid_out.ensures c.if-not-laid_out.false-raw; stores = F.stores; room = F.room }
 
 returns-2 : tie.Need-returns
 returns-2 c =
-    let p = c.before.before in
-    let v = p.before.before.before.before in
-    let d = v.before in
-    let i = d.before.before in
-    let l = i.before in
-    let k = l.before.before.before.before.before.before in
-    advance-made k.before.args.rec.now _ _ _ _ _ _ _ (passed-laid _ _ l.laid_out.ensures i.if-not-laid_out.false-raw)
-    (λ j. omega (arith, k.slice_known-1.given j)) d.decode-s.ensures v.advance_step-step.ensures p.store_advanced.ensures
+    advance-made c.args.rec.now _ _ _ _ _ _ _ (passed-laid _ _ c.laid_out.ensures c.if-not-laid_out.false-raw)
+    (λ j. omega (arith, c.slice_known-1.given j)) c.decode-s.ensures c.advance_step-step.ensures c.store_advanced.ensures
 
 pub whatif_advance_spec : {M : Type 1} → statement M
 whatif_advance_spec =

@@ -1,29 +1,22 @@
 use Rattle.capi_session.proofs.SessionExportedLaws.{refused-laid, passed-laid, passed_length, read-not, read-laid, read-decoded}
-use native.Mathlib.Omega.{arith}
 use borrow.Author.Rules.{rules}
 use Rattle.capi_session.proofs.calls.whatif_read.Statement.{statement}
 use Rattle.capi_session.proofs.calls.whatif_read.Tie as tie
-use Rattle.capi_session.proofs.calls.whatif_read.Reads as reads
-use Rattle.capi_session.proofs.calls.whatif_read.Lts as lts
-use Rattle.capi_session.proofs.calls.tell_read.Reads as tell-read-reads
-use Rattle.records.proofs.bytes.decode.Reads as decode-reads
-use Rattle.records.proofs.bytes.laid_out.Reads as laid-out-reads
-use Rattle.session.proofs.state.Session.read.Reads as read-reads
 
 returns : tie.Need-returns-then-not-laid_out
 returns c =
-    read-not _ _ (refused-laid _ _ c.before.laid_out.ensures c.if-not-laid_out.true-raw)
+    read-not _ _ (refused-laid _ _ c.laid_out.ensures c.if-not-laid_out.true-raw)
 
 decode-requires : tie.Need-decode-s-requires
 decode-requires c κs =
-    passed_length _ _ c.before.laid_out.ensures c.if-not-laid_out.false-raw
+    passed_length _ _ c.laid_out.ensures c.if-not-laid_out.false-raw
 
 returns-2 : tie.Need-returns
 returns-2 c =
-    read-laid _ (passed-laid _ _ c.before.before.before.before.before.before.before.before.before.laid_out.ensures
-    c.before.before.before.before.before.before.before.before.if-not-laid_out.false-raw) _ _ _ _
-    (read-decoded _ _ _ c.before.before.before.before.before.before.before.decode-s.ensures
-    c.before.before.before.before.before.before.read-answer.ensures) c.tell_read.ensures
+    read-laid _ (passed-laid _ _ c.laid_out.ensures
+    c.if-not-laid_out.false-raw) _ _ _ _
+    (read-decoded _ _ _ c.decode-s.ensures
+    c.read-answer.ensures) c.tell_read.ensures
 
 pub whatif_read_spec : {M : Type 1} → statement M
 whatif_read_spec =
