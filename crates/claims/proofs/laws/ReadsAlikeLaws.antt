@@ -88,6 +88,7 @@ kept-after r r' c a d f =
 lasts : (r : Record) (a : Answer) → a ≡ last_answer r.last → (es : List Call) (zs : List Answer)
     → History Does r es zs → AnswerLasts a es zs
 lasts r a e [] zs h = tt
+lasts r a e (c ∷ es) [] h = elim h [ ]
 lasts r a e (c ∷ es) (z ∷ zs) (call {r'} d h) = (
   one c d,
   λ f. lasts r' a (e ∙ ap last_answer (sym (kept-after r r' c z d f))) es zs h,

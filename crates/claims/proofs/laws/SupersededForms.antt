@@ -32,6 +32,8 @@ use Rattle.claims.specs.Histories.{Superseded, AnyOrder}
 pub history-answers : (r : Record) (cs : List Call) (xs : List Answer) → History Does r cs xs → xs ≡ answers_of r cs
 unfolding answers_of
 history-answers r [] [] done = refl
+history-answers r [] (x ∷ xs) h = elim h [ ]
+history-answers r (c ∷ cs) [] h = elim h [ ]
 history-answers r (c ∷ cs) (x ∷ xs) (call {r' = s} d h) =
     ap₂ (λ (a : Answer) (l : List Answer). a ∷ l) d.tells
     (history-answers s cs xs h ∙ ap (λ (t : Record). answers_of t cs) d.leaves)
