@@ -2,7 +2,7 @@
 --     deal-refused    a refusal before any screen
 --     deal-beyond, deal-none    25 and 1
 --     turn-refused, turn-taken    the one-record advance on the bytes of the screen found, by its number
-use Prim.Native.Nat.{ℕ, zero, suc, ◌<◌, ◌≤◌}
+use Prim.Native.Nat.{ℕ, ◌<◌, ◌≤◌}
 use mathlib.Core.Path.{◌≡◌, refl, sym, ◌∙◌, ap, subst}
 use mathlib.Core.Bool.{Bool, true, false, cond}
 use mathlib.Core.List.{List}
@@ -12,7 +12,7 @@ use lib.ListN.{length}
 use Rattle.formats.specs.Inputs.{Inputs}
 use Rattle.model.specs.Calls.{advance, Answer, refused, parts, more, finished, outcome, is_refused}
 use Rattle.model.specs.Model.{Record, act}
-use Rattle.screens.specs.ScreenCalls.{ScreenCall, deal, ScreenAnswer, one, deals, answer_in, Target, nobody, turn}
+use Rattle.screens.specs.ScreenCalls.{ScreenCall, deal, ScreenAnswer, one, deals, answer_in, nobody, turn}
 use Rattle.screens.specs.ScreenCalls.{one_past, next_running, found, deal_target, target, turn_answer}
 use Rattle.screens.specs.Turns.{number_after}
 use Rattle.screens.proofs.TargetLaws.{number-out}
@@ -24,7 +24,7 @@ use Rattle.records.specs.Layout.{decoded, laid_out}
 use Rattle.capi_session.specs.SessionExported.{answer_for, answer_number, CallExported, finished_of, AdvanceExported}
 use Rattle.capi_session.specs.DecodedAnswers.{decoded_advance}
 use Rattle.capi_session.proofs.DecodedAnswersLaws.{decoded-advance}
-use Rattle.capi_screens.specs.RunLayout.{run_length, record_at, runs}
+use Rattle.capi_screens.specs.RunLayout.{run_length, runs}
 use Rattle.capi_screens.specs.ScreensExported.{target_in, answer_of, answer_all_for, ScreensCallExported}
 use Rattle.capi_screens.specs.ScreensExported.{ScreensDealExported}
 use Rattle.capi_screens.proofs.ExportedLaws.{nobody-exported, answer-by, turn-exported, part, put, part-is}

@@ -1,7 +1,7 @@
 -- What is decoded of a call of the screens is its answer: number and values determine it.
 --     decoded-load-all, decoded-start-on, decoded-cancel-on, decoded-read-on, decoded-deal   of the model's calls
 use Prim.Native.Nat.{ℕ, zero, suc}
-use mathlib.Core.Path.{◌≡◌, refl, sym, ◌∙◌, ap, subst}
+use mathlib.Core.Path.{◌≡◌, refl, sym, ap, subst}
 use mathlib.Core.Bool.{Bool, true, false, cond}
 use mathlib.Core.List.{List}
 use mathlib.Core.Option.{Option, none, some}
@@ -13,7 +13,7 @@ use Rattle.formats.specs.Inputs.{Inputs}
 use Rattle.model.specs.Calls.{Call, start, cancel, read, advance, Answer, refused, more, finished, is_refused}
 use Rattle.model.specs.Model.{Record, act}
 use Rattle.screens.specs.ScreenCalls.{ScreenCall, load_all, start_on, cancel_on, read_on, deal, ScreenAnswer, one, deals}
-use Rattle.screens.specs.ScreenCalls.{answer_in, one_past, next_running, Target, nobody, screen, load_all_checks, load_target}
+use Rattle.screens.specs.ScreenCalls.{answer_in, one_past, next_running, nobody, screen, load_all_checks, load_target}
 use Rattle.screens.specs.ScreenCalls.{deal_target, numbered, target, turn_answer}
 use Rattle.screens.specs.EightRecords.{at, runs, ActedAll, act_on, act_all}
 use Rattle.screens.specs.Turns.{number_after}

@@ -2,7 +2,7 @@
 --     load-waits     a screen runs, or its bytes are no record: 1, and nothing is altered
 --     load-clears    an accepted Load reports 0, and each of the eight is as after a first Load of that plan
 use Prim.Native.Nat.{ℕ, zero, suc, ◌<◌}
-use mathlib.Core.Path.{◌≡◌, refl, sym, ◌∙◌}
+use mathlib.Core.Path.{◌≡◌, sym, ◌∙◌}
 use mathlib.Core.Bool.{Bool, true, false, cond}
 use mathlib.Core.List.{List}
 use native.Mathlib.Omega.{arith}
@@ -13,7 +13,7 @@ use Rattle.formats.specs.Checks.{first_no}
 use Rattle.formats.specs.Inputs.{Inputs, sizes_in}
 use Rattle.model.specs.Calls.{refused}
 use Rattle.model.specs.Model.{loaded_record}
-use Rattle.screens.specs.ScreenCalls.{load_all, one, answer_in, load_all_checks, load_target, target}
+use Rattle.screens.specs.ScreenCalls.{one, answer_in, load_all_checks, load_target, target}
 use Rattle.screens.specs.Turns.{number_after}
 use Rattle.screens.proofs.TargetLaws.{any-yes}
 use Rattle.session.specs.Records.{session_of}

@@ -4,23 +4,23 @@
 --     fresh-run-held     8 x 983 zeros are eight fresh records
 --     bytes-hold         all statements about every list of screen calls (crate screens), from 8 x 983 zeros
 use Prim.Native.Nat.{ℕ, ◌+◌, ◌*◌, ◌<◌}
-use mathlib.Core.Path.{◌≡◌, refl, sym, ◌∙◌, ap, subst}
+use mathlib.Core.Path.{◌≡◌, refl, sym, ◌∙◌, subst}
 use mathlib.Core.List.{List}
 use native.Mathlib.Omega.{arith}
 use lib.ListN.{length, get_or, replicate, length-replicate, get_or-replicate}
 use lib.Seq.{ext_get_or}
 use Rattle.model.specs.Model.{Record, fresh_record}
 use Rattle.model.proofs.Refinement.{Refines}
-use Rattle.screens.specs.ScreenCalls.{load_all, start_on, cancel_on, read_on, deal, ScreenAnswer}
+use Rattle.screens.specs.ScreenCalls.{load_all, start_on, cancel_on, read_on, deal}
 use Rattle.screens.specs.EightRecords.{act_all, DoesAll, eight_fresh}
 use Rattle.screens.specs.Statements.{Screens}
 use Rattle.screens.proofs.Theorems.{screens-hold, screens-hold-of}
 use Rattle.records.specs.Layout.{record_length}
 use Rattle.capi_session.proofs.ExportedRefines.{Encodes, fresh-held}
-use Rattle.capi_screens.specs.RunLayout.{run_length, record_at}
+use Rattle.capi_screens.specs.RunLayout.{run_length}
 use Rattle.capi_screens.specs.DecodedScreens.{ScreensExports, loads_all, starts_on, cancels_on, reads_on}
 use Rattle.capi_screens.specs.DecodedScreens.{deals_one, fresh_run}
-use Rattle.capi_screens.proofs.PartLaws.{part, part_room, part_length, part_at, part-stride}
+use Rattle.capi_screens.proofs.PartLaws.{part, part_length, part_at, part-stride}
 use Rattle.capi_screens.proofs.EncodedRun.{EncodesAll, told_is, left-held, read_held}
 use Rattle.capi_screens.proofs.DecodedLaws.{decoded-load-all, decoded-start-on, decoded-cancel-on}
 use Rattle.capi_screens.proofs.DecodedLaws.{decoded-read-on, decoded-deal}

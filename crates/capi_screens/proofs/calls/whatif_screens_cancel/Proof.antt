@@ -5,9 +5,6 @@ use native.Mathlib.Omega.{arith}
 use borrow.Author.Rules.{rules}
 use Rattle.capi_screens.proofs.calls.whatif_screens_cancel.Statement.{statement}
 use Rattle.capi_screens.proofs.calls.whatif_screens_cancel.Tie as tie
-use Rattle.capi_screens.proofs.calls.whatif_screens_cancel.Reads as reads
-use Rattle.capi_screens.proofs.calls.whatif_screens_cancel.Lts as lts
-use Rattle.capi_session.proofs.calls.whatif_cancel.Reads as whatif-cancel-reads
 
 returns : tie.Need-returns-then-records-ne-RUN_BYTES
 returns c = not-run _ _ c.if-records-ne-RUN_BYTES.true
@@ -17,9 +14,8 @@ returns-2 c = beyond _ _ _ cancel (names-cancel _ _) (omega arith) c.if-screen-g
 
 returns-3 : tie.Need-returns
 returns-3 c =
-    let k = c.before.before in
-    on-screen _ _ _ cancel (names-cancel _ _) (omega arith) (omega arith) _ _ c.before.records-1.given.0
-    k.whatif_cancel.ensures
+    on-screen _ _ _ cancel (names-cancel _ _) (omega arith) (omega arith) _ _ c.records-1.given.0
+    c.whatif_cancel.ensures
 
 pub whatif_screens_cancel_spec : {M : Type 1} → statement M
 whatif_screens_cancel_spec =

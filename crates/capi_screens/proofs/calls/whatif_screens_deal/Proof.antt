@@ -5,11 +5,6 @@ use native.Mathlib.Omega.{arith}
 use borrow.Author.Rules.{rules}
 use Rattle.capi_screens.proofs.calls.whatif_screens_deal.Statement.{statement}
 use Rattle.capi_screens.proofs.calls.whatif_screens_deal.Tie as tie
-use Rattle.capi_screens.proofs.calls.whatif_screens_deal.Reads as reads
-use Rattle.capi_screens.proofs.calls.whatif_screens_deal.Lts as lts
-use Rattle.capi_screens.proofs.calls.next_running.Reads as next-running-reads
-use Rattle.screens.proofs.one_past.Reads as one-past-reads
-use Rattle.capi_session.proofs.calls.whatif_advance.Reads as whatif-advance-reads
 
 returns : tie.Need-returns-then-records-ne-RUN_BYTES
 returns c = deal-refused _ _ _ _ _ (not-run _ _ c.if-records-ne-RUN_BYTES.true) (not-run-answer _ _ c.if-records-ne-RUN_BYTES.true)
@@ -18,21 +13,17 @@ returns-2 : tie.Need-returns-then-first-gt-LAST
 returns-2 c = deal-beyond _ _ _ (omega arith) _ _ c.if-first-gt-LAST.true
 
 returns-3 : tie.Need-returns-then-i-gt-LAST_SCREEN
-returns-3 c = deal-none _ _ _ (omega arith) (omega arith) _ c.before.next_running-i.ensures _ _ c.if-i-gt-LAST_SCREEN.true
+returns-3 c = deal-none _ _ _ (omega arith) (omega arith) _ c.next_running-i.ensures _ _ c.if-i-gt-LAST_SCREEN.true
 
 returns-4 : tie.Need-returns-then-number-ne0
 returns-4 c =
-    let v = c.before.before.before in
-    let n = v.before.before.before.before in
-    turn-refused _ _ _ (omega arith) (omega arith) _ n.next_running-i.ensures (omega arith) _ _
-    c.before.before.records-1.given.0 _ _ v.whatif_advance-number.ensures _ (λ z. omega (arith, z, c.if-number-ne0.true))
+    turn-refused _ _ _ (omega arith) (omega arith) _ c.next_running-i.ensures (omega arith) _ _
+    c.records-1.given.0 _ _ c.whatif_advance-number.ensures _ (λ z. omega (arith, z, c.if-number-ne0.true))
 
 returns-5 : tie.Need-returns
 returns-5 c =
-    let v = c.before.before.before.before in
-    let n = v.before.before.before.before in
-    turn-taken _ _ _ (omega arith) (omega arith) _ n.next_running-i.ensures (omega arith) _ _
-    c.before.before.before.records-1.given.0 _ _ v.whatif_advance-number.ensures _ _ (omega arith)
+    turn-taken _ _ _ (omega arith) (omega arith) _ c.next_running-i.ensures (omega arith) _ _
+    c.records-1.given.0 _ _ c.whatif_advance-number.ensures _ _ (omega arith)
     c.one_past.ensures.0
 
 pub whatif_screens_deal_spec : {M : Type 1} → statement M

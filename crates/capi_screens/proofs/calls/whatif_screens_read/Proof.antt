@@ -6,9 +6,6 @@ use native.Mathlib.Omega.{arith}
 use borrow.Author.Rules.{rules}
 use Rattle.capi_screens.proofs.calls.whatif_screens_read.Statement.{statement}
 use Rattle.capi_screens.proofs.calls.whatif_screens_read.Tie as tie
-use Rattle.capi_screens.proofs.calls.whatif_screens_read.Reads as reads
-use Rattle.capi_screens.proofs.calls.whatif_screens_read.Lts as lts
-use Rattle.capi_session.proofs.calls.whatif_read.Reads as whatif-read-reads
 
 returns : tie.Need-returns-then-records-ne-RUN_BYTES
 returns c = read-refused _ _ _ _ (not-run-answer _ _ c.if-records-ne-RUN_BYTES.true)

@@ -5,9 +5,6 @@ use native.Mathlib.Omega.{arith}
 use borrow.Author.Rules.{rules}
 use Rattle.capi_screens.proofs.calls.whatif_screens_start.Statement.{statement}
 use Rattle.capi_screens.proofs.calls.whatif_screens_start.Tie as tie
-use Rattle.capi_screens.proofs.calls.whatif_screens_start.Reads as reads
-use Rattle.capi_screens.proofs.calls.whatif_screens_start.Lts as lts
-use Rattle.capi_session.proofs.calls.whatif_start.Reads as whatif-start-reads
 
 returns : tie.Need-returns-then-records-ne-RUN_BYTES
 returns c = start-refused _ _ _ _ (not-run _ _ c.if-records-ne-RUN_BYTES.true) (not-run-answer _ _ c.if-records-ne-RUN_BYTES.true)
@@ -20,8 +17,8 @@ returns-2 c =
 
 returns-3 : tie.Need-returns
 returns-3 c =
-    start-on _ _ _ _ (names-start _ _ _ _ _) (omega arith) (omega arith) _ _ _ _ c.before.records-1.given.0
-    c.before.before.whatif_start.ensures
+    start-on _ _ _ _ (names-start _ _ _ _ _) (omega arith) (omega arith) _ _ _ _ c.records-1.given.0
+    c.whatif_start.ensures
 
 pub whatif_screens_start_spec : {M : Type 1} → statement M
 whatif_screens_start_spec =

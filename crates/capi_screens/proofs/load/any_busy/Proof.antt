@@ -9,9 +9,6 @@ use native.Mathlib.Omega.{arith}
 use borrow.Author.Rules.{rules}
 use Rattle.capi_screens.proofs.load.any_busy.Statement.{statement}
 use Rattle.capi_screens.proofs.load.any_busy.Tie as tie
-use Rattle.capi_screens.proofs.load.any_busy.Reads as reads
-use Rattle.capi_screens.proofs.load.any_busy.Lts as lts
-use Rattle.capi_screens.proofs.load.is_busy.Reads as is-busy-reads
 
 abbrev invariant-loop : tie.invariant-loop-left
 invariant-loop records left₀ left = (left ≤ 8) × (any_runs 8 (busy records) ≡ any_runs left (busy records))
@@ -24,22 +21,22 @@ loop-holds c = (omega arith, refl)
 
 returns : tie.Need-returns-then-is_busy invariant-loop decreases-loop
 returns c =
-    let b = c.before.before.before.before.before.before.args.records.now in
-    let l = c.before.before.before.before.loop-left in
+    let b = c.args.records.now in
+    let l = c.loop-left in
     any_here (busy b) l.left (omega arith)
-    (sym (busy-part b (983 * (l.left - 1)) _ c.before.is_busy.ensures) ∙ c.if-is_busy.true) l.invariant.1
+    (sym (busy-part b (983 * (l.left - 1)) _ c.is_busy.ensures) ∙ c.if-is_busy.true) l.invariant.1
 
 loop-again : tie.Need-loop-left-preserved invariant-loop decreases-loop
 loop-again c =
-    let b = c.before.before.before.before.before.before.args.records.now in
-    let l = c.before.before.before.before.loop-left in (
+    let b = c.args.records.now in
+    let l = c.loop-left in (
       omega arith,
       any-on (busy b) l.left (omega arith)
-          (sym (busy-part b (983 * (l.left - 1)) _ c.before.is_busy.ensures) ∙ c.if-is_busy.false) l.invariant.1,
+          (sym (busy-part b (983 * (l.left - 1)) _ c.is_busy.ensures) ∙ c.if-is_busy.false) l.invariant.1,
     )
 
 returns-2 : tie.Need-returns invariant-loop decreases-loop
-returns-2 c = any-end _ c.before.loop-left.left (omega arith) c.before.loop-left.invariant.1
+returns-2 c = any-end _ c.loop-left.left (omega arith) c.loop-left.invariant.1
 
 pub any_busy_spec : {M : Type 1} → statement M
 any_busy_spec =

@@ -6,39 +6,26 @@ use native.Mathlib.Omega.{arith}
 use borrow.Author.Rules.{rules}
 use Rattle.capi_screens.proofs.load.whatif_screens_load.Statement.{statement}
 use Rattle.capi_screens.proofs.load.whatif_screens_load.Tie as tie
-use Rattle.capi_screens.proofs.load.whatif_screens_load.Reads as reads
-use Rattle.capi_screens.proofs.load.whatif_screens_load.Lts as lts
-use Rattle.capi_screens.proofs.load.any_busy.Reads as any-busy-reads
-use Rattle.capi_screens.proofs.load.copy_first.Reads as copy-first-reads
-use Rattle.capi_session.proofs.calls.whatif_load.Reads as whatif-load-reads
 
 returns : tie.Need-returns-then-records-ne-RUN_BYTES
 returns c = no-run-load _ _ _ c.if-records-ne-RUN_BYTES.true
 
 returns-2 : tie.Need-returns-then-any_busy
-returns-2 c = busy-load _ _ _ (omega arith) (sym c.before.any_busy.ensures ∙ c.if-any_busy.true)
+returns-2 c = busy-load _ _ _ (omega arith) (sym c.any_busy.ensures ∙ c.if-any_busy.true)
 
 slice-aggregate-whatif-load : tie.Need-slice_bounds-whatif_load-end-2
 slice-aggregate-whatif-load c =
-    let s = c.before.before.before.before.before.before.before.before.before.before in
-    sym (length-take-le 983 s.args.records.now (omega arith))
+    sym (length-take-le 983 c.args.records.now (omega arith))
 
 returns-3 : tie.Need-returns-then-number-ne0
 returns-3 c =
-    let w = c.before.before.before.before.before.before.before in
-    let e = w.before.before.before.before in
-    refused-load _ _ _ (omega arith) (sym e.before.any_busy.ensures ∙ e.if-any_busy.false) _ _ _ _
-    w.whatif_load-number.ensures c.if-number-ne0.true
+    refused-load _ _ _ (omega arith) (sym c.any_busy.ensures ∙ c.if-any_busy.false) _ _ _ _
+    c.whatif_load-number.ensures c.if-number-ne0.true
 
 returns-4 : tie.Need-returns
 returns-4 c =
-    let f = c.before.before in
-    let i = f.before.before in
-    let r = i.before.before.before.before.before.before in
-    let w = r.before in
-    let e = w.before.before.before.before in
-    cleared-load _ _ _ (omega arith) (sym e.before.any_busy.ensures ∙ e.if-any_busy.false) _ _ _ _
-    w.whatif_load-number.ensures i.if-number-ne0.false r.records-1.given.0 _ f.copy_first.ensures
+    cleared-load _ _ _ (omega arith) (sym c.any_busy.ensures ∙ c.if-any_busy.false) _ _ _ _
+    c.whatif_load-number.ensures c.if-number-ne0.false c.records-1.given.0 _ c.copy_first.ensures
 
 pub whatif_screens_load_spec : {M : Type 1} → statement M
 whatif_screens_load_spec =
