@@ -11,7 +11,7 @@
 -- The numbers 17, 12, 13, 14, 18 and that a refused call alters nothing: Calls.
 use Prim.Native.Nat.{ℕ, zero, suc}
 use mathlib.Core.Path.{◌≡◌, refl, sym, ap, ap₂, ◌∙◌, subst}
-use mathlib.Core.Bool.{Bool, true, false}
+use mathlib.Core.Bool.{true, false}
 use mathlib.Core.List.{List, [], ◌∷◌}
 use mathlib.Core.Option.{Option, none, some}
 use native.Mathlib.Omega.{arith}
@@ -35,7 +35,6 @@ use Rattle.reference.specs.Reference.{asked, fresh_answer}
 use Rattle.reference.specs.Undisturbed.{Undisturbed, OnlyOutcomeAfter}
 use Rattle.reference.specs.Outcomes.{QuestionAnswered}
 use Rattle.reference.specs.Sample.{computing, plan_a, table_a, inputs_a}
-use Rattle.whole_questions.specs.declared.answers.Asking.{Asking}
 use Rattle.whole_questions.specs.declared.answers.Asking.TheVariants.{Answered, Refused}
 use Rattle.whole_questions.specs.Question.{view_lent, left_lent, handled_from, Whole, whole_on, whole_lent}
 use Rattle.whole_questions.specs.Question.{listed_checks, ask_checks, ask_number}

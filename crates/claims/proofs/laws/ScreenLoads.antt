@@ -2,7 +2,7 @@
 --     structs-wait      a screen runs, or its struct is no record: 1, and nothing is altered
 --     structs-clear     an accepted Load answers 0, and each of the eight is as after a first Load of that plan
 use Prim.Native.Nat.{ℕ, zero, suc, ◌<◌}
-use mathlib.Core.Path.{◌≡◌, refl, sym, ap, ◌∙◌}
+use mathlib.Core.Path.{◌≡◌, sym, ap, ◌∙◌}
 use mathlib.Core.Bool.{Bool, true, false, cond}
 use mathlib.Core.List.{List}
 use lib.Dec.{eqb}
