@@ -2,7 +2,7 @@
 --     le32-head          the stated lengths are in the first twelve bytes
 --     said-too-large     what is said to an input that is too large, by its lengths alone
 --     too-large-said, in-limits-said      what is said to the parts of one
---     asked-none, asked-stated      how many bytes of the plan and the rules are asked for
+--     asked-none, asked-stated, asked-all      how many bytes of the plan and the rules are asked for
 --     said-parts         what is said to an input, by the parts of it that came
 --     parts-of-whole     the parts of an input that comes whole
 --     room-enough        the program's tables are long enough for all that it takes: Load's refusal is one of 2 to 10
@@ -110,6 +110,9 @@ asked-stated h n a l m b k t e f g i j o =
     neither_right : (u v : Bool) → u || v ≡ false → v ≡ false
     neither_right true v e = absurd (true-false e)
     neither_right false v e = e
+
+pub asked-all : (h : List ℕ) (n m : ℕ) → too_large (le32 h 0) (le32 h 4) ≡ false → AskedFor h n m → (n ≡ le32 h 0) × (m ≡ le32 h 4)
+asked-all h n m t A = (A.plan ∙ ap (λ (b : Bool). cond b 0 (le32 h 0)) t, A.rules ∙ ap (λ (b : Bool). cond b 0 (le32 h 4)) t)
 
 pub said-parts : (w h p r qs : List ℕ) → Came w h p r → questions_of w ≡ qs → said w ≡ said_to h p r qs
 unfolding said_to

@@ -1,0 +1,105 @@
+use Rattle.std.proofs.Common.{ℕ, List, [], ◌≡◌, ◌-◌, length, take, refl, sym, ap, ◌∙◌, arith}
+use Rattle.std.specs.Io.KnownBytes.{Appends}
+use Rattle.whatif.specs.Line.{refused_line}
+use Rattle.whatif.specs.Stream.{question_line, lines_by}
+use Rattle.whatif.specs.Said.{said_on}
+use Rattle.whatif.specs.Told.{AppendsFront}
+use Rattle.whatif.proofs.ClearedLaws.{load-cleared}
+use Rattle.whatif.proofs.SaidLaws.{loaded-said, refused-said}
+use Rattle.whatif.proofs.ToldLaws.{says-failed}
+use Rattle.whatif.proofs.PartLaws.{text-known, text-always}
+use Rattle.whatif.proofs.clear.Goals as goal
+
+pub put_questions-requires-clause-cleared : goal.put_questions-requires-clause-cleared
+put_questions-requires-clause-cleared g c =
+    let d = c.load-done.result in
+    load-cleared c.fresh-fresh.result d.session c.args.plan.now c.args.rules.now c.node_table_space-node_table.result
+    c.state_table_space-state_table.result _ _ d.answer c.fresh-fresh.ensures.value c.in-Accepted.is c.load-done.ensures
+
+pub returns-in_err-turn-in-Accepted-clause-says : goal.returns-in_err-turn-in-Accepted-clause-says
+returns-in_err-turn-in-Accepted-clause-says g c =
+    let p = c.args.plan.now in
+    let r = c.args.rules.now in
+    let d = c.load-done.result in
+    let known = g.R.Read.remaining c.args.input.now in
+    let a = g.W.Write.contents c.args.output.now in
+    let b = g.W.Write.contents c.put_questions.new.output in
+    says-failed known a b c.from_residual.result (λ (w : List ℕ). said_on p r (take c.args.stated w)) c.from_residual.ensures.0
+    (text-known (AppendsFront a b) known (λ (w : List ℕ). said_on p r (take c.args.stated w))
+    (λ (w : List ℕ). lines_by (question_line p r) [] (take c.args.stated w))
+    (λ w. sym (loaded-said p r c.node_table_space-node_table.result c.state_table_space-state_table.result c.fresh-fresh.result
+        d.session _ _ d.answer c.fresh-fresh.ensures.value c.load-done.ensures c.in-Accepted.is (take c.args.stated w)))
+    c.in_err-turn-in-Accepted.ensures.says)
+
+pub returns-in-Accepted-clause-answered_on : goal.returns-in-Accepted-clause-answered_on
+returns-in-Accepted-clause-answered_on g c =
+    let d = c.load-done.result in
+    let q = c.in_ok-turn-in-Accepted.ensures.progress in
+    let s =
+    loaded-said c.args.plan.now c.args.rules.now c.node_table_space-node_table.result c.state_table_space-state_table.result
+    c.fresh-fresh.result d.session _ _ d.answer c.fresh-fresh.ensures.value c.load-done.ensures c.in-Accepted.is
+    c.in_ok-turn-in-Accepted.ensures.progress.questions in
+    record {
+      questions = c.in_ok-turn-in-Accepted.ensures.progress.questions;
+      count = c.in_ok-turn-in-Accepted.ensures.progress.count;
+      all = c.in_ok-turn-in-Accepted.ensures.progress.lines ∙ sym (ap length s);
+    }
+
+pub returns-in-Accepted-clause-says : goal.returns-in-Accepted-clause-says
+returns-in-Accepted-clause-says g c =
+    let p = c.args.plan.now in
+    let r = c.args.rules.now in
+    let d = c.load-done.result in
+    let a = g.W.Write.contents c.args.output.now in
+    let b = g.W.Write.contents c.put_questions.new.output in
+    text-known (Appends a b) (g.R.Read.remaining c.args.input.now) (λ (w : List ℕ). said_on p r (take c.args.stated w))
+    (λ (w : List ℕ). lines_by (question_line p r) [] (take c.args.stated w))
+    (λ w. sym (loaded-said p r c.node_table_space-node_table.result c.state_table_space-state_table.result c.fresh-fresh.result
+        d.session _ _ d.answer c.fresh-fresh.ensures.value c.load-done.ensures c.in-Accepted.is (take c.args.stated w)))
+    c.in_ok-turn-in-Accepted.ensures.says
+
+pub send_load_refusal-requires : goal.send_load_refusal-requires
+send_load_refusal-requires g c =
+    let d = c.load-done.result in
+    refused-said c.args.plan.now c.args.rules.now c.node_table_space-node_table.result c.state_table_space-state_table.result
+    c.fresh-fresh.result d.session _ _ d.answer c.fresh-fresh.ensures.value c.load-done.ensures _ c.in-Refused.is
+    c.requires.plan_len_bound c.node_table_space-node_table.ensures c.state_table_space-state_table.ensures
+
+pub returns-in_err-sent-in-Refused-clause-says : goal.returns-in_err-sent-in-Refused-clause-says
+returns-in_err-sent-in-Refused-clause-says g c =
+    let p = c.args.plan.now in
+    let r = c.args.rules.now in
+    let d = c.load-done.result in
+    let known = g.R.Read.remaining c.args.input.now in
+    let a = g.W.Write.contents c.args.output.now in
+    let b = g.W.Write.contents c.send_load_refusal.new.output in
+    says-failed known a b c.from_residual-in_err-sent-in-Refused.result (λ (w : List ℕ). said_on p r (take c.args.stated w))
+    c.from_residual-in_err-sent-in-Refused.ensures.0
+    (text-always (AppendsFront a b) known (λ (w : List ℕ). said_on p r (take c.args.stated w)) (refused_line c.in-Refused.n)
+    (λ w. refused-said p r c.node_table_space-node_table.result c.state_table_space-state_table.result c.fresh-fresh.result d.session
+        _ _ d.answer c.fresh-fresh.ensures.value c.load-done.ensures _ c.in-Refused.is c.requires.plan_len_bound
+        c.node_table_space-node_table.ensures c.state_table_space-state_table.ensures (take c.args.stated w))
+    c.in_err-sent-in-Refused.ensures.written)
+
+pub returns-in-Refused-clause-answered_on : goal.returns-in-Refused-clause-answered_on
+returns-in-Refused-clause-answered_on g c =
+    let d = c.load-done.result in
+    let s =
+    refused-said c.args.plan.now c.args.rules.now c.node_table_space-node_table.result c.state_table_space-state_table.result
+    c.fresh-fresh.result d.session _ _ d.answer c.fresh-fresh.ensures.value c.load-done.ensures _ c.in-Refused.is
+    c.requires.plan_len_bound c.node_table_space-node_table.ensures c.state_table_space-state_table.ensures [] in
+    record { questions = []; count = refl; all = c.in_ok-sent-in-Refused.ensures.len ∙ sym (ap length s) }
+
+pub returns-in-Refused-clause-says : goal.returns-in-Refused-clause-says
+returns-in-Refused-clause-says g c =
+    let p = c.args.plan.now in
+    let r = c.args.rules.now in
+    let d = c.load-done.result in
+    let a = g.W.Write.contents c.args.output.now in
+    let b = g.W.Write.contents c.send_load_refusal.new.output in
+    text-always (Appends a b) (g.R.Read.remaining c.args.input.now) (λ (w : List ℕ). said_on p r (take c.args.stated w))
+    (refused_line c.in-Refused.n)
+    (λ w. refused-said p r c.node_table_space-node_table.result c.state_table_space-state_table.result c.fresh-fresh.result d.session
+        _ _ d.answer c.fresh-fresh.ensures.value c.load-done.ensures _ c.in-Refused.is c.requires.plan_len_bound
+        c.node_table_space-node_table.ensures c.state_table_space-state_table.ensures (take c.args.stated w))
+    c.in_ok-sent-in-Refused.ensures.written
