@@ -1,6 +1,5 @@
 pub mod AskLaws
 pub mod ClearedLaws
-pub mod InputLaws
 pub mod PartLaws
 pub mod SaidLaws
 pub mod StreamLaws

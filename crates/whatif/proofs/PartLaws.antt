@@ -18,7 +18,7 @@ use Rattle.std.specs.Option.{IfSome}
 use Rattle.std.specs.Io.KnownBytes.{Consumes, IsAtEnd}
 use Rattle.formats.specs.Bytes.{le32}
 use Rattle.whatif.specs.Input.{too_large}
-use Rattle.whatif.specs.Said.{plan_of, rules_of, questions_of, said_on, said_to, said_after, said}
+use Rattle.whatif.specs.Said.{said_on, said_to, said_after, said}
 use Rattle.whatif.proofs.SaidLaws.{le32-head, said-parts, in-limits-said}
 
 -- x is all of the first n bytes that came, and w is what follows

@@ -8,25 +8,25 @@
 --     room-enough        the program's tables are long enough for all that it takes: Load's refusal is one of 2 to 10
 --     loaded-said, refused-said      what is said where Load accepts, and where it refuses
 --     lines-over         the lines of one chunk after another are those of all at once
-use Prim.Native.Nat.{ℕ, zero, suc, ◌+◌, ◌*◌, ◌≤◌, ◌<◌, min}
-use mathlib.Core.Path.{◌≡◌, refl, ap, sym, ◌∙◌, subst}
+use Prim.Native.Nat.{ℕ, zero, suc, ◌+◌, ◌≤◌, min}
+use mathlib.Core.Path.{◌≡◌, refl, ap, sym, ◌∙◌}
 use mathlib.Core.Bool.{Bool, true, false, cond, ◌||◌}
 use mathlib.Core.List.{List, [], ◌∷◌, ◌++◌}
 use native.Mathlib.Omega.{arith}
 use lib.Dec.{ltb}
-use lib.ListN.{length, get_or, take, drop}
+use lib.ListN.{length, take, drop}
 use lib.Seq.{get_or-take, take_at, drop_at, drop-drop, take_all}
 use borrow.Author.Tests.{ltb-false}
 use Rattle.list_laws.proofs.BoolLaws.{true-false}
 use Rattle.formats.specs.Bytes.{le32}
 use Rattle.formats.specs.Plan.{node_count}
 use Rattle.formats.specs.Rules.{state_count}
-use Rattle.formats.specs.Checks.{first_no, check, rule_table_checks, build_checks, room_check}
+use Rattle.formats.specs.Checks.{first_no, rule_table_checks, build_checks, room_check}
 use Rattle.formats.specs.Inputs.{inputs_of}
 use Rattle.formats.proofs.CheckLaws.{first_no-yes, first_no-append-no}
 use Rattle.formats.proofs.PlanLaws.{product-most}
 use Rattle.formats.proofs.InputLaws.{rule-table-passes, passes-build, build-table}
-use Rattle.model.specs.Calls.{load, Phase, may_load, refused, accepted}
+use Rattle.model.specs.Calls.{load, may_load}
 use Rattle.model.specs.Refusals.{refusal}
 use Rattle.reference.specs.Reference.{phase, new_reference, stage_of as reference_stage}
 use Rattle.session.specs.declared.state.Session.{Session}

@@ -1,21 +1,17 @@
 -- Text in a buffer.
 --     decimal-is    what std writes of a number is its decimal text
---     word-put      a word copied to where the text ends
 --     put-nothing, put_then      nothing appended; one text appended after another
---     yes-or-no-short
 use Prim.Native.Nat.{ℕ, zero, suc, ◌+◌, ◌/◌, ◌%◌, ◌^◌, ◌≤◌, ◌<◌}
 use mathlib.Core.Path.{◌≡◌, refl, ap, sym, ◌∙◌}
-use mathlib.Core.Bool.{Bool, true, false, cond}
+use mathlib.Core.Bool.{cond}
 use mathlib.Core.List.{List, [], ◌∷◌, ◌++◌, append_assoc, append-nil}
 use native.Mathlib.Omega.{arith}
 use lib.Dec.{ltb}
 use lib.ListN.{length, take, length-append}
-use lib.Seq.{take_at, take-length, length-take-le}
 use borrow.Author.Tests.{lt-ltb, le-ltb}
 use Rattle.std.specs.Fmt.{decimal as digits_text}
 use Rattle.std.proofs.lemmas.Fmt.{decimal_by_steps}
 use Rattle.whatif.specs.Text.{places_in, decimal, Put}
-use Rattle.whatif.specs.Line.{yes_or_no}
 
 -- more fuel than a number needs makes no difference
 enough-fuel : (f g n : ℕ) → n ≤ f → n ≤ g → places_in f n ≡ places_in g n
@@ -49,13 +45,6 @@ last-digit n ds h e = rw (more-places n n h (omega arith)) (ap (λ (l : List ℕ
 pub decimal-is : (n : ℕ) → n < 2 ^ 64 → digits_text n ≡ decimal n
 decimal-is = decimal_by_steps (λ (n : ℕ) (ds : List ℕ). ds ≡ decimal n) one-digit last-digit
 
-pub word-put : (out word part old rest : List ℕ) (at : ℕ) → at ≤ length out → part ≡ take (length word) word ++ old
-    → take (at + length word) (take at out ++ (part ++ rest)) ≡ take at out ++ word
-word-put out word part old rest at h e =
-    let p : part ++ rest ≡ word ++ (old ++ rest) = rw (e, take-length word, append_assoc) refl in
-    rw (p, ← append_assoc)
-    (take_at (take at out ++ word) (old ++ rest) (at + length word) (simp (length-append, length-take-le at out h)))
-
 pub put-nothing : (b : List ℕ) (at : ℕ) → Put b at [] b at
 put-nothing b at = record { text = sym (append-nil (take at b)); end = omega arith; as_long = refl }
 
@@ -65,7 +54,3 @@ put_then {b = b} {t = t} {u = u} {at = at} p q = record {
   end = q.end ∙ (ap (λ (n : ℕ). n + length u) p.end ∙ simp length-append (omega arith));
   as_long = q.as_long ∙ p.as_long;
 }
-
-pub yes-or-no-short : (y : Bool) → length (yes_or_no y) ≤ 5
-yes-or-no-short true = omega arith
-yes-or-no-short false = omega arith

@@ -1,14 +1,13 @@
 -- What is taken from a reader and written to a writer, piece by piece.
---     write-more, write-failed    one more piece of a text written; the front that a write that failed leaves
---     written-all                 a text of which no more is to be written
+--     write-more                  one more piece of a text written
 --     read-more                   one more piece read into a buffer, behind what came before
 --     front-within, front-behind  a front of a text is one of a longer text, and goes on where another text ends
 --     nothing-written             what was not written to is at a front of any text
 --     on-error, says-failed       what is said where a call fails
-use Prim.Native.Nat.{ℕ, ◌+◌, ◌≤◌, min}
+use Prim.Native.Nat.{ℕ, ◌+◌, ◌≤◌}
 use mathlib.Core.Bool.{Bool, true, false}
 use mathlib.Core.Path.{◌≡◌, refl, sym, ap, ◌∙◌, subst}
-use mathlib.Core.List.{List, [], ◌++◌}
+use mathlib.Core.List.{List, ◌++◌}
 use native.Mathlib.Omega.{arith}
 use lib.ListN.{length, take, drop, length-take}
 use lib.Dec.{leb}
@@ -21,8 +20,8 @@ use Rattle.std.specs.declared.result.Result.{Result}
 use Rattle.std.specs.declared.result.Result.TheVariants.{Ok, Err}
 use Rattle.std.specs.Option.{IfSome}
 use Rattle.std.specs.Result.{IsErr, OnErr}
-use Rattle.std.specs.Io.KnownBytes.{Appends, Consumes, Keeps}
-use Rattle.std.proofs.KnownBytes.{Appends-nil, Appends-trans, Appends-kept, Consumes-trans}
+use Rattle.std.specs.Io.KnownBytes.{Appends, Consumes}
+use Rattle.std.proofs.KnownBytes.{Appends-nil, Appends-trans, Consumes-trans}
 use Rattle.list_laws.proofs.BoolLaws.{true-false}
 use Rattle.whatif.specs.Told.{AppendsFront, Says}
 
@@ -34,12 +33,6 @@ write-more a b c t done m n w h k =
     let e : take done t ++ take n (take m (drop done t)) ≡ take (done + n) t =
     ap (λ (x : List ℕ). take done t ++ x) (take-take n m (drop done t) l) ∙ sym (take-add done n t) in
     subst (Appends a c) e (Appends-trans a b c _ _ h k)
-
-pub write-failed : (a b c : Option (List ℕ)) (t : List ℕ) (done : ℕ) → Appends a b (take done t) → Keeps b c → AppendsFront a c t
-write-failed a b c t done h k = (done, Appends-kept a b c (take done t) h k)
-
-pub written-all : (a b : Option (List ℕ)) (t : List ℕ) (done : ℕ) → length t ≤ done → Appends a b (take done t) → Appends a b t
-written-all a b t done h k = subst (Appends a b) (take_all done t h) k
 
 pub read-more : (a b c : Option (List ℕ)) (xs ys : List ℕ) (k done n : ℕ) → done ≤ length xs → n ≤ length ys
     → Consumes a b (take done xs) → Consumes b c (take n ys) → Consumes a c (take (done + n) (put_mid done k xs ys))

@@ -3,7 +3,7 @@
 -- line_of a == "One line a question, no header: state, yes or no, parts, links; or `refused` and the number", with single spaces and a
 --   newline, the nodes passed over last (document 02, S-7); nothing of an answer that ends no question
 use Rattle.std.specs.Prelude.{ℕ, Bool, true, false, List, [], ◌∷◌, ◌++◌}
-use Rattle.model.specs.Calls.{Answer, parts, on_refused, on_outcome}
+use Rattle.model.specs.Calls.{Answer, on_refused, on_outcome}
 use Rattle.whatif.specs.Text.{decimal}
 
 -- " yes " or " no "

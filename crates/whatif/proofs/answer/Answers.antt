@@ -1,5 +1,4 @@
-use Rattle.std.proofs.Common.{ℕ, List, [], ◌≡◌, ◌≤◌, ◌<◌, Bool, true, false, length, take, refl, sym, ap, subst, ◌∙◌, arith}
-use Rattle.formats.specs.Bytes.{le32}
+use Rattle.std.proofs.Common.{ℕ, [], ◌≡◌, true, false, length, take, refl, sym, ap, subst, ◌∙◌, arith}
 use Rattle.std.specs.Io.KnownBytes.{Appends}
 use Rattle.std.specs.Option.{IfSome}
 use Rattle.whatif.specs.Said.{too_large_line, said_on, said_after}
@@ -106,7 +105,6 @@ returns-clause-answered g c =
     c.requires.1) in
     let n : p.count ≡ length ps = c.in_ok-plan_got.ensures.prefix_len.1 in
     let m : r.count ≡ length rs = c.in_ok-rules_got.ensures.prefix_len.1 in
-    let q = c.in_ok-heard.ensures.answered_on.questions in
     record {
       questions = c.in_ok-heard.ensures.answered_on.questions;
       count = c.in_ok-heard.ensures.answered_on.count;

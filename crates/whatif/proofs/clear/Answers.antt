@@ -1,4 +1,4 @@
-use Rattle.std.proofs.Common.{ℕ, List, [], ◌≡◌, ◌-◌, length, take, refl, sym, ap, ◌∙◌, arith}
+use Rattle.std.proofs.Common.{ℕ, List, [], length, take, refl, sym, ap, ◌∙◌}
 use Rattle.std.specs.Io.KnownBytes.{Appends}
 use Rattle.whatif.specs.Line.{refused_line}
 use Rattle.whatif.specs.Stream.{question_line, lines_by}
@@ -28,13 +28,12 @@ returns-in_err-turn-in-Accepted-clause-says g c =
     (text-known (AppendsFront a b) known (λ (w : List ℕ). said_on p r (take c.args.stated w))
     (λ (w : List ℕ). lines_by (question_line p r) [] (take c.args.stated w))
     (λ w. sym (loaded-said p r c.node_table_space-node_table.result c.state_table_space-state_table.result c.fresh-fresh.result
-        d.session _ _ d.answer c.fresh-fresh.ensures.value c.load-done.ensures c.in-Accepted.is (take c.args.stated w)))
+    d.session _ _ d.answer c.fresh-fresh.ensures.value c.load-done.ensures c.in-Accepted.is (take c.args.stated w)))
     c.in_err-turn-in-Accepted.ensures.says)
 
 pub returns-in-Accepted-clause-answered_on : goal.returns-in-Accepted-clause-answered_on
 returns-in-Accepted-clause-answered_on g c =
     let d = c.load-done.result in
-    let q = c.in_ok-turn-in-Accepted.ensures.progress in
     let s =
     loaded-said c.args.plan.now c.args.rules.now c.node_table_space-node_table.result c.state_table_space-state_table.result
     c.fresh-fresh.result d.session _ _ d.answer c.fresh-fresh.ensures.value c.load-done.ensures c.in-Accepted.is
@@ -55,7 +54,7 @@ returns-in-Accepted-clause-says g c =
     text-known (Appends a b) (g.R.Read.remaining c.args.input.now) (λ (w : List ℕ). said_on p r (take c.args.stated w))
     (λ (w : List ℕ). lines_by (question_line p r) [] (take c.args.stated w))
     (λ w. sym (loaded-said p r c.node_table_space-node_table.result c.state_table_space-state_table.result c.fresh-fresh.result
-        d.session _ _ d.answer c.fresh-fresh.ensures.value c.load-done.ensures c.in-Accepted.is (take c.args.stated w)))
+    d.session _ _ d.answer c.fresh-fresh.ensures.value c.load-done.ensures c.in-Accepted.is (take c.args.stated w)))
     c.in_ok-turn-in-Accepted.ensures.says
 
 pub send_load_refusal-requires : goal.send_load_refusal-requires
@@ -77,8 +76,8 @@ returns-in_err-sent-in-Refused-clause-says g c =
     c.from_residual-in_err-sent-in-Refused.ensures.0
     (text-always (AppendsFront a b) known (λ (w : List ℕ). said_on p r (take c.args.stated w)) (refused_line c.in-Refused.n)
     (λ w. refused-said p r c.node_table_space-node_table.result c.state_table_space-state_table.result c.fresh-fresh.result d.session
-        _ _ d.answer c.fresh-fresh.ensures.value c.load-done.ensures _ c.in-Refused.is c.requires.plan_len_bound
-        c.node_table_space-node_table.ensures c.state_table_space-state_table.ensures (take c.args.stated w))
+    _ _ d.answer c.fresh-fresh.ensures.value c.load-done.ensures _ c.in-Refused.is c.requires.plan_len_bound
+    c.node_table_space-node_table.ensures c.state_table_space-state_table.ensures (take c.args.stated w))
     c.in_err-sent-in-Refused.ensures.written)
 
 pub returns-in-Refused-clause-answered_on : goal.returns-in-Refused-clause-answered_on
@@ -100,6 +99,6 @@ returns-in-Refused-clause-says g c =
     text-always (Appends a b) (g.R.Read.remaining c.args.input.now) (λ (w : List ℕ). said_on p r (take c.args.stated w))
     (refused_line c.in-Refused.n)
     (λ w. refused-said p r c.node_table_space-node_table.result c.state_table_space-state_table.result c.fresh-fresh.result d.session
-        _ _ d.answer c.fresh-fresh.ensures.value c.load-done.ensures _ c.in-Refused.is c.requires.plan_len_bound
-        c.node_table_space-node_table.ensures c.state_table_space-state_table.ensures (take c.args.stated w))
+    _ _ d.answer c.fresh-fresh.ensures.value c.load-done.ensures _ c.in-Refused.is c.requires.plan_len_bound
+    c.node_table_space-node_table.ensures c.state_table_space-state_table.ensures (take c.args.stated w))
     c.in_ok-sent-in-Refused.ensures.written

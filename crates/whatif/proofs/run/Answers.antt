@@ -1,4 +1,4 @@
-use Rattle.std.proofs.Common.{ℕ, List, ◌≡◌, ◌≤◌, ◌<◌, length, take, sym, ◌∙◌, arith}
+use Rattle.std.proofs.Common.{◌≡◌, length, take, arith}
 use Rattle.std.specs.Io.KnownBytes.{Appends}
 use Rattle.whatif.specs.Said.{said}
 use Rattle.whatif.specs.Told.{AppendsFront}

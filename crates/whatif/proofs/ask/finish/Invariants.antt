@@ -8,7 +8,7 @@ abbrev pub invariant-loop-iterations : goal.invariant-loop-iterations
 invariant-loop-iterations l = record {
   within : l.iterations ≤ 254;
   same : finished_in (254 - l.iterations) l.rec (inputs_of l.plan l.rules l.node_table l.state_table)
-      ≡ finished_in most_parts l.fn.started (inputs_of l.plan l.rules l.node_table l.state_table)
+      ≡ finished_in most_parts l.fn.started (inputs_of l.plan l.rules l.node_table l.state_table);
 }
 
 abbrev pub decreases-loop-iterations : goal.decreases-loop-iterations

@@ -1,4 +1,4 @@
-use Rattle.std.proofs.Common.{ℕ, List, ◌≡◌, ◌≤◌, length, take, subst, arith, length-take}
+use Rattle.std.proofs.Common.{ℕ, List, ◌≤◌, length, take, subst, arith, length-take}
 use lib.Seq.{take-take}
 use Rattle.std.specs.Io.KnownBytes.{Appends, Consumes}
 use Rattle.whatif.specs.Stream.{question_line, lines_by, Buffered}
@@ -11,8 +11,8 @@ returns-in_err-n-clause-failed g c =
     let f = question_line c.args.plan.now c.args.rules.now in
     on-error c.from_residual.result _
     (λ (q : List ℕ) (h : Buffered q c.args.asked.now c.args.last.have).
-        nothing-written (g.R.Read.remaining c.args.input.now) (g.W.Write.contents c.args.output.now)
-        (λ (w : List ℕ). lines_by f q (take c.args.last.left w)))
+    nothing-written (g.R.Read.remaining c.args.input.now) (g.W.Write.contents c.args.output.now)
+    (λ (w : List ℕ). lines_by f q (take c.args.last.left w)))
 
 pub send_lines-requires : goal.send_lines-requires
 send_lines-requires g c = lines-sent c.requires.before_value c.take_in-taken.ensures.advances
@@ -28,12 +28,12 @@ returns-in_err-sent-clause-failed g c =
     let l : length (take n chunk) ≤ left = omega (arith, length-take n chunk, c.in_ok-n.ensures.upper_bound) in
     on-error c.from_residual-in_err-sent.result _
     (λ (q : List ℕ) (h : Buffered q c.args.asked.now c.args.last.have).
-        lines-failed f (g.R.Read.remaining c.args.input.now) (g.R.Read.remaining c.read_some.new.input) a b q (take n chunk) left
-        c.in_err-sent.ensures.written.0 l
-        (subst (Consumes (g.R.Read.remaining c.args.input.now) (g.R.Read.remaining c.read_some.new.input))
-        (take-take n left chunk c.in_ok-n.ensures.upper_bound) c.in_ok-n.ensures.taken.0)
-        (subst (λ (t : List ℕ). Appends a b (take c.in_err-sent.ensures.written.0 t)) (chunk-text q c.take_in-taken.ensures.advances h)
-        c.in_err-sent.ensures.written.1))
+    lines-failed f (g.R.Read.remaining c.args.input.now) (g.R.Read.remaining c.read_some.new.input) a b q (take n chunk) left
+    c.in_err-sent.ensures.written.0 l
+    (subst (Consumes (g.R.Read.remaining c.args.input.now) (g.R.Read.remaining c.read_some.new.input))
+    (take-take n left chunk c.in_ok-n.ensures.upper_bound) c.in_ok-n.ensures.taken.0)
+    (subst (λ (t : List ℕ). Appends a b (take c.in_err-sent.ensures.written.0 t)) (chunk-text q c.take_in-taken.ensures.advances h)
+    c.in_err-sent.ensures.written.1))
 
 pub returns-clause-taken : goal.returns-clause-taken
 returns-clause-taken g c =

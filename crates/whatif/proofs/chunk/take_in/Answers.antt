@@ -1,4 +1,4 @@
-use Rattle.std.proofs.Common.{ℕ, List, [], ◌∷◌, ◌++◌, ◌≡◌, ◌+◌, ◌*◌, ◌≤◌, take, get_or, sym, ap, ◌∙◌, add-one, arith}
+use Rattle.std.proofs.Common.{ℕ, [], ◌∷◌, ◌++◌, ◌≡◌, ◌+◌, take, get_or, sym, ap, ◌∙◌, add-one, arith}
 use lib.Seq.{take-suc}
 use Rattle.whatif.specs.Stream.{question_line, open_by}
 use Rattle.whatif.proofs.StreamLaws.{advances-none, advances-then}

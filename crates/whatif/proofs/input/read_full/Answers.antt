@@ -1,5 +1,4 @@
-use Rattle.std.proofs.Common.{rules, ◌≡◌, List, ℕ, length, take, ◌-◌, ◌+◌}
-use native.Mathlib.Omega.{arith}
+use Rattle.std.proofs.Common.{rules}
 use Rattle.whatif.proofs.ToldLaws.{read-more}
 use Rattle.whatif.proofs.input.read_full.Goals as goal
 

@@ -6,7 +6,7 @@ use Rattle.whatif.proofs.input.read_full.Given as goal
 abbrev pub invariant-loop-done : goal.invariant-loop-done
 invariant-loop-done g l = record {
   within : l.done ≤ length l.space;
-  taken : Consumes (g.R.Read.remaining l.initial.input) (g.R.Read.remaining l.input) (take l.done l.space)
+  taken : Consumes (g.R.Read.remaining l.initial.input) (g.R.Read.remaining l.input) (take l.done l.space);
 }
 
 abbrev pub decreases-loop-done : goal.decreases-loop-done

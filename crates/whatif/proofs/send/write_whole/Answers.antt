@@ -1,4 +1,4 @@
-use Rattle.std.proofs.Common.{◌≡◌, List, ℕ, length, take, drop, ◌-◌, length-take, length-drop}
+use Rattle.std.proofs.Common.{length, drop, ◌-◌, length-take, length-drop}
 use native.Mathlib.Omega.{arith}
 use Rattle.whatif.proofs.ToldLaws.{write-more}
 use Rattle.whatif.proofs.send.write_whole.Goals as goal

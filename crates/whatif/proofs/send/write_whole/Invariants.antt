@@ -6,7 +6,7 @@ use Rattle.whatif.proofs.send.write_whole.Given as goal
 abbrev pub invariant-loop-done : goal.invariant-loop-done
 invariant-loop-done g l = record {
   within : l.done ≤ length l.text;
-  written : Appends (g.W.Write.contents l.initial.output) (g.W.Write.contents l.output) (take l.done l.text)
+  written : Appends (g.W.Write.contents l.initial.output) (g.W.Write.contents l.output) (take l.done l.text);
 }
 
 abbrev pub decreases-loop-done : goal.decreases-loop-done
