@@ -68,7 +68,7 @@ static _Alignas(64) uint8_t stack[ROOM];
     CALL(ask, 3 * 1024) \
     CALL(allowed, 1 * 1024) \
     CALL(clearing, 1 * 1024) \
-    CALL(fewest, 1 * 1024) \
+    CALL(fewest, 3 * 1024) \
     CALL(branch_build, 5 * 1024) \
     CALL(branch_check, 3 * 1024) \
     CALL(branch, 1 * 1024) \
