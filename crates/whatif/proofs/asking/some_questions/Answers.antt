@@ -39,3 +39,6 @@ pub returns-clause-taken : goal.returns-clause-taken
 returns-clause-taken g c =
     subst (Consumes (g.R.Read.remaining c.args.input.now) (g.R.Read.remaining c.read_some.new.input))
     (take-take c.in_ok-n.n c.args.last.left c.read_some.new.chunk c.in_ok-n.ensures.upper_bound) c.in_ok-n.ensures.taken.0
+
+pub returns-clause-advances : goal.returns-clause-advances
+returns-clause-advances g c = c.take_in-taken.ensures.advances
