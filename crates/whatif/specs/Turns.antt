@@ -1,8 +1,8 @@
 -- What the program's reads and writes come to, from the first length byte to the last question.
 --
 -- Came w h p r == of the input w these bytes came: h the lengths, p the plan, r the rules
--- Answered h p r came sent == `sent` bytes were handed to the system, the length of what is said to these parts of an
---   input (h the lengths, p the plan, r the rules) and `came` bytes of questions; no more came of any than is stated
+-- Answered h p r came sent == `sent` bytes were written, the length of what is said to these parts of an input (h the
+--   lengths, p the plan, r the rules) and `came` bytes of questions; no more came of any than is stated
 -- AskedFor h n m == n bytes of the plan and m of the rules were asked for: the numbers that the lengths h state, none
 --   where they are too large
 -- AnsweredOn p r came sent == as Answered, after the lengths
@@ -12,9 +12,10 @@
 --   completes after it, and the buffer kept' holds the question that is not yet whole then
 -- joined cs, lines_over f q cs == chunks as one list, and their lines, one chunk after another
 --
--- A contract can't name what a system call reads or writes. What came is what the buffers hold after the read; what is
--- written meets the `requires` of the functions that write (src/send.rt). The bytes of earlier chunks are gone when the
--- next one comes: the contracts above one iteration know that they were there, and their number.
+-- A contract can't name what the system gives or takes; Told.antt speaks of readers and writers that tell their bytes.
+-- Here what came is what the buffers hold after the read, and what is written meets the `requires` of the functions that
+-- write (src/send.rt). The bytes of earlier chunks are gone when the next one comes: the contracts above one iteration
+-- know that they were there, and their number.
 use Rattle.std.specs.Prelude.{ℕ, ◌≤◌, ◌≡◌, cond, List, [], ◌∷◌, ◌++◌, length, take}
 use Rattle.whatif.specs.Input.{too_large}
 use Rattle.whatif.specs.Stream.{open_by, lines_by, Buffered}
