@@ -68,7 +68,7 @@ static _Alignas(64) uint8_t stack[ROOM];
     CALL(ask, 3 * 1024) \
     CALL(allowed, 1 * 1024) \
     CALL(clearing, 1 * 1024) \
-    CALL(fewest, 3 * 1024) \
+    CALL(fewest, 1 * 1024) \
     CALL(branch_build, 5 * 1024) \
     CALL(branch_check, 3 * 1024) \
     CALL(branch, 1 * 1024) \
@@ -80,7 +80,7 @@ static _Alignas(64) uint8_t stack[ROOM];
     CALL(colour_branch_with_upper, 1 * 1024) \
     CALL(count, 35 * 1024) \
     CALL(merge, 1 * 1024) \
-    CALL(agree, 14 * 1024) \
+    CALL(agree, 12 * 1024) \
     CALL(lay_over, 1 * 1024) \
     CALL(plan_of_planner, 1 * 1024) \
     CALL(planner_of_plan, 1 * 1024) \

@@ -33,12 +33,12 @@
  * nothing between calls and is re-entrant: any number of threads may call it at once, each with buffers that no other
  * thread writes during the call.
  * Stack of a call, as measured on plans of 65,535 nodes and the largest tables: a fresh run at most 40 KiB, a count of
- * choices at most 35 KiB, agreement of two rule tables at most 14 KiB, a Start, which makes the full check, at most
+ * choices at most 35 KiB, agreement of two rule tables at most 12 KiB, a Start, which makes the full check, at most
  * 10 KiB, the full check of a rule table's tables at most 8 KiB, a build at most 5 KiB, any other call of the session
- * or of the screens at most 4 KiB, a branch table's full check, a whole question, the fewest changes or a question of
- * changes by colours at most 3 KiB, any other at most 1 KiB. A function that is written here needs the stack of the
- * calls that it makes, and at most 2 KiB more. Not counted is what the loader needs where it binds memcpy or memset at
- * its first use: some 3 KiB once, and nothing in programs linked with -z now.
+ * or of the screens at most 4 KiB, a branch table's full check, a whole question or a question of changes by colours at
+ * most 3 KiB, any other at most 1 KiB. A function that is written here needs the stack of the calls that it makes, and
+ * at most 2 KiB more. Not counted is what the loader needs where it binds memcpy or memset at its first use: some 3 KiB
+ * once, and nothing in programs linked with -z now.
  *
  * What holds for every function:
  * - A slice is a pointer, then its count of elements (not bytes).

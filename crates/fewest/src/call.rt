@@ -53,6 +53,7 @@ fn room_fits(n: usize, s: usize, work: usize, nodes: usize, labels: usize) -> bo
 }
 
 // Checks 2 to 10, then 17, then 11.
+#[inline(never)]
 fn check_fewest(
     plan: &[u8],
     rules: &[u8],

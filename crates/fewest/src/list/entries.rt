@@ -17,6 +17,7 @@ fn put_change(nodes: &mut [u16], out: &mut [u8], c: usize, v: usize, a: u32, b: 
 }
 
 // Lists the nodes whose first number of a row is not their label, and these numbers; how many.
+#[inline(never)]
 pub fn list_changes(
     labels: &[u8],
     work: &[u32],

@@ -1,4 +1,5 @@
-// The pass up: each node's size and costs, in rising node number.
+// The pass up: each node's size and costs, in rising node number. What is not inlined, here and where this crate says so
+// again, keeps its rows and numbers out of the frame that has the images: the whole call needs at most 1 KiB of stack.
 ghost use Rattle.std.specs.Prelude.{◌≡◌, true, ◌-◌, ◌≤◌, length};
 ghost use Rattle.state_sets.specs.StateSets.{member};
 ghost use Rattle.fewest.specs.inner.Images.{ImagesFit, ImagesFor};
@@ -14,6 +15,7 @@ use crate::rows::relax::relax_left;
 use formats::limits::STATE_LIMIT;
 
 // The turn of a leaf of label a that may take the labels of the set.
+#[inline(never)]
 fn leaf_turn(work: &mut [u32], leaves: &[u8], s: usize, k: usize, v: usize, a: usize, labels: u64)
     requires { LeafTurnArgs work.old leaves.now s k v }
     ensures { RowDone s v 1 (leaf_costs leaves.now k a (member labels)) work.old work.new }
@@ -58,6 +60,7 @@ fn inner_row(
 }
 
 // How many nodes stand at and below inner node v.
+#[inline(never)]
 fn inner_size(work: &[u32], inner: &[u8], s: usize, k: usize, v: usize) -> u32
     requires { InnerTurnArgs work.now inner.now s k v }
     ensures { result ≡ inner_size s work.now v }
@@ -68,6 +71,7 @@ fn inner_size(work: &[u32], inner: &[u8], s: usize, k: usize, v: usize) -> u32
 }
 
 // The turn of an inner node of label a that may take the labels of the set.
+#[inline(never)]
 fn inner_turn(
     work: &mut [u32],
     inner: &[u8],

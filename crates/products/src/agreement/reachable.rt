@@ -47,11 +47,10 @@ pub fn empty_search() -> Search
 }
 
 // One line more.
-fn with_line(s: Search, kind: u8, label: u8, left: u8, right: u8, code: u8) -> Search
-    requires { s.count < pair_limit }
-    ensures { result ≡ line_added s kind label left right code }
+fn with_line(t: &mut Search, kind: u8, label: u8, left: u8, right: u8, code: u8)
+    requires { t.old.count < pair_limit }
+    ensures { t.new ≡ line_added t.old kind label left right code }
 {
-    let mut t = s;
     let at = t.count;
     let c = code as usize;
     t.kinds[at] = kind;
@@ -61,7 +60,6 @@ fn with_line(s: Search, kind: u8, label: u8, left: u8, right: u8, code: u8) -> S
     t.codes[at] = code;
     t.seen[c] = 1;
     t.count = at + 1;
-    t
 }
 
 // The state of the product for label a over states p1, p2 at the left and q1, q2 at the right.
@@ -111,7 +109,7 @@ fn over_labels(
         let c = pair_step(first, second, s1, s2, k, p1, p2, a, q1, q2);
         let at = c as usize;
         if t.seen[at] == 0 {
-            t = with_line(t, 1, a as u8, i as u8, j as u8, c);
+            with_line(&mut t, 1, a as u8, i as u8, j as u8, c);
         }
         a += 1;
     }
@@ -207,7 +205,7 @@ pub fn over_leaves(first: &[u8], second: &[u8], s1: usize, s2: usize, k: usize, 
         let y = second[label] as usize;
         let c = x * s2 + y;
         if t.seen[c] == 0 {
-            t = with_line(t, 0, label as u8, 0, 0, c as u8);
+            with_line(&mut t, 0, label as u8, 0, 0, c as u8);
         }
         label += 1;
     }

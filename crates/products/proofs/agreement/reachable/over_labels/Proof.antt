@@ -30,7 +30,7 @@ pair-step-requires c κs =
     g.s l.t l.a l.invariant
     c.loop-a-test.true
 
-with-line-requires : tie.Need-with_line-t-requires invariant-loop decreases-loop
+with-line-requires : tie.Need-with_line-requires invariant-loop decreases-loop
 with-line-requires c κs =
     let m = c.before.before in
     let a = m.before.before in
@@ -47,7 +47,7 @@ loop-again c =
     let g = a.before.before.before.args in
     let l = a.loop-a in
     elim c.if-t-at-eq0.branch [
-      | lts.then-t-at-eq0 w ↦ rw (w.t-is ∙ w.with_line-t.ensures)
+      | lts.then-t-at-eq0 w ↦ rw (w.t-is ∙ w.with_line.ensures)
           (labels-loop-new g.first.now g.second.now g.s1 g.s2 g.k g.i g.j g.p g.q _ _ _ _
           g.s l.t l.a l.invariant
           m.before.loop-a-test.true m.pair_step-c.result m.pair_step-c.ensures w.if-t-at-eq0.true)

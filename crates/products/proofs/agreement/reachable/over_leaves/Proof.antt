@@ -66,9 +66,9 @@ cast-with-line : tie.Need-overflow_cast-label invariant-loop decreases-loop
 cast-with-line c = omega (arith, c.before.before.before.before.before.loop-label.invariant.args.labels_most, c.before.before.before.before.loop-label-test.true)
 
 cast-with-line-2 : tie.Need-overflow_cast-c invariant-loop decreases-loop
-cast-with-line-2 c = omega (arith, code c.before.before.before.before.before)
+cast-with-line-2 c = omega (arith, code c.before.before.before.before.before.before)
 
-with-line-requires : tie.Need-with_line-t-requires invariant-loop decreases-loop
+with-line-requires : tie.Need-with_line-requires invariant-loop decreases-loop
 with-line-requires c κs =
     let a = c.before.before.before.before.before in
     let g = a.before.before.before.args in
@@ -82,7 +82,7 @@ loop-again c =
     let g = a.before.before.before.args in
     let l = a.loop-label in
     elim c.if-t-c-eq0.branch [
-      | lts.then-t-c-eq0 w ↦ rw (w.t-is ∙ w.with_line-t.ensures) (leaves-loop-new g.first.now g.second.now g.s1 g.s2 g.k
+      | lts.then-t-c-eq0 w ↦ rw (w.t-is ∙ w.with_line.ensures) (leaves-loop-new g.first.now g.second.now g.s1 g.s2 g.k
           g.s l.t l.label l.invariant c.before.before.before.before.loop-label-test.true w.if-t-c-eq0.true)
       | lts.else-t-c-eq0 w ↦ rw w.t-is (leaves-loop-old g.first.now g.second.now g.s1 g.s2 g.k g.s l.t
           l.label l.invariant c.before.before.before.before.loop-label-test.true w.if-t-c-eq0.false)
