@@ -1,5 +1,6 @@
-// The pass up: each node's size and costs, in rising node number. What is not inlined, here and where this crate says so
-// again, keeps its rows and numbers out of the frame that has the images: the whole call needs at most 1 KiB of stack.
+// The pass up: each node's size and costs, in rising node number. The functions marked `#[inline(never)]`, here, in
+// call.rt and in list/entries.rt, keep their variables out of the stack frame that holds the images: the whole call
+// needs at most 1 KiB of stack.
 ghost use Rattle.std.specs.Prelude.{◌≡◌, true, ◌-◌, ◌≤◌, length};
 ghost use Rattle.state_sets.specs.StateSets.{member};
 ghost use Rattle.fewest.specs.inner.Images.{ImagesFit, ImagesFor};

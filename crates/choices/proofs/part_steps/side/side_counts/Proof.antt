@@ -22,12 +22,14 @@ run-on-requires c κs =
 returns : tie.Need-returns-then-s-x
 returns c =
     run-lost _ _ _ _ _ _ _ _ _ _ _ _ _ _
-    c.requires c.if-own-eq0.true _ c.run_on-x.ensures c.if-s-x.true
+    c.requires c.if-own-eq0.true _
+    c.run_on-x.ensures c.if-s-x.true
 
 returns-2 : tie.Need-returns-then-own-eq0
 returns-2 c =
     run-kept _ _ _ _ _ _ _ _ _ _ _ _ _ _
-    c.requires c.if-own-eq0.true _ c.run_on-x.ensures c.if-s-x.false
+    c.requires c.if-own-eq0.true _
+    c.run_on-x.ensures c.if-s-x.false
 
 returns-3 : tie.Need-returns-then-other-ne0
 returns-3 c =
@@ -52,7 +54,8 @@ carry-counts-requires c κs =
 returns-4 : tie.Need-returns
 returns-4 c =
     carried-side _ _ _ _ _ _ _ _ _ _ _ _ _ (c.args.own - 1) _
-    (one_more _ c.if-own-eq0.false) c.requires c.if-other-ne0.false _
+    (one_more _ c.if-own-eq0.false) c.requires
+    c.if-other-ne0.false _
     c.copy_row-2.ensures _ _ c.carry_counts.ensures
 
 pub side_counts_spec : {M : Type 1} → statement M

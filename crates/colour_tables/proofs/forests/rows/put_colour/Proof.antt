@@ -16,7 +16,7 @@ fits : (c : tie.After-put_row-arg-1) → let g = c.args in
     (g.c * (g.n * 4) + g.n * 4 ≤ length g.nums.now) × (g.c * (g.n * 4) ≤ 3932100)
     × (g.v * 4 + 4 ≤ g.n * 4) × (g.n ≤ 65535)
 fits c =
-    let A : NextArgs c.args.nums.now c.args.n c.args.c c.args.v = c.requires c.if-c-lt1.false in (
+    let A : NextArgs c.args.nums.now c.args.n c.args.c c.args.v = c.requires (omega (arith, c.if-c-lt1.false)) in (
       A.room,
       omega (arith, A.most, mul-le-mul_right (c.args.n * 4) A.few),
       omega (arith, A.at),
@@ -26,10 +26,10 @@ fits c =
 returns : tie.Need-returns-then-c-lt1
 returns c =
     let g = c.args in
-    sym (colour-none g.nums.now g.n g.c g.v g.lands c.if-c-lt1.true)
+    sym (colour-none g.nums.now g.n g.c g.v g.lands (omega (arith, c.if-c-lt1.true)))
 
 next-row-requires : tie.Need-next_row-row-requires
-next-row-requires c κs = c.requires c.if-c-lt1.false
+next-row-requires c κs = c.requires (omega (arith, c.if-c-lt1.false))
 
 mul-put-row : tie.Need-overflow_mul-n
 mul-put-row c = omega (arith, fits c)
@@ -51,7 +51,7 @@ returns-2 c =
     let g = c.args in
     c.put_row.ensures
     ∙ ap (λ (x : Row). put_row g.nums.now (g.c * (g.n * 4) + g.v * 4) x g.lands) c.next_row-row.ensures
-    ∙ sym (colour-put g.nums.now g.n g.c g.v g.lands c.if-c-lt1.false)
+    ∙ sym (colour-put g.nums.now g.n g.c g.v g.lands (omega (arith, c.if-c-lt1.false)))
 
 pub put_colour_spec : {M : Type 1} → statement M
 put_colour_spec =
