@@ -3,8 +3,9 @@
 --     node_map-near, -far   a node's map by its test
 --     node_map-is           where the maps above a node are the automaton's, what follows from them is its map
 --     node-args            what the node's iteration reads is inside
+--     map-above            what is known from a node on, at the iteration of the node before it
 --     map-iteration, map-root   the iterations
-use Prim.Native.Nat.{ℕ, ◌+◌, ◌*◌, ◌≤◌, ◌<◌}
+use Prim.Native.Nat.{ℕ, ◌+◌, ◌-◌, ◌*◌, ◌≤◌, ◌<◌}
 use mathlib.Core.Path.{◌≡◌, sym, ap, ap₂, ◌∙◌}
 use mathlib.Core.List.{List}
 use native.Mathlib.Decide.{ℕ_discrete}
@@ -149,6 +150,11 @@ module _ (ls node_table st : List ℕ) (s k n m : ℕ) (A : BranchArgs ls node_t
               (map_below B t ls node_table st s k n L A.steps_below u q l) (A.labels_below v) A.steps_room);
         };
       }
+
+  -- what is known from node v on, at the iteration of the node before it
+  pub map-above : (v : ℕ) (b₀ b : List ℕ) → 0 < v → Mapped ls node_table st s k n v b₀ b
+      → Mapped ls node_table st s k n (v - 1 + 1) b₀ b
+  map-above v b₀ b h S = let e : v - 1 + 1 ≡ v = omega arith in rw e S
 
   pub map-args : (v : ℕ) (b₀ b : List ℕ) → Mapped ls node_table st s k n (v + 1) b₀ b → v + 1 < n → state_table_length n s ≤ length b
       → NodeArgs ls node_table st s k b v

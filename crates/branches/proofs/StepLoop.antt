@@ -5,7 +5,8 @@
 --     step_fits, step_is, step-iteration        a node's iteration: its reads are inside their lists, and its state is
 --         the automaton's
 --     root-inside, root_is, root-iteration      the root's iteration
-use Prim.Native.Nat.{ℕ, ◌+◌, ◌*◌, ◌≤◌, ◌<◌}
+--     step-above, fits-above                    what is known from a node on, at the iteration of the node before it
+use Prim.Native.Nat.{ℕ, ◌+◌, ◌-◌, ◌*◌, ◌≤◌, ◌<◌}
 use mathlib.Core.Path.{◌≡◌, refl, sym, ap, ◌∙◌}
 use mathlib.Core.List.{List}
 use native.Mathlib.Decide.{ℕ_discrete}
@@ -116,6 +117,16 @@ module _ (ls node_table st : List ℕ) (s k n m : ℕ) (A : BranchArgs ls node_t
             (omega (arith, L.states)) (A.labels_below v) A.steps_room;
         here = state_in s n v (length b) (omega arith) room;
       }
+
+  -- what is known from node v on, at the iteration of the node before it
+  pub step-above : (v : ℕ) (b₀ b : List ℕ) → 0 < v → Stepped ls node_table st s k n v b₀ b
+      → Stepped ls node_table st s k n (v - 1 + 1) b₀ b
+  step-above v b₀ b h S = let e : v - 1 + 1 ≡ v = omega arith in rw e S
+
+  pub fits-above : (v : ℕ) (b₀ b : List ℕ) → 0 < v → Stepped ls node_table st s k n v b₀ b → v < n
+      → state_table_length n s ≤ length b
+      → StepFits ls node_table st s k (v - 1) b
+  fits-above v b₀ b h S l room = step_fits (v - 1) b₀ b (step-above v b₀ b h S) (omega arith) room
 
   pub root-inside : (v : ℕ) → 0 * k + get_or ls v 0 < length st
   root-inside v = step-at s k (length st) 0 (get_or ls v 0) (omega (arith, A.steps_below 0)) (A.labels_below v)

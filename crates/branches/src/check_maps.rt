@@ -27,8 +27,7 @@ fn step_row_is(
     let near = p * (s + 1);
     let far = j * (s + 1);
     let mut same = true;
-    let mut q = 0;
-    while q < s {
+    for q in 0..s {
         let x = state_table[at + (1 + q)];
         let y = state_table[far + (1 + q)] as usize;
         let z = state_table[near + (1 + y)] as usize;
@@ -36,7 +35,6 @@ fn step_row_is(
         if x != next {
             same = false;
         }
-        q += 1;
     }
     same
 }
@@ -84,9 +82,7 @@ pub fn check_maps(
     if !root_row_is(state_table, s, root) {
         return false;
     }
-    let mut v = root;
-    while 0 < v {
-        v -= 1;
+    for v in (0..root).rev() {
         if !node_map_is(labels, node_table, steps, s, k, v, state_table) {
             return false;
         }

@@ -29,9 +29,7 @@ pub fn check_steps(
     if y != x {
         return false;
     }
-    let mut v = root;
-    while 0 < v {
-        v -= 1;
+    for v in (0..root).rev() {
         let p = node_table[v * NODE_COLUMNS] as usize;
         let q = state_table[p * w] as usize;
         let a = labels[v] as usize;

@@ -25,12 +25,10 @@ fn step_row(
     let at = v * (s + 1);
     let near = p * (s + 1);
     let far = j * (s + 1);
-    let mut q = 0;
-    while q < s {
+    for q in 0..s {
         let x = state_table[far + (1 + q)] as usize;
         let y = state_table[near + (1 + x)] as usize;
         state_table[at + (1 + q)] = steps[y * k + a];
-        q += 1;
     }
 }
 
@@ -106,9 +104,7 @@ pub fn fill_maps(
 {
     let root = n - 1;
     same_row(state_table, s, root);
-    let mut v = root;
-    while 0 < v {
-        v -= 1;
+    for v in (0..root).rev() {
         node_map(labels, node_table, steps, s, k, v, state_table);
     }
 }

@@ -25,9 +25,7 @@ pub fn fill_steps(
     let root = n - 1;
     let first = labels[root] as usize;
     state_table[root * w] = steps[START * k + first];
-    let mut v = root;
-    while 0 < v {
-        v -= 1;
+    for v in (0..root).rev() {
         let p = node_table[v * NODE_COLUMNS] as usize;
         let q = state_table[p * w] as usize;
         let a = labels[v] as usize;

@@ -2,26 +2,10 @@
 // number, 0 where it is accepted. The counts of the S states go to the caller's buffer. Outputs are written only on
 // success.
 //     whatif_count   how many choices end in each state
-ghost use Rattle.std.specs.Prelude.{◌≡◌};
-ghost use Rattle.list_laws.specs.Copying.{over_buffer, CopyArgs};
-ghost use Rattle.formats.specs.Limits.{state_limit};
 ghost use Rattle.capi.specs.choice_calls.CountExported.{CountExported};
 
 use choices::count::count;
 use formats::bytes::read32;
-use formats::limits::STATE_LIMIT;
-
-// The first n counts to the front of a buffer.
-fn copy_counts(a: [u64; STATE_LIMIT], n: usize, out: &mut [u64])
-    requires { CopyArgs state_limit a n out.old }
-    ensures { out.new ≡ over_buffer n a out.old }
-{
-    let mut i = 0;
-    while i < n {
-        out[i] = a[i];
-        i += 1;
-    }
-}
 
 // How many choices of labels for the nodes end in each state: the counts go to the front of `counts`, parts and links
 // to their output parameters.
@@ -48,8 +32,7 @@ pub fn whatif_count(
     if counts.len() < s {
         return 11;
     }
-    let told = reply.counts;
-    copy_counts(told, s, counts);
+    counts[..s].copy_from_slice(&reply.counts[..s]);
     *parts = reply.parts;
     *links = reply.links;
     0

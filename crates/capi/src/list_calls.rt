@@ -2,13 +2,10 @@
 // reply's number, 0 where it is accepted. The entries go to the caller's buffers. Outputs are written only on success.
 //     whatif_lay_over   one list laid over another
 ghost use Rattle.std.specs.Prelude.{◌≡◌};
-ghost use Rattle.formats.specs.Limits.{change_limit};
 ghost use Rattle.changes.specs.LayOver.{laying_number};
-ghost use Rattle.list_laws.specs.Copying.{over_buffer, CopyArgs};
 ghost use Rattle.capi.specs.list_calls.ListsExported.{LayExported};
 
 use changes::{Laying, lay_over};
-use formats::limits::CHANGE_LIMIT;
 
 // The number of a reply.
 fn laying_number(answer: Laying) -> u32
@@ -17,30 +14,6 @@ fn laying_number(answer: Laying) -> u32
     match answer {
         Laying::Laid => 0,
         Laying::Refused(n) => n as u32,
-    }
-}
-
-// The first n nodes to the front of a buffer.
-fn copy_nodes(a: [u16; CHANGE_LIMIT], n: usize, out: &mut [u16])
-    requires { CopyArgs change_limit a n out.old }
-    ensures { out.new ≡ over_buffer n a out.old }
-{
-    let mut i = 0;
-    while i < n {
-        out[i] = a[i];
-        i += 1;
-    }
-}
-
-// The first n labels to the front of a buffer.
-fn copy_labels(a: [u8; CHANGE_LIMIT], n: usize, out: &mut [u8])
-    requires { CopyArgs change_limit a n out.old }
-    ensures { out.new ≡ over_buffer n a out.old }
-{
-    let mut i = 0;
-    while i < n {
-        out[i] = a[i];
-        i += 1;
     }
 }
 
@@ -71,10 +44,8 @@ pub fn whatif_lay_over(
     if labels.len() < n {
         return 11;
     }
-    let laid_nodes = reply.nodes;
-    let laid_labels = reply.labels;
-    copy_nodes(laid_nodes, n, nodes);
-    copy_labels(laid_labels, n, labels);
+    nodes[..n].copy_from_slice(&reply.nodes[..n]);
+    labels[..n].copy_from_slice(&reply.labels[..n]);
     *count = n as u32;
     0
 }

@@ -8,7 +8,7 @@ use tables::answers::{Building, Checking};
 pub fn bit(b: bool) -> u32
     ensures { result ≡ bit_of b }
 {
-    if b { 1 } else { 0 }
+    u32::from(b)
 }
 
 // The number of a build's answer.

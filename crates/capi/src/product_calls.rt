@@ -52,10 +52,8 @@ fn put_lines(
     requires { LinesArgs kinds labels lefts rights n lines.old }
     ensures { lines.new ≡ written 0 (line_numbers kinds labels lefts rights n) lines.old }
 {
-    let mut i = 0;
-    while i < n {
+    for i in 0..n {
         put_line(lines, i * 4, kinds[i], labels[i], lefts[i], rights[i]);
-        i += 1;
     }
 }
 
@@ -63,7 +61,7 @@ fn put_lines(
 fn none_shown(n: usize) -> u32
     ensures { result ≡ cond (eqb n 0) 1 0 }
 {
-    if n == 0 { 1 } else { 0 }
+    u32::from(n == 0)
 }
 
 // Whether two tables agree goes to `agreed`; where they do not, the lines of a separating plan go to `lines` and their

@@ -108,13 +108,11 @@ fn next_running(records: &[u8], first: usize) -> usize
     ensures { result ≡ found (runs records.now) first }
 {
     let mut at = first;
-    let mut left = SCREENS;
-    while left > 0 {
+    for _ in 0..SCREENS {
         if records[RECORD_BYTES * at] == 2 {
             return at;
         }
         at = one_past(at);
-        left = left - 1;
     }
     SCREENS
 }

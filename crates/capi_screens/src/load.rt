@@ -29,13 +29,11 @@ fn any_busy(records: &[u8]) -> bool
     requires { length records.now ≡ run_length }
     ensures { result ≡ any_runs 8 (busy records.now) }
 {
-    let mut left = SCREENS;
-    while left > 0 {
-        let at = RECORD_BYTES * (left - 1);
+    for i in (0..SCREENS).rev() {
+        let at = RECORD_BYTES * i;
         if is_busy(&records[at..at + RECORD_BYTES]) {
             return true;
         }
-        left = left - 1;
     }
     false
 }
@@ -45,10 +43,8 @@ fn copy_first(records: &mut [u8])
     requires { length records.old ≡ run_length }
     ensures { records.new ≡ rows 8 (λ i. take record_length records.old) }
 {
-    let mut at = RECORD_BYTES;
-    while at < records.len() {
+    for at in RECORD_BYTES..records.len() {
         records[at] = records[at - RECORD_BYTES];
-        at += 1;
     }
 }
 

@@ -6,11 +6,11 @@
 --     holds-superseded     the nodes listed are those of the superseded form; holds-laid: those of both lists
 --     same_count           lists that name the same nodes have the same length after superseding
 --     superseded-passes, laid-passes   what passes 13 and 14 does so superseded, and laid one over the other
-use Prim.Native.Nat.{ℕ, zero, suc, ◌+◌, ◌≤◌, ◌<◌}
+use Prim.Native.Nat.{ℕ, ◌≤◌, ◌<◌}
 use mathlib.Core.Path.{◌≡◌, refl, sym, ap, ap₂, ◌∙◌}
-use mathlib.Core.Bool.{Bool, true, false, cond, ◌&&◌, ◌||◌}
-use mathlib.Core.List.{List, [], ◌∷◌, ◌++◌}
-use mathlib.Core.Option.{Option, none, some, or_else, Option-elim}
+use mathlib.Core.Bool.{Bool, true, cond, ◌&&◌, ◌||◌}
+use mathlib.Core.List.{List, [], ◌∷◌}
+use mathlib.Core.Option.{Option, none, some, or_else}
 use native.Mathlib.Decide.{ℕ_discrete}
 use native.Mathlib.Omega.{arith}
 use lib.Dec.{ltb, eqb}
@@ -23,7 +23,7 @@ use Rattle.list_laws.specs.Tests.{all_below, holds}
 use Rattle.list_laws.proofs.BoolLaws.{and_both, and_left, and_right}
 use Rattle.formats.specs.Checks.{first_no, list_checks}
 use Rattle.formats.proofs.InputLaws.{ListPasses, list-passes, passes-list}
-use Rattle.changes.specs.Entries.{Entry, entry, entries, nodes_listed, labels_listed, last_label, put, put_all, superseded, laid_over}
+use Rattle.changes.specs.Entries.{Entry, entries, nodes_listed, labels_listed, last_label, put, put_all, superseded, laid_over}
 use Rattle.changes.proofs.EntryLaws.{entries-listed, nodes-entries, labels-entries, length-entries, length-nodes, length-labels}
 use Rattle.changes.proofs.EntryLaws.{listed-holds, is_some}
 use Rattle.changes.proofs.RisingLaws.{Place, later, same, sooner, place, put-later, put_same, put-here, rising-fewer, superseded-most}

@@ -6,7 +6,7 @@
 --     differing-listed    what is left was listed
 --     differing-same, differing-superseded   only last labels count
 --     differing-below, differing-most        what is left passes 13 and is no longer than the list
-use Prim.Native.Nat.{ℕ, zero, suc, ◌≤◌, ◌<◌}
+use Prim.Native.Nat.{ℕ, ◌≤◌, ◌<◌}
 use mathlib.Core.Path.{◌≡◌, refl, sym, ap, ap₂, ◌∙◌}
 use mathlib.Core.Bool.{Bool, true, false, cond, not, ◌&&◌, ◌||◌}
 use mathlib.Core.List.{List, [], ◌∷◌}

@@ -6,8 +6,8 @@
 --     last_label-append           the last entry of two lists, one behind the other: that of the second, else that of the first
 --     last_label-hit, last_label-miss   the first entry of a list
 --     listed-holds               a node is listed exactly where it has a last label
-use Prim.Native.Nat.{ℕ, zero, suc, ◌<◌}
-use mathlib.Core.Path.{◌≡◌, refl, sym, ap, ap₂, ◌∙◌}
+use Prim.Native.Nat.{ℕ, suc}
+use mathlib.Core.Path.{◌≡◌, refl, sym, ap, ◌∙◌}
 use mathlib.Core.Bool.{Bool, true, false, cond, ◌||◌}
 use mathlib.Core.List.{List, [], ◌∷◌, ◌++◌}
 use mathlib.Core.Option.{Option, none, some, or_else}
@@ -16,7 +16,7 @@ use lib.Dec.{eqb}
 use lib.ListN.{length}
 use borrow.Author.Tests.{eq-eqb, ne_eqb}
 use Rattle.list_laws.specs.Tests.{holds}
-use Rattle.changes.specs.Entries.{Entry, entry, entries, nodes_listed, labels_listed, last_label}
+use Rattle.changes.specs.Entries.{Entry, entries, nodes_listed, labels_listed, last_label}
 
 -- ---- the two lists of a list of entries
 

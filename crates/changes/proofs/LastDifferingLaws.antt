@@ -6,7 +6,7 @@
 --     KeepLoop, keep-start, keep-again, keep-done   the loop over the list
 --     kept-all, none_done, all_done   what is returned
 --     left-wide, left-taken   what a caller takes of it
-use Prim.Native.Nat.{ℕ, zero, suc, ◌+◌, ◌-◌, ◌≤◌, ◌<◌}
+use Prim.Native.Nat.{ℕ, suc, ◌+◌, ◌-◌, ◌≤◌, ◌<◌}
 use mathlib.Core.Path.{◌≡◌, refl, sym, ap, ap₂, ◌∙◌, subst}
 use mathlib.Core.Bool.{Bool, true, false, cond, not, ◌&&◌, ◌||◌}
 use mathlib.Core.List.{List, [], ◌∷◌, ◌++◌, append_assoc, append-nil}
@@ -21,7 +21,7 @@ use borrow.Author.Tests.{eq-eqb, ne_eqb, eqb-true, leb-true}
 use Rattle.list_laws.specs.Tests.{all_below, holds}
 use Rattle.list_laws.proofs.BoolLaws.{and_both, and_left, and_right, or-first, true-false}
 use Rattle.formats.specs.inner.InnerChecks.{lists_fit}
-use Rattle.changes.specs.Entries.{Entry, entry, entries, nodes_listed, last_label}
+use Rattle.changes.specs.Entries.{entry, entries, last_label}
 use Rattle.changes.specs.LayOver.{padded}
 use Rattle.changes.specs.Differing.{differing}
 use Rattle.changes.specs.declared.differing.LeftNodes.{LeftNodes}

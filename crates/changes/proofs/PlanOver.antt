@@ -3,9 +3,9 @@
 --     plan-over      changing a plan by one list and then by another is changing it by the second laid over the first
 --     plan-passes    the changed plan passes 2 to 10 where the plan does and the list passes 12 to 14
 --     laid-list      of lists that pass 12 to 14 and meet no 22 the laid list passes 12 to 14
-use Prim.Native.Nat.{ℕ, zero, suc, ◌+◌, ◌*◌, ◌≤◌, ◌<◌}
-use mathlib.Core.Path.{◌≡◌, refl, sym, ap, ap₂, ◌∙◌, subst}
-use mathlib.Core.Bool.{Bool, true, ◌&&◌}
+use Prim.Native.Nat.{ℕ, zero, suc, ◌+◌, ◌≤◌, ◌<◌}
+use mathlib.Core.Path.{◌≡◌, refl, sym, ap, ap₂, ◌∙◌}
+use mathlib.Core.Bool.{true}
 use mathlib.Core.List.{List, [], ◌∷◌, ◌++◌}
 use native.Mathlib.Omega.{arith}
 use lib.Dec.{ltb}
@@ -23,7 +23,7 @@ use Rattle.formats.specs.Checks.{first_no, list_checks, rule_table_checks}
 use Rattle.formats.proofs.PlanLaws.{length-labels_within, length-kinds_in}
 use Rattle.formats.specs.Passing.{PlanPasses}
 use Rattle.formats.proofs.InputLaws.{ListPasses, list-passes, passes-list, rule-table-passes, passes-rule-table}
-use Rattle.changes.specs.Entries.{Entry, entries, nodes_listed, labels_listed, laid_over}
+use Rattle.changes.specs.Entries.{entries, nodes_listed, labels_listed, laid_over}
 use Rattle.changes.specs.ChangedPlan.{changed_plan}
 use Rattle.changes.proofs.EntryLaws.{nodes-entries, labels-entries, length-nodes, length-labels}
 use Rattle.changes.proofs.ChangedLaws.{changed-over, nodes-pass, labels-pass, laid-passes}

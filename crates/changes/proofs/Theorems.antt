@@ -4,9 +4,9 @@
 --     lay-empty, lay-self     the empty list on either side, and a list over itself: the superseded form, and no 22
 --     lay-swap                lists that share no node may be swapped, refused or not
 -- The same of lists of entries, with no number, is in LaidLaws: over-assoc, over-empty, over-self, over-swap.
-use Prim.Native.Nat.{ℕ, suc, ◌+◌, ◌≤◌, ◌<◌}
-use mathlib.Core.Path.{◌≡◌, refl, sym, ap, ap₂, ◌∙◌, subst}
-use mathlib.Core.Bool.{Bool, true, false, cond, ◌&&◌}
+use Prim.Native.Nat.{ℕ, ◌≤◌}
+use mathlib.Core.Path.{◌≡◌, refl, sym, ap, ◌∙◌, subst}
+use mathlib.Core.Bool.{Bool, true, false}
 use mathlib.Core.List.{List, [], ◌∷◌}
 use mathlib.Core.Logic.{◌↔◌}
 use native.Mathlib.Omega.{arith}

@@ -44,10 +44,8 @@ fn put_places(nodes: &[u16], last: &mut [u8; 256])
     requires { (length nodes.now ≤ change_limit) × (length last.old ≡ 256) }
     ensures { LastPlaces (length nodes.now) nodes.now last.new }
 {
-    let mut i = 0;
-    while i < nodes.len() {
-        last[(nodes[i] % 256) as usize] = i as u8;
-        i += 1;
+    for (i, v) in nodes.iter().enumerate() {
+        last[(*v % 256) as usize] = i as u8;
     }
 }
 
@@ -105,10 +103,8 @@ pub fn differing(labels: &[u8], nodes: &[u16], changes: &[u8]) -> LeftNodes
     put_places(nodes, &mut last);
     let mut left = [0u16; CHANGE_LIMIT];
     let mut count = 0;
-    let mut i = 0;
-    while i < nodes.len() {
+    for i in 0..nodes.len() {
         count = keep(&mut left, count, labels, nodes, changes, &last, i);
-        i += 1;
     }
     LeftNodes {
         count: count,

@@ -1,6 +1,6 @@
 -- What part_row and next_part need and promise.
 --     row-needs, by-open                   one part, by whether its root is listed
---     row-args, next-lost, put-args, next-done
+--     row-args, put-args, next-done
 use Prim.Native.Nat.{ℕ, ◌*◌}
 use mathlib.Core.Path.{◌≡◌, refl, sym, ap, ◌∙◌, subst}
 use mathlib.Core.Bool.{Bool, true, false}
@@ -62,15 +62,6 @@ module _ (n s k : ℕ) (ls ks lv inn node_table state_table vs es b : List ℕ) 
   put-args o f = record { few = omega (arith, A.few); room = A.room; sixteen = f }
 
   module _ (x : Carried) (o : List ℕ) (P : RowCounted X vs es b v x o) where
-    pub next-lost : x.ok ≡ false → NextCounted X vs es b v (record { ok = false; links = 0 }) b
-    next-lost f = record {
-      ok = sym f ∙ P.ok;
-      links = λ q. no-yes _ q;
-      few = λ q. no-yes _ q;
-      same = refl;
-      rows = λ q. no-yes _ q;
-    }
-
     pub row-sixteen : x.ok ≡ true → length o ≡ 16
     unfolding row_on
     row-sixteen f = ap length (P.row f) ∙ length-tabulate 16 _

@@ -1,6 +1,5 @@
--- What places_below and part_counts promise, at each way out.
---     leaf-places, first-places, outside-places, inner-places    the children and the roots below them
---     no_label, no-places, placed-args, placed-done              the part
+-- What part_counts promises, at each way out.
+--     no_label, no-places, placed-args, placed-done
 use Prim.Native.Nat.{ℕ, ◌+◌, ◌-◌, ◌*◌, ◌≤◌, ◌<◌}
 use mathlib.Core.Path.{◌≡◌, sym, ap, ◌∙◌}
 use mathlib.Core.Bool.{Bool, true, false, cond}
@@ -9,12 +8,11 @@ use native.Mathlib.Decide.{ℕ_discrete}
 use native.Mathlib.Omega.{arith}
 use lib.Dec.{leb, ltb}
 use lib.ListN.{length, get_or}
-use borrow.Author.Tests.{lt-ltb, le-ltb, le-leb, lt-leb, eq-eqb, ne_eqb, ltb-true}
-use Rattle.list_laws.proofs.BoolLaws.{and_both, and_left, and-no-left, and-no-right}
+use borrow.Author.Tests.{le-leb, lt-leb, eq-eqb, ne_eqb, ltb-true}
+use Rattle.list_laws.proofs.BoolLaws.{and_left, and-no-left}
 use Rattle.list_laws.proofs.RowLaws.{tabulate-of}
 use Rattle.tables.specs.node_tables.Cells.{depth_cell, size_cell}
 use Rattle.tables.specs.Climbs.{View}
-use Rattle.questions.specs.inner.Scans.{last_in}
 use Rattle.questions.specs.inner.PartArgs.{part_view, path_of}
 use Rattle.questions.proofs.ScanLaws.{last-bound, last-covers}
 use Rattle.choices.specs.node_counts.Capped.{capped}
@@ -26,58 +24,11 @@ use Rattle.choices.specs.question_counts.PartOn.{first_label, end_label, left_on
 use Rattle.choices.specs.question_counts.PartOn.{part_ok_on, part_links_on, part_count_on}
 use Rattle.choices.specs.question_counts.PartsOn.{row_on}
 use Rattle.choices.specs.declared.part.Places.{Places}
-use Rattle.choices.specs.inner.Part.{no_places, children_in, PlacesAre, PartNeeds, PartCounted}
+use Rattle.choices.specs.inner.Part.{PlacesAre, PartNeeds, PartCounted}
 use Rattle.choices.proofs.SameCounts.{root-ok-same, root-links-same, root-count-same}
 
 no-yes : (A : Type 0) → false ≡ true → A
 no-yes A e = absurd (let z : ◌≡◌ {A = ℕ} 0 1 = cc in omega arith)
-
--- ---- the children, and the last roots below them
-
-module _ (ks node_table es : List ℕ) (v : ℕ) where
-  lost-places : (get_or ks v 0 ≡ 0 → ⊥) → children_in node_table v ≡ false → PlacesAre ks node_table es v (no_places false)
-  lost-places y c = record {
-    no_leaf = λ _. y;
-    no_children = λ _. c;
-    children = λ h. no-yes _ h;
-    child = λ h. no-yes _ h;
-    left = λ h. no-yes _ h;
-    right = λ h. no-yes _ h;
-  }
-
-  pub leaf-places : get_or ks v 0 ≡ 0 → PlacesAre ks node_table es v (no_places true)
-  leaf-places z = record {
-    no_leaf = λ h. no-yes _ (sym h);
-    no_children = λ h. no-yes _ (sym h);
-    children = λ _ y. absurd (y z);
-    child = λ _ y. absurd (y z);
-    left = λ _ y. absurd (y z);
-    right = λ _ y. absurd (y z);
-  }
-
-  module _ (y : get_or ks v 0 ≡ 0 → ⊥) where
-    pub first-places : v ≡ 0 → PlacesAre ks node_table es v (no_places false)
-    first-places h = lost-places y (and-no-left (ltb 0 v) _ (le-ltb 0 v (omega arith)))
-
-    module _ (u : v ≡ 0 → ⊥) (z : ℕ) (is-z : z ≡ size_cell node_table (v - 1)) where
-      pub outside-places : v - 1 < z → PlacesAre ks node_table es v (no_places false)
-      outside-places h =
-          lost-places y (and-no-right (ltb 0 v) _ (lt-leb (size_cell node_table (v - 1)) (v - 1) (omega arith)))
-
-      pub inner-places : z ≤ v - 1 → (i j : ℕ) → i ≡ last_in (v - 1 - z) (size_cell node_table (v - 1 - z)) es
-          → j ≡ last_in (v - 1) (size_cell node_table (v - 1)) es
-          → PlacesAre ks node_table es v (record { ok = true; child = v - 1 - z; left = i; right = j })
-      inner-places h i j is-i is-j = record {
-        no_leaf = λ g. no-yes _ (sym g);
-        no_children = λ g. no-yes _ (sym g);
-        children = λ _ _. and_both (ltb 0 v) (leb (size_cell node_table (v - 1)) (v - 1)) (lt-ltb 0 v (omega arith))
-            (le-leb (size_cell node_table (v - 1)) (v - 1) (omega arith));
-        child = λ _ _. ap (λ (x : ℕ). v - 1 - x) is-z;
-        left = λ _ _. is-i;
-        right = λ _ _. is-j;
-      }
-
--- ---- the part
 
 in_order : (free : Bool) (k a : ℕ) → cond free 0 a ≤ cond free k (a + 1)
 in_order true k a = omega arith

@@ -14,11 +14,8 @@ fn put_row(table: &mut [u64], i: usize, row: &[u64; STATE_LIMIT])
     requires { PutArgs table.old i row.now }
     ensures { RowPut table.old i row.now table.new }
 {
-    let mut c: usize = 0;
-    while c < STATE_LIMIT {
-        table[i * STATE_LIMIT + c] = row[c];
-        c += 1;
-    }
+    let at = i * STATE_LIMIT;
+    table[at..at + STATE_LIMIT].copy_from_slice(row);
 }
 
 // The counts of root v, from those of the earlier roots at the beginning of `table`.
@@ -140,8 +137,7 @@ pub fn all_parts(
         roots.now result table.new }
 {
     let mut links: u32 = 0;
-    let mut i: usize = 0;
-    while i < roots.len() {
+    for (i, v) in roots.iter().enumerate() {
         let x = next_part(
             labels,
             kinds,
@@ -154,7 +150,7 @@ pub fn all_parts(
             k,
             nodes,
             &roots[..i],
-            roots[i] as usize,
+            *v as usize,
             table,
         );
         if !x.ok {
@@ -164,7 +160,6 @@ pub fn all_parts(
             };
         }
         links = links + x.links;
-        i += 1;
     }
     Carried { ok: true, links }
 }

@@ -2,13 +2,11 @@
 --     four-pass, pass-four        where no number is given all four pass, and back
 --     four-1 .. four-4            the first no of four
 --     three-pass, pass-three, three-1 .. three-3    the same of three
-use Prim.Native.Nat.{ℕ, suc, ◌+◌, ◌-◌, ◌≤◌}
-use mathlib.Core.Path.{◌≡◌, refl, ap}
+use Prim.Native.Nat.{ℕ, suc}
+use mathlib.Core.Path.{◌≡◌, refl}
 use mathlib.Core.Bool.{Bool, true, false}
 use mathlib.Core.List.{List, [], ◌∷◌}
 use native.Mathlib.Omega.{arith}
-use lib.ListN.{length, take, drop, length-take, length-drop}
-use lib.Seq.{take_all}
 use Rattle.formats.specs.Checks.{Check, check, first_no}
 
 -- ---- four checks in a row, with numbers above 0

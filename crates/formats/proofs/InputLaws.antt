@@ -6,7 +6,7 @@
 --     label_below                 every label of the plan is below K, at every index: past the end it is 0
 --     build-table, branch-build-table, fresh-run-table
 --                                 where 2 to 11, or 2 to 14, pass, 2 to 10 do
-use Prim.Native.Nat.{ℕ, ◌+◌, ◌≤◌, ◌<◌}
+use Prim.Native.Nat.{ℕ, ◌≤◌, ◌<◌}
 use mathlib.Core.Path.{◌≡◌, ◌∙◌}
 use mathlib.Core.Bool.{true}
 use mathlib.Core.List.{List, [], ◌∷◌, ◌++◌}

@@ -49,10 +49,7 @@ pub fn sums_so_far(word: usize) -> usize
 fn few(trees: usize) -> usize
     ensures { result ≡ few_of trees }
 {
-    if trees < 16 {
-        return trees;
-    }
-    16
+    trees.min(16)
 }
 
 // Whether two trees wait at each inner node of the eight, where `trees` waited before them.

@@ -22,10 +22,8 @@ pub fn nodes_below(nodes: &[u16], n: usize) -> bool
     ensures { result ≡ all_below n nodes.now }
 {
     let mut ok = true;
-    let mut i = 0;
-    while i < nodes.len() {
-        ok = ok & ((nodes[i] as usize) < n);
-        i += 1;
+    for v in nodes {
+        ok = ok & ((*v as usize) < n);
     }
     ok
 }
@@ -45,10 +43,8 @@ pub fn is_listed(v: u16, nodes: &[u16]) -> bool
     ensures { result ≡ holds v nodes.now }
 {
     let mut found = false;
-    let mut i = 0;
-    while i < nodes.len() {
-        found = found | (v == nodes[i]);
-        i += 1;
+    for u in nodes {
+        found = found | (v == *u);
     }
     found
 }
@@ -57,12 +53,10 @@ pub fn is_listed(v: u16, nodes: &[u16]) -> bool
 pub fn all_distinct(nodes: &[u16]) -> bool
     ensures { result ≡ distinct nodes.now }
 {
-    let mut i = 0;
-    while i < nodes.len() {
-        if is_listed(nodes[i], &nodes[i + 1..]) {
+    for (i, v) in nodes.iter().enumerate() {
+        if is_listed(*v, &nodes[i + 1..]) {
             return false;
         }
-        i += 1;
     }
     true
 }

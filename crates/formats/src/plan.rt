@@ -18,12 +18,10 @@ fn rest_in_postorder(kinds: &[u8], from: usize, waiting: usize) -> bool
     let none = kinds.len();
     let mut trees = none + waiting;
     let mut ok = true;
-    let mut i = from;
-    while i < kinds.len() {
-        let k = kinds[i] as usize;
+    for kind in &kinds[from..] {
+        let k = *kind as usize;
         trees = trees + 1 - 2 * (k % 2);
         ok = ok & (k < 2) & (none < trees);
-        i += 1;
     }
     ok & (trees == none + 1)
 }
@@ -32,11 +30,9 @@ fn rest_in_postorder(kinds: &[u8], from: usize, waiting: usize) -> bool
 pub fn is_postorder(kinds: &[u8]) -> bool
     ensures { result ≡ is_postorder kinds.now }
 {
-    let whole = kinds.len() - kinds.len() % 8;
     let mut waiting = 0;
-    let mut i = 0;
-    while i < whole {
-        let word = eight_kinds(kinds, i);
+    for block in 0..kinds.len() / 8 {
+        let word = eight_kinds(kinds, 8 * block);
         if !are_kinds(word) {
             return false;
         }
@@ -45,9 +41,8 @@ pub fn is_postorder(kinds: &[u8]) -> bool
             return false;
         }
         waiting = waiting + 8 - (twice >> 56);
-        i += 8;
     }
-    rest_in_postorder(kinds, i, waiting)
+    rest_in_postorder(kinds, kinds.len() - kinds.len() % 8, waiting)
 }
 
 // Checks 2 to 5. The kinds are the rest of the plan, where its length is exact.

@@ -13,10 +13,8 @@ pub fn all_below(xs: &[u8], bound: u8) -> bool
     ensures { result ≡ all_below bound xs.now }
 {
     let mut ok = true;
-    let mut i = 0;
-    while i < xs.len() {
-        ok = ok & (xs[i] < bound);
-        i += 1;
+    for x in xs {
+        ok = ok & (*x < bound);
     }
     ok
 }

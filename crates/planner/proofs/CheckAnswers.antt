@@ -3,16 +3,16 @@
 --     OutPasses, out-passes                    what is known where nothing fails
 --     home-19, home-21, home-good              going home
 use Prim.Native.Nat.{ℕ, ◌+◌, ◌*◌, ◌≤◌}
-use mathlib.Core.Path.{◌≡◌, sym, ap, ◌∙◌}
-use mathlib.Core.Bool.{Bool, true, false, ◌&&◌}
+use mathlib.Core.Path.{◌≡◌, ◌∙◌}
+use mathlib.Core.Bool.{true, false}
 use mathlib.Core.List.{List, [], ◌∷◌}
 use native.Mathlib.Omega.{arith}
-use lib.Dec.{eqb, leb}
+use lib.Dec.{leb}
 use borrow.Author.Tests.{leb-true}
 use Rattle.list_laws.specs.Tests.{all_below}
 use Rattle.list_laws.proofs.BoolLaws.{and_left, and_right}
 use Rattle.formats.specs.Plan.{plan_length, plan_tree}
-use Rattle.formats.specs.Checks.{Check, check, first_no, plan_checks}
+use Rattle.formats.specs.Checks.{check, first_no}
 use Rattle.formats.proofs.CheckLaws.{first_no-yes, first_no-no, first_no-head, first_no-tail, first_no-none}
 use Rattle.planner.specs.Siblings.{empty_label, count, unimage}
 use Rattle.planner.specs.File.{file_count, file_length, label_run, well_formed, out_room, out_checks, comes_from_file}

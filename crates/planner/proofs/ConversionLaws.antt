@@ -1,29 +1,29 @@
 -- S-2: out and home.
 --     out-goes-home    what goes out is our plan of an acceptable tree, and comes home as the file that it was
 --     home-exactly     a plan goes home exactly where it is the image of an acceptable tree
-use Prim.Native.Nat.{ℕ, ◌+◌, ◌*◌, ◌≤◌, ◌<◌}
-use mathlib.Core.Path.{◌≡◌, refl, sym, ap, ap₂, ◌∙◌, subst}
-use mathlib.Core.Bool.{Bool, true, false, ◌&&◌}
-use mathlib.Core.List.{List, [], ◌∷◌, ◌++◌}
+use Prim.Native.Nat.{ℕ, ◌+◌, ◌≤◌, ◌<◌}
+use mathlib.Core.Path.{◌≡◌, refl, sym, ap, ◌∙◌, subst}
+use mathlib.Core.Bool.{true, ◌&&◌}
+use mathlib.Core.List.{List, ◌++◌}
 use mathlib.Core.Logic.{◌↔◌}
 use native.Mathlib.Omega.{arith}
-use lib.Dec.{eqb, ltb, leb}
-use lib.ListN.{length, get_or, take, drop, length-take}
+use lib.Dec.{eqb, ltb}
+use lib.ListN.{take, drop, length-take}
 use lib.Seq.{get_or-take, get_or-drop}
-use borrow.Author.Tests.{eqb-true, eq-eqb, ltb-true, lt-ltb, leb-true}
+use borrow.Author.Tests.{eqb-true, eq-eqb}
 use Rattle.trees.specs.Tree.{Tree, leaf, node, size}
 use Rattle.trees.proofs.MoveLaws.{both}
 use Rattle.list_laws.specs.Tests.{all_below}
-use Rattle.formats.specs.Plan.{node_count, plan_tree, plan_bytes}
+use Rattle.formats.specs.Plan.{plan_tree, plan_bytes}
 use Rattle.formats.specs.Checks.{first_no, plan_checks}
-use Rattle.list_laws.proofs.BoolLaws.{and_both, and_left, and_right}
+use Rattle.list_laws.proofs.BoolLaws.{and_both}
 use Rattle.list_laws.proofs.TestLaws.{all_below-all, at-all_below}
 use Rattle.formats.proofs.PlanLaws.{plan-passes, size-plan_tree}
 use Rattle.formats.specs.Passing.{PlanPasses}
 use Rattle.formats.proofs.PlanTrees.{plan-tree, tree-passes, tree-plan}
-use Rattle.planner.specs.Siblings.{Siblings, empty, sibling, count, width, pre_labels, pre_counts, image, unimage}
+use Rattle.planner.specs.Siblings.{Siblings, empty, sibling, width, pre_labels, image, unimage}
 use Rattle.planner.specs.Siblings.{empty_label}
-use Rattle.planner.specs.File.{file_count, label_run, count_run, file_tree, file_bytes, image_labels, is_image}
+use Rattle.planner.specs.File.{file_count, label_run, file_tree, file_bytes, image_labels, is_image}
 use Rattle.planner.specs.Conversion.{plan_of, file_of, Acceptable, GoesHome}
 use Rattle.planner.proofs.PreorderLaws.{all_below-append}
 use Rattle.planner.proofs.FileTrees.{WellFormed, Decoded, file-tree, tree-file}

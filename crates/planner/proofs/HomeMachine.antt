@@ -3,13 +3,13 @@
 --     homeward-rest        later siblings are written, and the node above gets the count of its list
 --     homeward-children    a children's list is written, and then its node with all that this completes
 --     homeward-tree        so a whole image gives its file
-use Prim.Native.Nat.{ℕ, zero, suc, ◌+◌, ◌-◌, ◌≤◌, ◌<◌}
-use mathlib.Core.Path.{◌≡◌, refl, sym, ap, ap₂, ◌∙◌, subst}
-use mathlib.Core.Bool.{Bool, true, false, not}
+use Prim.Native.Nat.{ℕ, suc, ◌+◌}
+use mathlib.Core.Path.{◌≡◌, refl, sym, ap, ap₂, ◌∙◌}
+use mathlib.Core.Bool.{Bool, true, false}
 use mathlib.Core.List.{List, [], ◌∷◌, ◌++◌, append_assoc, append-nil}
 use mathlib.Core.Option.{Option, none, some}
 use native.Mathlib.Omega.{arith}
-use Rattle.planner.specs.Siblings.{Siblings, empty, sibling, count, width, pre_labels, pre_counts}
+use Rattle.planner.specs.Siblings.{Siblings, empty, sibling, width, pre_labels, pre_counts}
 use Rattle.planner.specs.inner.HomeMachine.{Waiting, waiting, HomeState, home_state, released, with_count, homeward}
 
 abbrev pub from_right : Siblings → List (Option ℕ)

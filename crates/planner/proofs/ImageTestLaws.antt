@@ -3,21 +3,21 @@
 --     runs-counts       no list of siblings has m or more
 --     top-width        one tree at the top
 --     tests-image      so together they are is_image
-use Prim.Native.Nat.{ℕ, zero, suc, ◌+◌, ◌-◌, ◌≤◌, ◌<◌}
-use mathlib.Core.Path.{◌≡◌, refl, sym, ap, ap₂, ◌∙◌, subst}
+use Prim.Native.Nat.{ℕ, suc, ◌+◌, ◌-◌, ◌≤◌, ◌<◌}
+use mathlib.Core.Path.{◌≡◌, refl, sym, ap, ap₂, ◌∙◌}
 use mathlib.Core.Bool.{Bool, true, false, ◌&&◌}
 use mathlib.Core.List.{List, [], ◌∷◌, ◌++◌, append_assoc, append-nil}
 use native.Mathlib.Omega.{arith}
 use lib.Dec.{eqb, leb, ltb}
 use lib.ListN.{length, get_or, length-append, get_or-append}
 use lib.Seq.{get_or-append-add, get_or-append_seam}
-use borrow.Author.Tests.{eqb-true, ltb-true, lt-ltb, le-leb, eq-eqb, ne_eqb}
-use Rattle.trees.specs.Tree.{Tree, leaf, node, size, kinds_of, labels_of}
+use borrow.Author.Tests.{eqb-true, ltb-true, lt-ltb, le-leb, eq-eqb}
+use Rattle.trees.specs.Tree.{Tree, leaf, node, kinds_of, labels_of}
 use Rattle.trees.proofs.NodeLaws.{length-kinds, length-labels, size-pos}
 use Rattle.list_laws.proofs.BoolLaws.{and_both, and_left, and_right}
 use Rattle.list_laws.proofs.BoolLaws.{and_assoc, and_yes}
 use Rattle.list_laws.specs.Tests.{all_below}
-use Rattle.planner.specs.Siblings.{Siblings, empty, sibling, count, width, pre_counts, image, unimage, empty_label}
+use Rattle.planner.specs.Siblings.{Siblings, empty, sibling, width, pre_counts, image, unimage, empty_label}
 use Rattle.planner.specs.File.{image_labels, is_image}
 use Rattle.planner.specs.inner.ImageTests.{label_fits, labels_fit, all_runs_fit, one_top}
 use Rattle.planner.proofs.PreorderLaws.{all_below-append}

@@ -3,20 +3,18 @@
 --     pending-siblings    the counts of a list of siblings are read as that list
 --     siblings-of         counts that make one tree are a tree's counts; siblings_of gives it
 --     siblings-unique     and no other
-use Prim.Native.Nat.{ℕ, zero, suc, ◌+◌, ◌≤◌, ◌<◌}
-use mathlib.Core.Path.{◌≡◌, refl, sym, ap, ap₂, ◌∙◌, subst}
-use mathlib.Core.Bool.{Bool, true, false, ◌&&◌}
+use Prim.Native.Nat.{ℕ, zero, suc, ◌+◌, ◌≤◌}
+use mathlib.Core.Path.{◌≡◌, refl, sym, ap, ap₂, ◌∙◌}
+use mathlib.Core.Bool.{Bool, ◌&&◌}
 use mathlib.Core.List.{List, [], ◌∷◌, ◌++◌, append_assoc, append-nil}
-use mathlib.Core.Option.{Option, none, some, some-injective}
+use mathlib.Core.Option.{some, some-injective}
 use native.Mathlib.Omega.{arith}
-use native.Mathlib.Numerals.{add-one}
-use lib.Dec.{eqb, ltb}
+use lib.Dec.{ltb}
 use lib.ListN.{length, length-append}
-use borrow.Author.Tests.{eqb-true}
 use Rattle.list_laws.specs.Tests.{all_below}
 use Rattle.list_laws.proofs.BoolLaws.{and_assoc}
 use Rattle.planner.specs.Siblings.{Siblings, empty, sibling, count, width, pre_labels, pre_counts}
-use Rattle.planner.specs.File.{pending, nothing_left, is_preorder, front, rest, siblings_of}
+use Rattle.planner.specs.File.{pending, front, rest, siblings_of}
 
 pub all_below-append : (n : ℕ) (l k : List ℕ) → all_below n (l ++ k) ≡ (all_below n l && all_below n k)
 unfolding all_below

@@ -6,9 +6,9 @@
 --     plan-passes-2-to-5    what goes out is a plan
 --     place-of-node         the place given for a node is where it is, with its label, as an inner node
 --     tests-are-image       check 19 going home, by tests of labels and kinds
-use Prim.Native.Nat.{ℕ, zero, suc, ◌+◌, ◌*◌, ◌-◌, ◌≤◌, ◌<◌}
+use Prim.Native.Nat.{ℕ, ◌+◌, ◌*◌, ◌-◌, ◌<◌}
 use mathlib.Core.Path.{◌≡◌, refl, sym, ap, ◌∙◌}
-use mathlib.Core.Bool.{Bool, true, false, ◌&&◌}
+use mathlib.Core.Bool.{Bool, true, false}
 use mathlib.Core.List.{List}
 use mathlib.Core.Logic.{◌↔◌}
 use mathlib.Core.Option.{none}
@@ -17,15 +17,15 @@ use lib.Dec.{eqb}
 use lib.ListN.{length, get_or}
 use borrow.Author.Tests.{eqb-true, eq-eqb}
 use Rattle.list_laws.specs.Tests.{all_below}
-use Rattle.list_laws.proofs.BoolLaws.{true-false, and_both, and_left, and_right}
-use Rattle.trees.specs.Tree.{Tree, size, label_at, kind_at, labels_of, kinds_of}
+use Rattle.list_laws.proofs.BoolLaws.{and_both, and_left, and_right}
+use Rattle.trees.specs.Tree.{Tree, label_at, kind_at, labels_of, kinds_of}
 use Rattle.formats.specs.Plan.{plan_length, plan_tree}
 use Rattle.formats.specs.Checks.{first_no, plan_checks}
 use Rattle.formats.proofs.PlanTrees.{length-plan_bytes}
-use Rattle.planner.specs.Siblings.{Siblings, count, pre_labels, image, items, item_label, item_kind, places}
+use Rattle.planner.specs.Siblings.{Siblings, pre_labels, image, items, item_label, item_kind, places}
 use Rattle.planner.specs.File.{file_count, label_run, file_tree, out_checks, is_image, comes_from_file}
 use Rattle.planner.specs.Conversion.{plan_of, places_of, file_of, Acceptable, GoesHome}
-use Rattle.planner.specs.inner.ImageTests.{labels_fit, all_runs_fit, one_top, passes_tests}
+use Rattle.planner.specs.inner.ImageTests.{labels_fit, one_top, passes_tests}
 use Rattle.planner.proofs.FileTrees.{Decoded, file-tree}
 use Rattle.planner.proofs.ImageLaws.{size-image, PlaceOf, place-item}
 use Rattle.planner.proofs.ItemLaws.{label-item, kind-item}

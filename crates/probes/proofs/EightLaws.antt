@@ -1,5 +1,5 @@
 -- Deals one after the other, and a life of eight screens from its calls' promises.
-use Prim.Native.Nat.{ℕ, suc, ◌-◌, ◌<◌, ◌≤◌}
+use Prim.Native.Nat.{ℕ, suc, ◌-◌, ◌≤◌}
 use mathlib.Core.Path.{◌≡◌, sym, ap, ap₂, ◌∙◌}
 use mathlib.Core.List.{List}
 use native.Mathlib.Omega.{arith}
@@ -37,21 +37,18 @@ module _ (a : DealAnswer) (n k : ℕ) where
 
 -- one deal more
 module _ (x : Inputs) (u : List Session) (at left : ℕ) where
-  module _ (o : DealtOn) (n : ℕ) (some : 0 < left) (D : ScreenDone u (deal at x) (deal_answer o.answer) o.all)
+  module _ (o : DealtOn) (n next : ℕ) (one_less : suc next ≡ left) (D : ScreenDone u (deal at x) (deal_answer o.answer) o.all)
       (e : n ≡ next_in (deal_answer o.answer) at) where
-    one_less : suc (left - 1) ≡ left
-    one_less = omega arith
-
     tried : n ≡ next_in (answer_all u (deal at x)) at
     tried = e ∙ ap (λ (a : ScreenAnswer). next_in a at) D.tells
 
-    pub dealt-once : dealt_all (left - 1) x n o.all ≡ dealt_all left x at u
+    pub dealt-once : dealt_all next x n o.all ≡ dealt_all left x at u
     unfolding dealt_all
-    dealt-once = ap₂ (dealt_all (left - 1) x) tried D.leaves ∙ ap (λ (i : ℕ). dealt_all i x at u) one_less
+    dealt-once = ap₂ (dealt_all next x) tried D.leaves ∙ ap (λ (i : ℕ). dealt_all i x at u) one_less
 
-    pub next-once : dealt_next (left - 1) x n o.all ≡ dealt_next left x at u
+    pub next-once : dealt_next next x n o.all ≡ dealt_next left x at u
     unfolding dealt_next
-    next-once = ap₂ (dealt_next (left - 1) x) tried D.leaves ∙ ap (λ (i : ℕ). dealt_next i x at u) one_less
+    next-once = ap₂ (dealt_next next x) tried D.leaves ∙ ap (λ (i : ℕ). dealt_next i x at u) one_less
 
   module _ (none : left ≤ 0) where
     zero_left : 0 ≡ left

@@ -1,5 +1,5 @@
 -- What an answer in a known case holds, a session that is advanced once more, and a question from its calls' promises.
-use Prim.Native.Nat.{ℕ, suc, ◌-◌, ◌<◌, ◌≤◌}
+use Prim.Native.Nat.{ℕ, suc, ◌-◌, ◌≤◌}
 use mathlib.Core.Path.{◌≡◌, sym, ap, ap₂, ◌∙◌, subst}
 use mathlib.Core.List.{List}
 use native.Mathlib.Omega.{arith}
@@ -57,11 +57,9 @@ unfolding read_in read_answer
 read_none a n e = sym (ap (λ (x : ReadAnswer). read_in (read_answer x)) e)
 
 module _ (x : Inputs) (u end : Session) (left : ℕ) (o : advanced left x u ≡ end) where
-  pub once_more : (r : Session) → 0 < left → r ≡ record_on u (advance x) → advanced (left - 1) x r ≡ end
+  pub once_more : (r : Session) (next : ℕ) → suc next ≡ left → r ≡ record_on u (advance x) → advanced next x r ≡ end
   unfolding advanced
-  once_more r h e =
-      let s : suc (left - 1) ≡ left = omega arith in
-      ap (advanced (left - 1) x) e ∙ (ap (λ (i : ℕ). advanced i x u) s ∙ o)
+  once_more r next s e = ap (advanced next x) e ∙ (ap (λ (i : ℕ). advanced i x u) s ∙ o)
 
   pub all_done : left ≤ 0 → u ≡ end
   unfolding advanced

@@ -142,13 +142,11 @@ fn deal_by(
 {
     let mut u = all;
     let mut at = first;
-    let mut left = count;
-    while left > 0 {
+    for _ in 0..count {
         let out = deal_on(u, at, plan, rules, node_table, state_table);
         let answer = out.answer;
         u = out.all;
         at = next_after(answer, at);
-        left -= 1;
     }
     Dealt { all: u, next: at }
 }

@@ -62,11 +62,9 @@ fn advance_by(
         ≡ advanced count (inputs_of plan.now rules.now node_table.now state_table.now) s }
 {
     let mut u = s;
-    let mut left = count;
-    while left > 0 {
+    for _ in 0..count {
         let out = advance_at(u, plan, rules, node_table, state_table);
         u = out.session;
-        left -= 1;
     }
     u
 }

@@ -42,39 +42,27 @@ fn refused(number: u8) -> Agreement
 }
 
 // The first n entries, then zeros.
-fn front(a: [u8; PAIR_LIMIT], n: usize) -> [u8; PAIR_LIMIT]
-    requires { FrontArgs a n }
-    ensures { Front n a result }
+fn front(a: &[u8; PAIR_LIMIT], n: usize) -> [u8; PAIR_LIMIT]
+    requires { FrontArgs a.now n }
+    ensures { Front n a.now result }
 {
     let mut r = [0u8; PAIR_LIMIT];
-    let mut i = 0;
-    while i < n {
-        r[i] = a[i];
-        i += 1;
-    }
+    r[..n].copy_from_slice(&a[..n]);
     r
 }
 
 // The first n lines that were found.
-fn cut(t: Search, s1: usize, s2: usize, n: usize) -> Agreement
-    requires { CutArgs s1 s2 t n }
-    ensures { result ≡ reply_of 0 (lines_to t n) }
+fn cut(t: &Search, s1: usize, s2: usize, n: usize) -> Agreement
+    requires { CutArgs s1 s2 t.now n }
+    ensures { result ≡ reply_of 0 (lines_to t.now n) }
 {
-    let found_kinds = t.kinds;
-    let found_labels = t.labels;
-    let found_lefts = t.lefts;
-    let found_rights = t.rights;
-    let kinds = front(found_kinds, n);
-    let labels = front(found_labels, n);
-    let lefts = front(found_lefts, n);
-    let rights = front(found_rights, n);
     Agreement {
         number: 0,
         count: n,
-        kinds: kinds,
-        labels: labels,
-        lefts: lefts,
-        rights: rights,
+        kinds: front(&t.kinds, n),
+        labels: front(&t.labels, n),
+        lefts: front(&t.lefts, n),
+        rights: front(&t.rights, n),
     }
 }
 
@@ -99,7 +87,7 @@ fn answered(first: &[u8], second: &[u8], s1: usize, s2: usize, k: usize) -> Agre
         l,
     );
     let n = first_differing(&first[m1..], &second[m2..], s2, t, 0);
-    cut(t, s1, s2, n)
+    cut(&t, s1, s2, n)
 }
 
 // Whether two rule tables agree: 6 to 9 for each in turn, then 23.

@@ -54,12 +54,10 @@ fn put_leaves(first: &[u8], second: &[u8], s2: usize, out: &mut [u8], at: usize)
         ≡ written at (tabulate (length first.now) (leaf_cell first.now second.now s2))
         out.old }
 {
-    let mut i = 0;
-    while i < first.len() {
+    for i in 0..first.len() {
         let x = first[i] as usize;
         let y = second[i] as usize;
         out[at + i] = (x * s2 + y) as u8;
-        i += 1;
     }
 }
 
@@ -70,11 +68,8 @@ fn put_run(second: &[u8], x: usize, out: &mut [u8], at: usize)
         ≡ written at (tabulate (length second.now) (λ q. x + get_or second.now q 0))
         out.old }
 {
-    let mut i = 0;
-    while i < second.len() {
-        let y = second[i] as usize;
-        out[at + i] = (x + y) as u8;
-        i += 1;
+    for (i, y) in second.iter().enumerate() {
+        out[at + i] = (x + *y as usize) as u8;
     }
 }
 
@@ -85,11 +80,8 @@ fn put_row(first: &[u8], second: &[u8], s2: usize, out: &mut [u8], at: usize)
         ≡ written at (tabulate (length first.now * s2) (row_cell first.now second.now s2))
         out.old }
 {
-    let mut p = 0;
-    while p < first.len() {
-        let x = first[p] as usize;
-        put_run(second, x * s2, out, at + p * s2);
-        p += 1;
+    for (p, x) in first.iter().enumerate() {
+        put_run(second, *x as usize * s2, out, at + p * s2);
     }
 }
 
@@ -123,11 +115,8 @@ fn put_inner(first: &[u8], second: &[u8], s1: usize, s2: usize, k: usize, out: &
         ≡ written at (tabulate (s1 * s2 * k * (s1 * s2)) (inner_cell first.now second.now s1 s2 k)) out.old }
 {
     let s = s1 * s2;
-    let rows = s * k;
-    let mut r = 0;
-    while r < rows {
+    for r in 0..s * k {
         put_nth_row(first, second, s1, s2, k, r, out, at + r * s);
-        r += 1;
     }
 }
 
@@ -138,12 +127,10 @@ fn put_marks(first: &[u8], second: &[u8], s2: usize, n: usize, out: &mut [u8], a
         ≡ written at (tabulate n (mark_cell first.now second.now s2))
         out.old }
 {
-    let mut c = 0;
-    while c < n {
+    for c in 0..n {
         let x = first[c / s2];
         let y = second[c % s2];
         out[at + c] = x * y;
-        c += 1;
     }
 }
 

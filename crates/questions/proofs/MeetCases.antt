@@ -1,5 +1,4 @@
 -- The ways out of the functions of the search.
---     rising-outside, rising-flat, rising-up   if_rising
 --     jump_outside, parent-taken, jump-taken   next_unless, by what the code has read: j the jump, p the parent
 --     Searching, searching-iteration, ..     the loop of meet: node x has still what is looked for from node v on
 use Rattle.std.proofs.Common.{◌≡◌, ℕ, ◌<◌, ◌≤◌, Bool, true, false, cond, ◌&&◌, ltb, List, sym, refl, ap, ◌∙◌, arith, le-ltb, lt-ltb}
@@ -13,19 +12,7 @@ use Rattle.questions.specs.inner.SearchAnswers.{meeting_of, target_of, rising_me
 use Rattle.questions.proofs.SearchLaws.{unless, Taken, taken, search-here, search-move, search-stuck}
 use Rattle.questions.proofs.SearchLaws.{search-inside}
 
--- ---- is_below
-
--- ---- if_rising and next_unless
-
-module _ (F : Forest) (v u : ℕ) where
-  pub rising-outside : F.nodes ≤ u → Outside ≡ rising_meeting F v u
-  rising-outside h = rw (le-ltb u F.nodes h)
-
-  pub rising-flat : u < F.nodes → F.depth v ≤ F.depth u → Outside ≡ rising_meeting F v u
-  rising-flat h l = rw (lt-ltb u F.nodes h, le-ltb (F.depth u) (F.depth v) l)
-
-  pub rising-up : u < F.nodes → F.depth u < F.depth v → At u ≡ rising_meeting F v u
-  rising-up h l = rw (lt-ltb u F.nodes h, lt-ltb (F.depth u) (F.depth v) l)
+-- ---- next_unless
 
 answer-rising : (F : Forest) (v : ℕ) (m : Move) → rising_meeting F v (target F m) ≡ target_of F (rising F v m)
 answer-rising F v m = go (ltb (target F m) F.nodes && ltb (F.depth (target F m)) (F.depth v))

@@ -1,7 +1,7 @@
 -- Searches in a list, by its entries.
 --     covers-yes, covers-above, covers-under    whether a run covers a number
 --     covers-by-distance, any-of-none           the same by one test; a run of no numbers covers none
---     last-hit, last-miss, whole                the last entry is covered, or the place found is that of the others
+--     last-hit, last-miss                       the last entry is covered, or the place found is that of the others
 --     last-nowhere, last-cut                    no entry is covered; none of some entries at the end
 --     any_step, any-end                         one entry more of the test whether any is covered; none is left
 --     last-ind, last-bound, last-covers         the place found is inside the list, and its entry not above c
@@ -9,7 +9,6 @@
 --     label-scan                                the label as changed is the one at the place found
 use Rattle.std.proofs.Common.{◌≡◌, ℕ, suc, ◌+◌, ◌-◌, ◌%◌, ◌^◌, ◌<◌, ◌≤◌, Bool, true, false, cond, ◌||◌, ltb, leb, List, [], ◌∷◌, ◌++◌, length, get_or, take, drop, set, sym, refl, ap, ◌∙◌, subst, add-one, arith, length-set, drop_of_length-le, length-take-le, get_or-drop, drop-cons, get_or-set_other, take-suc, get_or-set_same, drop-drop, take-add, ltb-true, le-ltb, lt-ltb, le-leb, leb-true}
 use mathlib.Core.Option.{some}
-use lib.Seq.{take-length}
 use borrow.Author.Tests.{lt-leb}
 use Rattle.trees.specs.Numbering.{is_in_subtree}
 use Rattle.trees.specs.Changes.{changed}
@@ -18,7 +17,7 @@ use Rattle.trees.proofs.MoveLaws.{both}
 use Rattle.list_laws.proofs.BoolLaws.{true-false, or_assoc, or_no}
 use Rattle.tables.specs.node_tables.Cells.{size_cell}
 use Rattle.questions.specs.Part.{found, last_found, found_below}
-use Rattle.questions.specs.inner.Scans.{last_from, last_in, any_in, Shortened, found_of, label_of}
+use Rattle.questions.specs.inner.Scans.{last_from, last_in, any_in, found_of, label_of}
 
 -- the first entry of a rest, and the rest after it
 at_head : (e i : ℕ) (es l : List ℕ) → e ∷ es ≡ drop i l → e ≡ get_or l i 0
@@ -106,10 +105,6 @@ module _ (c z : ℕ) where
       let e : i - 1 + 1 ≡ i = omega arith in
       sym (ap (λ (n : ℕ). last_in c z (take n es)) (sym e) ∙ last_snoc es (i - 1) (omega arith)
       ∙ ap (λ (b : Bool). cond b (i - 1 + 1) (last_in c z (take (i - 1) es))) t)
-
-  -- with nothing taken away
-  pub whole : (es : List ℕ) → Shortened c z es (length es)
-  whole es = record { within = omega arith; place = ap (last_in c z) (take-length es) }
 
   -- ---- no entry in the run
 

@@ -9,17 +9,12 @@ ghost use Rattle.trees.specs.Numbering.{is_in_subtree};
 ghost use Rattle.formats.specs.Limits.{node_limit};
 ghost use Rattle.questions.specs.inner.Scans.{last_in, any_in, Shortened};
 
-use std::num::wrapping_sub_u16;
-
 // The first number of the run of z numbers that ends at c.
 fn first_in_run(c: u16, z: u16) -> u16
     requires { 1 ≤ z }
     ensures { result ≡ c + 1 - z }
 {
-    if c < z {
-        return 0;
-    }
-    c - z + 1
+    c.saturating_sub(z - 1)
 }
 
 // Whether e is in the run of z numbers that ends at c: by one test, of its distance from the first of them.
@@ -28,7 +23,7 @@ fn is_in_run(e: u16, c: u16, z: u16) -> bool
     ensures { result ≡ is_in_subtree c z e }
 {
     let first = first_in_run(c, z);
-    let distance = wrapping_sub_u16(e, first);
+    let distance = e.wrapping_sub(first);
     distance <= c - first
 }
 
@@ -38,10 +33,8 @@ fn any_in(list: &[u16], c: u16, z: u16) -> bool
     ensures { result ≡ any_in c z list.now }
 {
     let mut any = false;
-    let mut i = 0;
-    while i < list.len() {
-        any = any | is_in_run(list[i], c, z);
-        i += 1;
+    for e in list {
+        any = any | is_in_run(*e, c, z);
     }
     any
 }
@@ -52,6 +45,7 @@ fn without_eights(list: &[u16], c: u16, z: u16) -> usize
     requires { 1 ≤ z }
     ensures { Shortened c z list.now result }
 {
+    // by eights: as a for over their number, the place is `list.len() - 8 * k`, and what is left `list.len() % 8`
     let mut i = list.len();
     while 8 <= i {
         if any_in(&list[i - 8..i], c, z) {
@@ -67,12 +61,10 @@ fn last_of_few(list: &[u16], c: u16, z: u16) -> usize
     requires { 1 ≤ z }
     ensures { result ≡ last_in c z list.now }
 {
-    let mut i = list.len();
-    while 0 < i {
-        if is_in_run(list[i - 1], c, z) {
-            return i;
+    for i in (0..list.len()).rev() {
+        if is_in_run(list[i], c, z) {
+            return i + 1;
         }
-        i -= 1;
     }
     0
 }

@@ -1,5 +1,4 @@
--- One iteration, and the end, of the loops that copy bytes, write the bytes of numbers and read numbers from bytes.
---     copy-iteration, copy-end
+-- One iteration, and the end, of the loops that write the bytes of numbers and read numbers from bytes.
 --     put-iteration, put-end
 --     get-iteration, get-end
 -- Each keeps: the part that is done as the definition has it, and behind it what was there.
@@ -17,11 +16,6 @@ use Rattle.records.proofs.NumberLaws.{bytes16-length, bytes16-snoc, numbers16-le
 -- a list whose first part is done and of which nothing is left
 whole : (d p d₀ : List ℕ) (j : ℕ) → length d₀ ≤ j → d ≡ p ++ drop j d₀ → d ≡ p
 whole d p d₀ j h e = e ∙ (ap (λ (t : List ℕ). p ++ t) (drop_of_length-le d₀ h) ∙ append-nil p)
-
--- ---- copy
-
-pub copy-end : (s d₀ d : List ℕ) (i : ℕ) → length s ≤ i → length d₀ ≡ length s → d ≡ take i s ++ drop i d₀ → d ≡ s
-copy-end s d₀ d i h e o = whole d (take i s) d₀ i (omega arith) o ∙ take_all i s h
 
 -- ---- the bytes of numbers
 

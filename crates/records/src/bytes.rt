@@ -9,7 +9,7 @@ use crate::layout::{
     HEAD_BYTES, LABELS_AT, LAST_AT, LAST_YES_AT, NODES_AT, PASSED_AT, RECORD_BYTES, ROOTS_AT,
     STATES_AT,
 };
-use crate::numbers::{copy_bytes, get_numbers, number16, number32, put_numbers};
+use crate::numbers::{get_numbers, number16, number32, put_numbers};
 use formats::limits::{CHANGE_LIMIT, PART_LIMIT};
 use session::answers::Outcome;
 use session::state::{Head, Last, Phase, Session, Sizes};
@@ -46,7 +46,7 @@ fn phase_at(number: u8) -> Phase
 fn yes_byte(yes: bool) -> u8
     ensures { result ≡ yes_byte yes }
 {
-    if yes { 1 } else { 0 }
+    u8::from(yes)
 }
 
 // The finished answer of a record's last 16 bytes.
@@ -98,11 +98,11 @@ pub fn decode(bytes: &[u8]) -> Session
     let mut nodes = [0u16; CHANGE_LIMIT];
     get_numbers(&bytes[NODES_AT..LABELS_AT], &mut nodes);
     let mut labels = [0u8; CHANGE_LIMIT];
-    copy_bytes(&bytes[LABELS_AT..ROOTS_AT], &mut labels);
+    labels.copy_from_slice(&bytes[LABELS_AT..ROOTS_AT]);
     let mut roots = [0u16; PART_LIMIT];
     get_numbers(&bytes[ROOTS_AT..STATES_AT], &mut roots);
     let mut states = [0u8; PART_LIMIT];
-    copy_bytes(&bytes[STATES_AT..LAST_AT], &mut states);
+    states.copy_from_slice(&bytes[STATES_AT..LAST_AT]);
     let head = decode_head(bytes);
     Session {
         head,
@@ -167,9 +167,9 @@ pub fn encode(rec: Session, out: &mut [u8])
     }
     put_head(rec.head, &mut out[..HEAD_BYTES]);
     put_numbers(&rec.nodes, &mut out[NODES_AT..LABELS_AT]);
-    copy_bytes(&rec.labels, &mut out[LABELS_AT..ROOTS_AT]);
+    out[LABELS_AT..ROOTS_AT].copy_from_slice(&rec.labels);
     put_numbers(&rec.roots, &mut out[ROOTS_AT..STATES_AT]);
-    copy_bytes(&rec.states, &mut out[STATES_AT..LAST_AT]);
+    out[STATES_AT..LAST_AT].copy_from_slice(&rec.states);
     put_last(rec.head, &mut out[LAST_AT..RECORD_BYTES]);
 }
 

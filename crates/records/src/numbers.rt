@@ -1,4 +1,4 @@
-// Runs of bytes and of numbers of two bytes. There is no early exit: the loops can be done many numbers at a time.
+// Runs of numbers of two bytes. There is no early exit: the loops can be done many numbers at a time.
 ghost use Rattle.std.specs.Prelude.{◌≡◌, ◌+◌, ◌*◌, ◌/◌, ◌%◌, ◌≤◌, ◌<◌, length};
 ghost use Rattle.records.specs.Layout.{numbers16, bytes16};
 ghost use Rattle.formats.specs.Bytes.{le16, le32};
@@ -9,7 +9,7 @@ use formats::bytes::read32;
 fn wide(x: u8) -> u16
     ensures { (result ≡ x) × (result < 256) }
 {
-    x as u16
+    u16::from(x)
 }
 
 // The 16-bit number that starts at byte `at`.
@@ -28,28 +28,14 @@ pub fn number32(bytes: &[u8], at: usize) -> u32
     read32(bytes, at) as u32
 }
 
-// The bytes as they are.
-pub fn copy_bytes(bytes: &[u8], out: &mut [u8])
-    requires { length out.old ≡ length bytes.now }
-    ensures { out.new ≡ bytes.now }
-{
-    let mut i = 0;
-    while i < bytes.len() {
-        out[i] = bytes[i];
-        i += 1;
-    }
-}
-
 // The bytes of numbers, two each.
 pub fn put_numbers(numbers: &[u16], out: &mut [u8])
     requires { length out.old ≡ 2 * length numbers.now }
     ensures { out.new ≡ bytes16 numbers.now }
 {
-    let mut i = 0;
-    while i < numbers.len() {
+    for i in 0..numbers.len() {
         out[2 * i] = (numbers[i] % 256) as u8;
         out[2 * i + 1] = (numbers[i] / 256) as u8;
-        i += 1;
     }
 }
 
@@ -58,9 +44,7 @@ pub fn get_numbers(bytes: &[u8], out: &mut [u16])
     requires { length bytes.now ≡ 2 * length out.old }
     ensures { out.new ≡ numbers16 bytes.now }
 {
-    let mut i = 0;
-    while i < out.len() {
+    for i in 0..out.len() {
         out[i] = number16(bytes, 2 * i);
-        i += 1;
     }
 }

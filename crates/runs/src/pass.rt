@@ -15,18 +15,11 @@ pub struct Waiting {
     pub last: u8,
 }
 
-// Room for the states of the trees that wait: for N nodes at most (N + 1) / 2, and a spare cell before them.
-fn room() -> [u8; 32769]
-    ensures { length result ≡ 32769 }
+// Room for the states of the trees that wait.
+fn room<const CELLS: usize>() -> [u8; CELLS]
+    ensures { length result ≡ CELLS }
 {
-    [0u8; 32769]
-}
-
-// Room for those of fewer than 2,047 nodes: less to clear.
-fn small_room() -> [u8; 1024]
-    ensures { length result ≡ 1024 }
-{
-    [0u8; 1024]
+    [0u8; CELLS]
 }
 
 // The iteration of a node with label a. A leaf stores the state of the tree completed before it in the array; an inner
@@ -85,6 +78,7 @@ fn stretch(
 {
     let mut waiting = before;
     let mut v = before.node;
+    // no for: the marks say where it ends, and a range would count to an end besides
     while marks[v - from] == UNLISTED {
         let a = labels[v] as usize;
         waiting = step(states, waiting, kinds, a, leaves, inner, s, k);
@@ -143,6 +137,7 @@ fn span_end(v: usize, n: usize) -> usize
     requires { v < n }
     ensures { SpanEnd v n result }
 {
+    // no min: v + SPAN might not fit
     if n - v < SPAN {
         return n;
     }
@@ -185,7 +180,8 @@ fn pass_in(
     turn.last
 }
 
-// The pass in room enough for the plan.
+// The pass in room enough for the plan: of N nodes at most (N + 1) / 2 trees wait, and there is a spare cell before
+// them. For fewer than 2,047 nodes there is less to clear.
 pub fn pass(
     kinds: &[u8],
     labels: &[u8],
@@ -201,9 +197,9 @@ pub fn pass(
         leaves.now inner.now s k result }
 {
     if kinds.len() < 2047 {
-        let mut few = small_room();
+        let mut few = room::<1024>();
         return pass_in(&mut few, kinds, labels, nodes, news, leaves, inner, s, k);
     }
-    let mut many = room();
+    let mut many = room::<32769>();
     pass_in(&mut many, kinds, labels, nodes, news, leaves, inner, s, k)
 }

@@ -36,11 +36,9 @@ pub found_here : (run : Running) (k left at : ℕ) → k < 8 → 0 < left → ne
 unfolding or_eight
 found_here run k left at h p e t = sym (found-next run k h ∙ ap or_eight (sym e ∙ next_here run left at p t))
 
-pub found-on : (run : Running) (left at : ℕ) (e : Option ℕ) → 0 < left → next_running_in left run at ≡ e → run at ≡ false
-    → next_running_in (left - 1) run (one_past at) ≡ e
-found-on run left at e p q t =
-    let s : left ≡ suc (left - 1) = omega arith in
-    sym (next-on run (left - 1) at t) ∙ ap (λ (m : ℕ). next_running_in m run at) (sym s) ∙ q
+pub found-on : (run : Running) (left next at : ℕ) (e : Option ℕ) → suc next ≡ left → next_running_in left run at ≡ e
+    → run at ≡ false → next_running_in next run (one_past at) ≡ e
+found-on run left next at e s q t = sym (next-on run next at t) ∙ ap (λ (m : ℕ). next_running_in m run at) s ∙ q
 
 pub found_nothing : (run : Running) (k left at : ℕ) → k < 8 → left ≡ 0
     → next_running_in left run at ≡ next_running_in 8 run k → 8 ≡ found run k

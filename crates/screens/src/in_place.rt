@@ -24,15 +24,11 @@ pub enum DealAnswer {
 }
 
 // Whether a screen in this state runs.
+#[tactic(auto, unfolding(session::specs::Records::phase_of, model::specs::Calls::is_running))]
 pub fn is_running(p: Phase) -> bool
     ensures { result ≡ is_running (phase_of p) }
 {
-    match p {
-        Phase::Empty => false,
-        Phase::Loaded => false,
-        Phase::Running => true,
-        Phase::Answered => false,
-    }
+    matches!(p, Phase::Running)
 }
 
 // The next running screen from the first on, going from 7 back to 0; 8 where none runs, 9 where there is no such screen
@@ -55,14 +51,11 @@ fn next_running(
     }
     let phases = [p0, p1, p2, p3, p4, p5, p6, p7];
     let mut at = first;
-    let mut left = SCREENS;
-    while left > 0 {
-        let p = phases[at];
-        if is_running(p) {
+    for _ in 0..SCREENS {
+        if is_running(phases[at]) {
             return at;
         }
         at = one_past(at);
-        left = left - 1;
     }
     SCREENS
 }

@@ -1,7 +1,7 @@
 -- The promise of a call, by what the code has found.
 --     invalid-done, refused-done, unless-done     a refusal: by the struct, by a number, by check 1
 --     proceeds-done                               no check fails
---     by_state, allowed-no, allowed-yes, allowed-by   check 1
+--     allowed-no, allowed-yes, allowed-by   check 1
 --     kept-of                                     what is left to the program has its properties
 use Prim.Native.Nat.{ℕ, suc, ◌-◌, ◌<◌}
 use mathlib.Core.Path.{◌≡◌, refl, sym, ap, ◌∙◌, subst}
@@ -21,7 +21,6 @@ use Rattle.model.specs.Refusals.{refusal}
 use Rattle.model.specs.Model.{stage_of, Acted, proceeds, unless, act}
 use Rattle.model.specs.LeftOpen.{LeftOpen}
 use Rattle.model.proofs.LeftOpenLaws.{refused-unchanged, advance-properties}
-use Rattle.session.specs.declared.state.Phase.{Phase}
 use Rattle.session.specs.declared.state.Session.{Session}
 use Rattle.session.specs.Records.{phase_of, sizes_of, stage_in, record_of, session_of, valid}
 use Rattle.session.specs.Promises.{CallDone, answer_on, record_on}
@@ -100,9 +99,6 @@ module _ (s : Session) (c : Call) where
       go false v g = invalid-done v
 
 -- ---- check 1: the state, and the record
-
-pub by_state : (f : calls.Phase → Bool) (p q : Phase) → p ≡ q → f (phase_of q) ≡ f (phase_of p)
-by_state f p q e = sym (ap (λ (x : Phase). f (phase_of x)) e)
 
 pub allowed-no : (v m : Bool) → not m ≡ true → false ≡ (v && m)
 allowed-no true m e = sym (not-true m e)

@@ -4,7 +4,6 @@
 --                                a list of at most w entries in an array of w
 --     padded-take                an array whose rest is zero is the list in its first entries
 --     take_long                  the length of the first entries of an array
---     copy-iteration, copy-end        a list copied into an array of zeros, entry by entry
 --     padded-more                one entry more
 use Prim.Native.Nat.{ℕ, zero, suc, ◌+◌, ◌-◌, ◌≤◌, ◌<◌}
 use mathlib.Core.Path.{◌≡◌, refl, sym, ap, ◌∙◌}
@@ -13,9 +12,8 @@ use mathlib.Core.List.{List, [], ◌∷◌, ◌++◌, append_assoc}
 use native.Mathlib.Omega.{arith}
 use native.Mathlib.Numerals.{add-one}
 use lib.Dec.{ltb}
-use lib.ListN.{length, get_or, set, take, drop, replicate, length-append, length-replicate, length-drop, take-append-drop}
-use lib.Seq.{set_split, drop-drop, take-append_seam, drop-append_seam, take_at, drop-cons, set_at, take-suc, length-take-le}
-use lib.Seq.{take-length}
+use lib.ListN.{length, set, take, drop, replicate, length-append, length-replicate, length-drop, take-append-drop}
+use lib.Seq.{set_split, drop-drop, take-append_seam, drop-append_seam, take_at, length-take-le}
 use borrow.Author.Tests.{ltb-true}
 use Rattle.list_laws.specs.Tests.{all_below}
 use Rattle.list_laws.proofs.BoolLaws.{and_left, and_right}
@@ -66,32 +64,6 @@ module _ (w m : ℕ) (l : List ℕ) (e : length l ≡ w) (z : zero_from m l ≡ 
 -- what `&l[..m]` is, of an array of w entries
 pub take_long : (w m : ℕ) (l : List ℕ) → length l ≡ w → m ≤ w → m ≡ length (take m l)
 take_long w m l e h = sym (length-take-le m l (omega arith))
-
--- ---- a list copied into an array of zeros
-
-drop-zeros : (m w : ℕ) → ◌≡◌ {A = List ℕ} (drop m (replicate w 0)) (replicate (w - m) 0)
-drop-zeros zero w = let e : w - 0 ≡ w = omega arith in rw e
-drop-zeros (suc m) zero = let e : 0 - suc m ≡ 0 = omega arith in rw e
-drop-zeros (suc m) (suc w) = let e : suc w - suc m ≡ w - m = omega arith in rw e (drop-zeros m w)
-
-pub copy-iteration : (s d₀ d : List ℕ) (i : ℕ) → i < length s → i < length d₀ → d ≡ take i s ++ drop i d₀
-    → set d i (get_or s i 0) ≡ take (i + 1) s ++ drop (i + 1) d₀
-copy-iteration s d₀ d i h k o =
-    rw (
-      o,
-      drop-cons d₀ i 0 k,
-      set_at (take i s) (get_or d₀ i 0) (drop (suc i) d₀) (get_or s i 0) i (length-take-le i s (omega arith)),
-      add-one i,
-      take-suc s i 0 h,
-      append_assoc,
-    )
-
-pub copy-end : (s d : List ℕ) (w i : ℕ) → i ≤ length s → length s ≤ i → d ≡ take i s ++ drop i (replicate w 0)
-    → d ≡ padded w s
-copy-end s d w i h k o =
-    let e : i ≡ length s = omega arith in
-    let o' : d ≡ take (length s) s ++ drop (length s) (replicate w 0) = rw e at o in
-    o' ∙ rw (take-length s, drop-zeros (length s) w)
 
 -- one entry more, where the array is zero from there on: the length, and the array
 module _ (w m : ℕ) (l : List ℕ) (q : ℕ) (e : length l ≡ w) (h : m < w) (z : zero_from m l ≡ true) where

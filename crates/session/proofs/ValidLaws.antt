@@ -1,7 +1,7 @@
 -- The tests of a struct as the code makes them, against their definitions.
 use Prim.Native.Nat.{ℕ, ◌-◌, ◌*◌, ◌≤◌, ◌<◌}
-use mathlib.Core.Path.{◌≡◌, sym, ap, ◌∙◌}
-use mathlib.Core.Bool.{Bool, true, false, cond, not, ◌&&◌}
+use mathlib.Core.Path.{◌≡◌, refl, sym, ap, ◌∙◌}
+use mathlib.Core.Bool.{Bool, true, false, cond, not, beq, ◌&&◌}
 use mathlib.Core.List.{List}
 use native.Mathlib.Omega.{arith}
 use lib.Dec.{leb, ltb, eqb}
@@ -74,14 +74,13 @@ module _ (s : Session) where
   unfolding last_is_own
   own-test g h c e = rw (le-leb 1 s.head.handled g, le-leb s.head.handled 254 h, e) (simp and_assoc)
 
--- two yes or no
-pub flag_true : (a b : Bool) → a ≡ true → b ≡ same_flag a b
+-- two yes or no are the same
+pub same-flag : (a b : Bool) → beq a b ≡ same_flag a b
 unfolding same_flag
-flag_true a b e = rw e
-
-pub flag-false : (a b : Bool) → a ≡ false → not b ≡ same_flag a b
-unfolding same_flag
-flag-false a b e = rw e
+same-flag true true = refl
+same-flag true false = refl
+same-flag false true = refl
+same-flag false false = refl
 
 -- what `&l[i..]` is
 rest : (l : List ℕ) (i : ℕ) → take (length l - i) (drop i l) ≡ drop i l

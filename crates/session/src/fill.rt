@@ -11,11 +11,7 @@ pub fn padded_nodes(nodes: &[u16]) -> [u16; CHANGE_LIMIT]
     ensures { result ≡ padded change_limit nodes.now }
 {
     let mut out = [0u16; CHANGE_LIMIT];
-    let mut i = 0;
-    while i < nodes.len() {
-        out[i] = nodes[i];
-        i += 1;
-    }
+    out[..nodes.len()].copy_from_slice(nodes);
     out
 }
 
@@ -25,10 +21,6 @@ pub fn padded_labels(labels: &[u8]) -> [u8; CHANGE_LIMIT]
     ensures { result ≡ padded change_limit labels.now }
 {
     let mut out = [0u8; CHANGE_LIMIT];
-    let mut i = 0;
-    while i < labels.len() {
-        out[i] = labels[i];
-        i += 1;
-    }
+    out[..labels.len()].copy_from_slice(labels);
     out
 }

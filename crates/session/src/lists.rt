@@ -12,10 +12,8 @@ pub fn below(xs: &[u16], bound: u16) -> bool
     ensures { result ≡ all_below bound xs.now }
 {
     let mut ok = true;
-    let mut i = 0;
-    while i < xs.len() {
-        ok = ok & (xs[i] < bound);
-        i += 1;
+    for x in xs {
+        ok = ok & (*x < bound);
     }
     ok
 }
@@ -25,10 +23,8 @@ pub fn zeros(xs: &[u16]) -> bool
     ensures { result ≡ all_below 1 xs.now }
 {
     let mut all = 0u16;
-    let mut i = 0;
-    while i < xs.len() {
-        all = all | xs[i];
-        i += 1;
+    for x in xs {
+        all = all | *x;
     }
     all == 0
 }
@@ -38,10 +34,8 @@ pub fn zero_bytes(xs: &[u8]) -> bool
     ensures { result ≡ all_below 1 xs.now }
 {
     let mut all = 0u8;
-    let mut i = 0;
-    while i < xs.len() {
-        all = all | xs[i];
-        i += 1;
+    for x in xs {
+        all = all | *x;
     }
     all == 0
 }
@@ -52,10 +46,8 @@ pub fn zero_pairs(xs: &[u16], ys: &[u8]) -> bool
     ensures { result ≡ (all_below 1 xs.now && all_below 1 ys.now) }
 {
     let mut all = 0u16;
-    let mut i = 0;
-    while i < xs.len() {
+    for i in 0..xs.len() {
         all = all | xs[i] | (ys[i] as u16);
-        i += 1;
     }
     all == 0
 }
@@ -68,10 +60,8 @@ pub fn rises_to(last: u16, xs: &[u16]) -> bool
         return false;
     }
     let mut ok = true;
-    let mut i = 1;
-    while i < xs.len() {
+    for i in 1..xs.len() {
         ok = ok & (xs[i - 1] < xs[i]);
-        i += 1;
     }
-    ok & (xs[i - 1] == last)
+    ok & (xs[xs.len() - 1] == last)
 }

@@ -10,39 +10,27 @@ use crate::valid::fits;
 use formats::limits::{CHANGE_LIMIT, PART_LIMIT};
 
 // Load: unless running.
+#[tactic(auto, unfolding(crate::specs::Records::phase_of, model::specs::Calls::may_load))]
 pub fn may_load(phase: Phase) -> bool
     ensures { result ≡ may_load (phase_of phase) }
 {
-    match phase {
-        Phase::Empty => true,
-        Phase::Loaded => true,
-        Phase::Running => false,
-        Phase::Answered => true,
-    }
+    !matches!(phase, Phase::Running)
 }
 
 // Start: in loaded or answered.
+#[tactic(auto, unfolding(crate::specs::Records::phase_of, model::specs::Calls::may_start))]
 pub fn may_start(phase: Phase) -> bool
     ensures { result ≡ may_start (phase_of phase) }
 {
-    match phase {
-        Phase::Empty => false,
-        Phase::Loaded => true,
-        Phase::Running => false,
-        Phase::Answered => true,
-    }
+    matches!(phase, Phase::Loaded | Phase::Answered)
 }
 
 // Advance and Cancel: in running.
+#[tactic(auto, unfolding(crate::specs::Records::phase_of, model::specs::Calls::is_running))]
 pub fn may_advance(phase: Phase) -> bool
     ensures { result ≡ is_running (phase_of phase) }
 {
-    match phase {
-        Phase::Empty => false,
-        Phase::Loaded => false,
-        Phase::Running => true,
-        Phase::Answered => false,
-    }
+    matches!(phase, Phase::Running)
 }
 
 // Check 1 of a call that the record's state, or for Read its last finished answer, allows or not. The record is given

@@ -7,7 +7,7 @@
 ghost use Rattle.std.specs.Prelude.{◌≡◌, List, ℕ, length};
 ghost use Rattle.formats.specs.Limits.{part_limit};
 ghost use Rattle.session.specs.Records.{whole, sizes_fit, no_question, list_fits, parts_fit, question_fits, valid};
-ghost use Rattle.session.specs.Records.{is_none, last_question_fits, same_flag, last_is_own};
+ghost use Rattle.session.specs.Records.{is_none, last_question_fits, last_is_own};
 ghost use Rattle.session.specs.inner.Shapes.{ListShaped, PartsShaped};
 
 use crate::lists::{below, rises_to, zero_bytes, zero_pairs, zeros};
@@ -122,16 +122,6 @@ fn last_fits(s: u8, l: Last) -> bool
     (o.state < s) & (0 < o.parts) & (o.parts <= MOST_PARTS) & few
 }
 
-// Whether two yes or no are the same.
-fn same_flag(a: bool, b: bool) -> bool
-    ensures { result ≡ same_flag a b }
-{
-    if a {
-        return b;
-    }
-    !b
-}
-
 // The last finished answer is the record's own, of all its parts.
 fn last_is_own(h: Head, states: &[u8]) -> bool
     requires { length states.now ≡ part_limit }
@@ -145,8 +135,7 @@ fn last_is_own(h: Head, states: &[u8]) -> bool
     }
     let o = h.last.outcome;
     let at = h.handled as usize - 1;
-    let alike = same_flag(o.yes, h.yes);
-    let own = h.last.present & (o.state == states[at]) & alike;
+    let own = h.last.present & (o.state == states[at]) & (o.yes == h.yes);
     own & (o.parts == h.parts) & (o.links == h.links) & (o.passed == h.passed)
 }
 

@@ -13,7 +13,7 @@ use native.Mathlib.Nat.{mul-le-mul_right, one-mul, pow-suc, mod-eq_of_lt}
 use native.Mathlib.Numerals.{add-one}
 use lib.Bits.{bit_and, bit_or, and_mask, or_shifted_r}
 use lib.Dec.{eqb}
-use lib.ListN.{length, get_or}
+use lib.ListN.{get_or}
 use lib.Pow.{pow_mono}
 use borrow.Author.Tests.{eq-eqb, ne_eqb}
 use Rattle.state_sets.specs.StateSets.{bit, set_of, member}

@@ -25,11 +25,9 @@ pub fn gathered(table: &[u8], base: usize, stride: usize, set: u64, n: usize) ->
     ensures { result ≡ gathered_from table.now base stride set n }
 {
     let mut r: u64 = 0;
-    let mut i: usize = 0;
-    while i < n {
+    for i in 0..n {
         let b = bit_of(set, table[base + i * stride]);
         r = with_bit(r, b, i);
-        i += 1;
     }
     r
 }

@@ -1,7 +1,7 @@
 -- Blocks of nodes.
 --     every-step                     one number more
 --     listed_start, listed-step      a list of nodes, one node more
---     both-start, both-step          the lists of inner nodes and of leaves, one node more
+--     both-step                      the lists of inner nodes and of leaves, one node more
 --     leaves-told                    what the test of the listed leaves means
 use Prim.Native.Nat.{ℕ, ◌+◌, ◌-◌, ◌≤◌, ◌<◌}
 use mathlib.Core.Path.{◌≡◌, sym, ap, ◌∙◌, subst}
@@ -82,14 +82,6 @@ module _ (f : ℕ → ℕ) (b v c : ℕ) (l : List ℕ) (L : Listed f b v c l) (
 
 -- both lists
 module _ (ks : List ℕ) (b v c : ℕ) (l m : List ℕ) where
-  pub both-start : BothListed ks b b 0 l m
-  both-start = record {
-    inner = listed_start (inner_node ks) b l;
-    leaf =
-        subst (λ (x : ℕ). Listed (leaf_node ks) b b x m) (let e : 0 ≡ b - b - 0 = omega arith in e)
-        (listed_start (leaf_node ks) b m);
-  }
-
   pub both-step : BothListed ks b v c l m → b ≤ v → get_or ks v 0 ≤ 1 → c < length l → v - b - c < length m
       → BothListed ks b (v + 1) (c + get_or ks v 0) (set l c v) (set m (v - b - c) v)
   both-step L order k room leaf_room = record {

@@ -1,15 +1,19 @@
 -- Differences or-ed into one number: it is 0 exactly where none was.
 --     or_left, or_right, or-none     a union is 0 exactly where both parts are
 --     xor-zero, xor-none             a difference is 0 exactly where both numbers are the same
---     or-test, xor-test, more_test   the same, as tests; or-more: one test more
+--     or-test, xor-test, more_test   the same, as tests; or-more: one test more; or-listed: one test of a list's number more
+--     every-none                     no test
 --     every-both                     two tests of the same numbers are one
-use Prim.Native.Nat.{ℕ, zero, suc, ◌+◌}
+use Prim.Native.Nat.{ℕ, zero, suc, ◌+◌, ◌<◌}
 use mathlib.Core.Path.{◌≡◌, refl, sym, ap, ◌∙◌}
 use mathlib.Core.Bool.{Bool, true, false, ◌&&◌}
+use mathlib.Core.List.{List}
 use native.Mathlib.Decide.{ℕ_discrete}
 use native.Mathlib.Omega.{arith}
 use lib.Dec.{eqb}
 use lib.Bits.{bit_or, bit_xor, or_add_and, xor_add_and, and_le_l, and_le_r, xor_self}
+use lib.ListN.{length, get_or, take}
+use Rattle.std.proofs.lemmas.List.{length-take, get_or-take}
 use borrow.Author.Tests.{eq-eqb, ne_eqb}
 use Rattle.tables.specs.inner.Compare.{every}
 use Rattle.table_checks.proofs.BlockLaws.{every-step}
@@ -57,6 +61,19 @@ pub or-more : (n : ℕ) (f : ℕ → Bool) (bad t : ℕ) → eqb bad 0 ≡ every
     → eqb (bit_or bad t) 0 ≡ every (n + 1) f
 or-more n f bad t e h =
     or-test bad t ∙ ap (λ (x : Bool). x && eqb t 0) e ∙ ap (λ (x : Bool). every n f && x) h ∙ sym (every-step n f)
+
+-- one number of a list's first c more
+pub or-listed : (f : ℕ → Bool) (l : List ℕ) (c n bad t : ℕ) → n < length (take c l)
+    → eqb bad 0 ≡ every n (λ i. f (get_or l i 0)) → eqb t 0 ≡ f (get_or (take c l) n 0)
+    → eqb (bit_or bad t) 0 ≡ every (n + 1) (λ i. f (get_or l i 0))
+or-listed f l c n bad t h e d =
+    let k : n < c = omega (arith, length-take c l) in
+    or-more n (λ i. f (get_or l i 0)) bad t e (d ∙ ap f (get_or-take c l n 0 k))
+
+-- no number
+pub every-none : (f : ℕ → Bool) → true ≡ every 0 f
+unfolding every
+every-none f = refl
 
 exchange : (a l b t : Bool) → ((a && l) && (b && t)) ≡ ((a && b) && (l && t))
 exchange true l true t = refl

@@ -2,7 +2,6 @@ pub mod LocalLaws
 pub mod PairNodeLaws
 pub mod DifferenceLaws
 pub mod PackedLaws
-pub mod JoinLaws
 pub mod PairStateLaws
 pub mod TwoStateLaws
 pub mod PairLaws

@@ -1,7 +1,7 @@
 -- The states and maps of a pair: indices, and what the test means.
 --     within-below .. left_less      indices and values of the tables are in range
 --     rows-args, rows-args-of        what the tests at one node read lies inside
---     small_of, rule-place           the same of the rules
+--     rule-place                     the same of the rules
 --     placed, pair_is                the indices of a pair, and the test at its node, as the code computes them
 --     rows-near, rows-far            the test of both maps, as the code makes it; rows-joined: through the joined map
 --     Rows, rows_told, tells-rows    what the test of both children's maps means
@@ -30,7 +30,6 @@ use Rattle.table_checks.specs.inner.PairStates.{RowsArgs, StateIn, TableRoom}
 use Rattle.tables.specs.node_tables.inner.UpPass.{left_of}
 use Rattle.tables.proofs.CompareLaws.{row_equals-map, map-row_equals, row_equals-ext}
 use Rattle.formats.proofs.RuleLaws.{rule-in}
-use Rattle.tables.proofs.MapPlaces.{Small, small}
 use Rattle.table_checks.specs.inner.PairNodes.{within}
 use Rattle.table_checks.proofs.DifferenceLaws.{or-test}
 
@@ -107,9 +106,6 @@ module _ (ls node_table lv inn : List ℕ) (s k n : ℕ) (b : List ℕ) (T : Tab
     pub rows-args-of : (l row col : ℕ) → l ≡ left_of node_table v → row ≡ row_of ls node_table b s k v
         → col ≡ col_of ls b s v → RowsArgs node_table inn s n b v l row col (k * s)
     rows-args-of l row col e f g = rw (f, g, e) rows-args
-
-    pub small_of : (p : ℕ) → p < 256 → Small s k p (get_or ls v 0)
-    small_of p h = small s k p (get_or ls v 0) T.rules.few T.rules.labels (T.below v) h
 
     pub rule-place : (l p q : ℕ) → l ≡ left_of node_table v → p ≡ state_cell s b l → q ≡ state_cell s b (v - 1)
         → (p * k + get_or ls v 0) * s + q < length inn

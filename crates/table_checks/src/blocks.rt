@@ -17,12 +17,10 @@ fn list_block(kinds: &[u8], b: usize, e: usize, list: &mut [u16], leaf_list: &mu
     ensures { BothListed kinds.now b e result list.new leaf_list.new }
 {
     let mut c = 0;
-    let mut v = b;
-    while v < e {
+    for v in b..e {
         list[c] = v as u16;
         leaf_list[v - b - c] = v as u16;
         c += kinds[v] as usize;
-        v += 1;
     }
     c
 }

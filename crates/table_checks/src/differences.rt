@@ -20,12 +20,10 @@ pub fn near_differences(
 {
     let at = v * (s + 1);
     let mut bad = 0u8;
-    let mut q = 0;
-    while q < s {
+    for q in 0..s {
         let x = state_table[at + (1 + q)];
         let y = table[base + q * stride];
-        bad = bad | (x ^ y);
-        q += 1;
+        bad |= x ^ y;
     }
     bad
 }
@@ -49,14 +47,12 @@ pub fn far_differences(
     let first = p * (s + 1);
     let second = j * (s + 1);
     let mut bad = 0u8;
-    let mut q = 0;
-    while q < s {
+    for q in 0..s {
         let x = state_table[at + (1 + q)];
         let near = table[base + q * stride] as usize;
         let next = state_table[first + (1 + near)] as usize;
         let y = state_table[second + (1 + next)];
-        bad = bad | (x ^ y);
-        q += 1;
+        bad |= x ^ y;
     }
     bad
 }
@@ -68,11 +64,9 @@ pub fn join_maps(state_table: &[u8], s: usize, p: usize, j: usize, joined: &mut 
 {
     let first = p * (s + 1);
     let second = j * (s + 1);
-    let mut q = 0;
-    while q < s {
+    for q in 0..s {
         let next = state_table[first + (1 + q)] as usize;
         joined[q] = state_table[second + (1 + next)];
-        q += 1;
     }
 }
 
@@ -92,13 +86,11 @@ pub fn joined_differences(
 {
     let at = v * (s + 1);
     let mut bad = 0u8;
-    let mut q = 0;
-    while q < s {
+    for q in 0..s {
         let x = state_table[at + (1 + q)];
         let near = table[base + q * stride] as usize;
         let y = joined[near];
-        bad = bad | (x ^ y);
-        q += 1;
+        bad |= x ^ y;
     }
     bad
 }

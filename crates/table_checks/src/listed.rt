@@ -55,12 +55,10 @@ pub fn listed_leaves_match(
         state_table.now (get_or list.now i 0)) }
 {
     let mut bad = 0;
-    let mut i = 0;
-    while i < c {
-        let v = list[i] as usize;
+    for v in &list[..c] {
+        let v = *v as usize;
         let leaf = leaf_differences(labels, node_table, leaves, inner, s, k, n, state_table, v);
-        bad = bad | leaf;
-        i += 1;
+        bad |= leaf;
     }
     bad == 0
 }
@@ -77,18 +75,16 @@ pub fn listed_nodes_match(
     ensures { result ≡ every c (λ i. pair_nodes n node_table.now (get_or list.now i 0)) }
 {
     let mut bad = 0;
-    let mut i = 0;
-    while i < c {
-        let v = list[i] as usize;
+    for v in &list[..c] {
+        let v = *v as usize;
         let nodes = pair_node_differences(node_table, lengths, n, v);
-        bad = bad | nodes;
-        i += 1;
+        bad |= nodes;
     }
     bad == 0
 }
 
-// Whether the states and maps of their pairs match.
-fn listed_states_match(
+// Whether the states and maps of their pairs match, by the way for S states: 2, 16, or any number.
+fn listed_states_match<const S: usize>(
     labels: &[u8],
     node_table: &[u16],
     leaves: &[u8],
@@ -101,78 +97,24 @@ fn listed_states_match(
     c: usize,
 ) -> bool
     requires { PairsArgs labels.now node_table.now leaves.now inner.now s k n state_table.now
-        list.now c }
+        list.now c × ((S ≡ 2 → s ≡ 2) × (S ≡ 16 → s ≡ 16)) }
     ensures { result ≡ every c (λ i. pair_states labels.now node_table.now inner.now
         s k n state_table.now (get_or list.now i 0)) }
 {
     let mut bad = 0;
-    let mut i = 0;
-    while i < c {
-        let v = list[i] as usize;
-        let states = pair_differences(labels, node_table, leaves, inner, s, k, n, state_table, v);
-        bad = bad | states;
-        i += 1;
+    for v in &list[..c] {
+        let v = *v as usize;
+        let states = match S {
+            2 => pair_differences2(labels, node_table, leaves, inner, k, n, state_table, v),
+            16 => pair_differences16(labels, node_table, leaves, inner, k, n, state_table, v),
+            _ => pair_differences(labels, node_table, leaves, inner, s, k, n, state_table, v),
+        };
+        bad |= states;
     }
     bad == 0
 }
 
-// The same for two states.
-fn listed_states_match2(
-    labels: &[u8],
-    node_table: &[u16],
-    leaves: &[u8],
-    inner: &[u8],
-    k: usize,
-    n: usize,
-    state_table: &[u8],
-    list: &[u16],
-    c: usize,
-) -> bool
-    requires { PairsArgs labels.now node_table.now leaves.now inner.now 2 k n state_table.now
-        list.now c }
-    ensures { result ≡ every c (λ i. pair_states labels.now node_table.now inner.now
-        2 k n state_table.now (get_or list.now i 0)) }
-{
-    let mut bad = 0;
-    let mut i = 0;
-    while i < c {
-        let v = list[i] as usize;
-        let states = pair_differences2(labels, node_table, leaves, inner, k, n, state_table, v);
-        bad = bad | states;
-        i += 1;
-    }
-    bad == 0
-}
-
-// The same for 16 states.
-fn listed_states_match16(
-    labels: &[u8],
-    node_table: &[u16],
-    leaves: &[u8],
-    inner: &[u8],
-    k: usize,
-    n: usize,
-    state_table: &[u8],
-    list: &[u16],
-    c: usize,
-) -> bool
-    requires { PairsArgs labels.now node_table.now leaves.now inner.now 16 k n state_table.now
-        list.now c }
-    ensures { result ≡ every c (λ i. pair_states labels.now node_table.now inner.now
-        16 k n state_table.now (get_or list.now i 0)) }
-{
-    let mut bad = 0;
-    let mut i = 0;
-    while i < c {
-        let v = list[i] as usize;
-        let states = pair_differences16(labels, node_table, leaves, inner, k, n, state_table, v);
-        bad = bad | states;
-        i += 1;
-    }
-    bad == 0
-}
-
-// The same for any number of states.
+// The same, the way chosen by the number of states.
 pub fn listed_states_match_any(
     labels: &[u8],
     node_table: &[u16],
@@ -190,42 +132,42 @@ pub fn listed_states_match_any(
     ensures { result ≡ every c (λ i. pair_states labels.now node_table.now inner.now
         s k n state_table.now (get_or list.now i 0)) }
 {
-    if s == 2 {
-        return listed_states_match2(
+    match s {
+        2 => listed_states_match::<2>(
             labels,
             node_table,
             leaves,
             inner,
+            s,
             k,
             n,
             state_table,
             list,
             c,
-        );
-    }
-    if s == 16 {
-        return listed_states_match16(
+        ),
+        16 => listed_states_match::<16>(
             labels,
             node_table,
             leaves,
             inner,
+            s,
             k,
             n,
             state_table,
             list,
             c,
-        );
+        ),
+        _ => listed_states_match::<0>(
+            labels,
+            node_table,
+            leaves,
+            inner,
+            s,
+            k,
+            n,
+            state_table,
+            list,
+            c,
+        ),
     }
-    listed_states_match(
-        labels,
-        node_table,
-        leaves,
-        inner,
-        s,
-        k,
-        n,
-        state_table,
-        list,
-        c,
-    )
 }

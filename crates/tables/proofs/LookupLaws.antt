@@ -1,14 +1,12 @@
 -- The lookups of a climb, by what is read.
 --     below-yes, below-no, below-state     a number is a state, or is not; what `below` gives is one
---     stride, rule-place, rule-small       rows of equal length: the index of a rule is inside the rules, and small
---     map-place, state-place               the index of a node's map entry, and of its state, is inside the bytes
+--     state-place                          the index of a node's state is inside the bytes
 --     rule-outside, rule-at                a rule for a number that is no label, and for a label
 --     sibling-left .. sibling-none         the other child, by the tests of the code
 use Prim.Native.Nat.{ℕ, ◌+◌, ◌-◌, ◌*◌, ◌≤◌, ◌<◌}
 use mathlib.Core.Path.{◌≡◌, sym}
 use mathlib.Core.Option.{Option, none, some, some-injective}
 use native.Mathlib.Omega.{arith}
-use native.Mathlib.Nat.{mul-le-mul_right}
 use lib.ListN.{get_or}
 use borrow.Author.Tests.{lt-ltb, le-ltb, le-leb, lt-leb, eq-eqb, ne_eqb}
 use Rattle.trees.proofs.MoveLaws.{none-some}
@@ -41,16 +39,9 @@ below_none s q e =
 
 -- ---- rules
 
--- the row of u ends where a later row starts
--- the state and the map of a node are inside the bytes
-pub map-place : (n s v q m : ℕ) → v < n → q < s → n * (s + 1) ≤ m → v * (s + 1) + (1 + q) < m
-map-place n s v q m hv hq hm = omega (arith, stride (s + 1) v n hv)
-
+-- the state of a node is inside the bytes
 pub state-place : (n s v m : ℕ) → v < n → n * (s + 1) ≤ m → v * (s + 1) < m
 state-place n s v m hv hm = omega (arith, stride (s + 1) v n hv)
-
-pub rule-small : (s k p a : ℕ) → s ≤ 16 → k ≤ 64 → p < s → a < k → p * k + a < 1024
-rule-small s k p a hs hk hp ha = omega (arith, stride k p s hp, mul-le-mul_right k hs)
 
 module _ (X : View) (p a q : ℕ) where
   pub rule-outside : X.k ≤ a → rule_on X p a q ≡ none

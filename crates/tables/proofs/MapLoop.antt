@@ -3,6 +3,7 @@
 --     pairs_start, pairs-turn, pairs-lower, pairs-all   the root's map, one more inner node, leaves passed by, all of
 --   them
 --     pair-args               what one node's writer needs
+--     listed-pair-args, listed-pairs   the same of a listed inner node, before the one after it
 use Prim.Native.Nat.{ℕ, ◌+◌, ◌-◌, ◌*◌, ◌≤◌, ◌<◌}
 use mathlib.Core.Path.{◌≡◌, sym, ap, ap₂, ◌∙◌, subst}
 use mathlib.Core.List.{List, []}
@@ -26,8 +27,9 @@ use Rattle.list_laws.proofs.RowLaws.{stride, cells-apart}
 use Rattle.formats.specs.Rules.{tree_automaton}
 use Rattle.tables.specs.node_tables.Cells.{jump_cell, size_cell}
 use Rattle.tables.specs.node_tables.inner.UpPass.{left_of}
-use Rattle.tables.specs.node_tables.inner.InnerNodes.{ListArgs}
+use Rattle.tables.specs.node_tables.inner.InnerNodes.{from, Listed, ListArgs}
 use Rattle.tables.proofs.node_tables.UpLoop.{child-is, inner-kind}
+use Rattle.tables.proofs.node_tables.InnerNodeLaws.{from_next}
 use Rattle.tables.specs.StateCells.{state_cell, map_cell}
 use Rattle.tables.specs.inner.Rows.{Rowed, SameArgs}
 use Rattle.tables.specs.inner.Maps.{Prepared, MapArgs, Maps}
@@ -285,3 +287,29 @@ module _ (ks ls b inn : List ℕ) (s k : ℕ) (e : List ℕ) (args : MapArgs ks 
           | no y ↦ omega (arith, e, inner-kind t j (omega arith) (λ x. y (sym e ∙ x)))
         ];
   }
+
+-- ---- a listed inner node of a block: the node that follows the first n - 1 listed ones
+
+module _ (ks ls b inn : List ℕ) (s k : ℕ) (first st : List ℕ) (start e : ℕ) (l : List ℕ) (c n : ℕ)
+    (L : Listed ks start e c l) (some : 0 < n) (h : n ≤ c) (inside : e ≤ length ks)
+    (all : Pairs ks ls b inn s k (from start l n) first st) where
+  after-last : Pairs ks ls b inn s k (get_or l (n - 1) 0 + 1) first st
+  after-last =
+      let z : n ≡ n - 1 + 1 = omega arith in
+      subst (λ (x : ℕ). Pairs ks ls b inn s k x first st) (ap (from start l) z ∙ from_next start l (n - 1)) all
+
+  pub listed-pair-args : MapArgs ks ls b inn s k first → length st ≡ length first
+      → PairArgs ls b inn s k st (get_or l (n - 1) 0)
+  listed-pair-args args same =
+      pair-args ks ls b inn s k first args st (get_or l (n - 1) 0) same (omega (arith, L.ends (n - 1) (omega arith)))
+      (L.inner (n - 1) (omega arith)) after-last
+
+  pub listed-pairs : ((j : ℕ) → get_or inn j 0 < s) → (after : List ℕ)
+      → PairRowed s (right_value ls b inn s k st (get_or l (n - 1) 0)) (left_value ls b inn s k st (get_or l (n - 1) 0))
+      (get_or l (n - 1) 0 - 1) (left_of b (get_or l (n - 1) 0)) st after
+      → Pairs ks ls b inn s k (from start l (n - 1)) first after
+  listed-pairs below after R =
+      pairs-down ks ls b inn s k first after (from start l (n - 1)) (get_or l (n - 1) 0)
+      (λ p. L.gaps (n - 1) p (omega arith))
+      (pairs-turn ks ls b inn s k first st (get_or l (n - 1) 0) after below
+      (omega (arith, L.ends (n - 1) (omega arith))) (L.inner (n - 1) (omega arith)) after-last R)

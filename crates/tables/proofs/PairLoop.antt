@@ -1,8 +1,8 @@
 -- Both children's maps written byte by byte, and the 16 states that are read first.
---     pair-start, pair-iteration   no byte of either map written, and one more of each
+--     pair-iteration               one byte more of each map written
 --     pair-other, cell_other       other maps are as they were, after both and after one store
 --     FarTurn, far-turn            what an iteration of `far_pair` reads and writes
---     line-iteration, line-entry   one more state read, and a state read as an entry of a row
+--     line-entry                   a state read as an entry of a row
 use Prim.Native.Nat.{ℕ, ◌+◌, ◌*◌, ◌≤◌, ◌<◌}
 use mathlib.Core.Path.{◌≡◌, refl, ap, ◌∙◌}
 use mathlib.Core.List.{List}
@@ -15,13 +15,6 @@ use Rattle.tables.specs.StateCells.{map_cell}
 use Rattle.tables.specs.inner.Rows.{far_cell}
 use Rattle.tables.specs.inner.MapPairs.{PairTo, FarPairArgs}
 use Rattle.tables.proofs.RowLoop.{placed, far-here-below, far-near-below, far-is}
-
-pub pair-start : (s : ℕ) (f g : ℕ → ℕ) (r l : ℕ) (b : List ℕ) → PairTo s f g r l 0 b b
-pair-start s f g r l b = record {
-  right = λ q h. absurd (omega arith);
-  left = λ q h. absurd (omega arith);
-  kept = λ j a c. refl;
-}
 
 -- a store into node r's map leaves the others
 pub cell_other : (s : ℕ) (b : List ℕ) (r i y u q : ℕ) → (u ≡ r → ⊥) → i < s → q < s
@@ -124,14 +117,6 @@ module _ (s v j r l i : ℕ) (table : List ℕ) (row col step : ℕ) (b₀ b : L
         left_near = far-near-below s l v j i table col step b₀ b₁ near₁ far₁ L h (col + i * step) refl;
         left_is = far-is s l v j i table col step b₀ b₁ near₁ far₁ L h (col + i * step) refl;
       }
-
-pub line-iteration : (line table : List ℕ) (base q : ℕ)
-    → ((x : ℕ) → x < q → get_or line x 0 ≡ get_or table (base + x) 0) → q < length line
-    → (x : ℕ) → x < q + 1 → get_or (set line q (get_or table (base + q) 0)) x 0 ≡ get_or table (base + x) 0
-line-iteration line table base q F room x h = elim (ℕ_discrete x q) [
-  | yes p ↦ rw p (get_or-set_same line q (get_or table (base + q) 0) 0 room)
-  | no p ↦ get_or-set_other line q x (get_or table (base + q) 0) 0 (omega arith) ∙ F x (omega arith)
-]
 
 -- an entry of the states read, by the indices as the two rows have them
 pub line-entry : (line table : List ℕ) (row q : ℕ) → get_or line q 0 ≡ get_or table (row + q) 0

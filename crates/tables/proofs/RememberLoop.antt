@@ -1,13 +1,11 @@
 -- The loop that remembers the moves of a climb, and the climb by parts.
---     Noting, noting-start .. noting-full     the loop's state, and what it leaves
---     Folding, folding-start .. folding-done  the loop that folds moves into a map
---     Joined, joined-start .. joined-lost     the loop over parts
+--     Noting, noting-start .. noting-iteration    the loop's state, and one move more
+--     Joined, joined-start .. joined-iteration    the loop over parts
 --     part-done, part-lost, part_none         a climb that is one part
 use Prim.Native.Nat.{ℕ, zero, suc, ◌+◌, ◌-◌, ◌/◌, ◌≤◌, ◌<◌}
 use mathlib.Core.Path.{◌≡◌, refl, sym, ap, ap₂, ◌∙◌}
 use mathlib.Core.Bool.{Bool, true, false, cond}
 use mathlib.Core.List.{List, [], ◌∷◌, ◌++◌, append_assoc, append-nil}
-use mathlib.Core.Logic.{◌⊎◌, inl, inr}
 use mathlib.Core.Option.{Option, none, some}
 use native.Mathlib.Omega.{arith}
 use native.Mathlib.Nat.{le_refl}
@@ -27,7 +25,7 @@ use Rattle.tables.specs.declared.replays.Note.{Note}
 use Rattle.tables.specs.declared.replays.Part.{Part}
 use Rattle.tables.specs.Climbs.{below, reached, climbed_of}
 use Rattle.tables.specs.Replays.{state_move, carry_down, replay_on}
-use Rattle.tables.specs.inner.Remembered.{move_of, remembered, prefixed, Noted, Noticed, entry_of, Folded}
+use Rattle.tables.specs.inner.Remembered.{move_of, remembered, prefixed, Noted, Noticed, Folded}
 use Rattle.tables.proofs.LookupLaws.{below-yes, below-no}
 use Rattle.tables.proofs.ReplayLaws.{down-append, down-below}
 
@@ -101,26 +99,6 @@ module _ (n : ℕ) (node_table : List ℕ) (from to : ℕ) where
   }
 
   module _ (codes : List ℕ) (v c : ℕ) (N : Noting codes v c) where
-    noticed : (depth_cell node_table v ≤ to) ⊎ (48 ≤ c) → Noticed n node_table from to codes
-        (record { ok = true; count = c; node = v })
-    noticed f = record {
-      long = N.long;
-      count = N.most;
-      inside = N.inside;
-      nodes = N.nodes;
-      falls = N.falls;
-      ends = N.ends;
-      onward = N.onward;
-      far = λ _. f;
-    }
-
-    pub noting-done : depth_cell node_table v ≤ to → Noticed n node_table from to codes
-        (record { ok = true; count = c; node = v })
-    noting-done h = noticed (inl h)
-
-    pub noting-full : 48 ≤ c → Noticed n node_table from to codes (record { ok = true; count = c; node = v })
-    noting-full h = noticed (inr h)
-
     module _ (deeper : to < depth_cell node_table v) (x : Note) (X : Noted (cell_forest n node_table) v to x) where
       pub noting-lost : from < n → x.ok ≡ false → Noticed n node_table from to codes
           (record { ok = false; count = 0; node = from })
@@ -170,26 +148,6 @@ module _ (n : ℕ) (node_table : List ℕ) (from to : ℕ) where
                 ∙ prefixed-before (remembered codes c) m (climb F (target F m) to)
                 ∙ ap₂ (λ (ms : List Move) (w : ℕ). prefixed ms (climb F w to)) (sym more) (sym (X.leads e));
           }
-
--- ---- moves folded into a map
-
-module _ (s : ℕ) (m : List ℕ) (f : ℕ → Option ℕ) where
-  pub folding-start : (out : List ℕ) → length out ≡ 16 → Folded s m f 0 out
-  folding-start out l = record { long = l; entries = λ q h. absurd (omega arith) }
-
-  pub folding-iteration : (c : ℕ) (out : List ℕ) (x r : ℕ) → c < 16 → Folded s m f c out → below s x ≡ f c
-      → entry_of s m x r
-      → Folded s m f (c + 1) (set out c r)
-  folding-iteration c out x r h W e E = record {
-    long = length-set out c r ∙ W.long;
-    entries = λ q i. elim (ℕ_discrete q c) [
-      | yes z ↦ ap (λ (j : ℕ). below s (get_or (set out c r) j 0)) z ∙ ap (below s)
-          (get_or-set_same out c r 0 (omega (arith, W.long)))
-          ∙ E.entry ∙ ap (λ (o : Option ℕ). and_then o (λ y. below s (get_or m y 0))) e
-          ∙ ap (λ (j : ℕ). and_then (f j) (λ y. below s (get_or m y 0))) (sym z)
-      | no z ↦ ap (below s) (get_or-set_other out c q r 0 z) ∙ W.entries q (omega arith)
-    ];
-  }
 
 -- ---- the climb by parts
 
@@ -291,9 +249,6 @@ module _ (n s k : ℕ) (ls st node_table state_table : List ℕ) (from to : ℕ)
     joined-passed = ap (λ (w : ℕ). depth_cell node_table from - depth_cell node_table w) (sym J.ends)
 
     module _ (codes : List ℕ) (x : Part) (N : Noticed n node_table v to codes x) (e : x.ok ≡ true) where
-      pub joined-rises : to < depth_cell node_table v → depth_cell node_table x.node < depth_cell node_table v
-      joined-rises h = elim (N.far e) [ inl i ↦ omega arith | inr i ↦ omega (arith, N.falls) ]
-
       abbrev part : List Move
       part = remembered codes x.count
 

@@ -3,7 +3,7 @@
 --     move-below, down-below               what a move, or moves, make of a state is a state
 --     note-jump, note-parent, note-stuck   one move as it is remembered
 --     move-by-jump .. move-by-label        what a remembered move makes of a state
---     Replaying, replaying-start .. -lost  the loop that carries a state down
+--     Replaying, replaying-iteration .. -done   the loop that carries a state down
 use Prim.Native.Nat.{ℕ, zero, suc, ◌+◌, ◌-◌, ◌*◌, ◌/◌, ◌%◌, ◌≤◌, ◌<◌}
 use mathlib.Core.Path.{◌≡◌, refl, sym, ap, ◌∙◌}
 use mathlib.Core.Bool.{Bool, true, false, cond}
@@ -93,9 +93,6 @@ module _ (s k : ℕ) (ls st state_table : List ℕ) where
       pub state : x < s
       pub same : carry_down (state_move s k ls st state_table) (remembered codes i) x
           ≡ carry_down (state_move s k ls st state_table) (remembered codes count) q
-
-    pub replaying-start : q < s → Replaying count q
-    replaying-start h = record { most = le_refl _; state = h; same = refl }
 
     last-move : (i : ℕ) → 0 < i → remembered codes i ≡ remembered codes (i - 1) ++ (move_of (get_or codes (i - 1) 0) ∷ [])
     unfolding remembered

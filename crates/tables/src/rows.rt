@@ -15,10 +15,8 @@ pub fn near_row(
     ensures { Rowed s (λ q. get_or table.now (base + q * stride) 0) v state_table.old state_table.new }
 {
     let at = v * (s + 1) + 1;
-    let mut q = 0;
-    while q < s {
+    for q in 0..s {
         state_table[at + q] = table[base + q * stride];
-        q += 1;
     }
 }
 
@@ -28,9 +26,7 @@ pub fn same_row(state_table: &mut [u8], s: usize, v: usize)
     ensures { Rowed s (λ q. q) v state_table.old state_table.new }
 {
     let at = v * (s + 1) + 1;
-    let mut q = 0;
-    while q < s {
+    for q in 0..s {
         state_table[at + q] = q as u8;
-        q += 1;
     }
 }

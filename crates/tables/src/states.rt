@@ -3,7 +3,7 @@ ghost use Rattle.std.specs.Prelude.{◌≡◌, length, get_or};
 ghost use Rattle.tables.specs.inner.States.{InnerArgs, StateArgs, Runs, inner_state};
 ghost use Rattle.tables.specs.inner.States.{Leaves, LeafArgs, BlockRun, RunBlockArgs};
 
-use crate::node_tables::blocks::{block_end, empty_list, list_inner};
+use crate::node_tables::blocks::{BLOCK, empty_list, list_inner};
 use formats::layout::{NODE_COLUMNS, SIZE};
 use formats::rules::rule;
 
@@ -34,10 +34,8 @@ fn leaf_states(labels: &[u8], leaves: &[u8], s: usize, b: usize, e: usize, state
     ensures { Leaves s leaves.now labels.now b e state_table.old
         state_table.new }
 {
-    let mut v = b;
-    while v < e {
+    for v in b..e {
         state_table[v * (s + 1)] = leaves[labels[v] as usize];
-        v += 1;
     }
 }
 
@@ -63,12 +61,10 @@ fn run_block(
 {
     leaf_states(labels, leaves, s, b, e, state_table);
     let c = list_inner(kinds, b, e, list);
-    let mut i = 0;
-    while i < c {
+    for i in 0..c {
         let v = list[i] as usize;
         let x = inner_state(node_table, state_table, inner, s, k, v, labels[v] as usize);
         state_table[v * (s + 1)] = x;
-        i += 1;
     }
 }
 
@@ -89,9 +85,7 @@ pub fn run_states(
 {
     let n = kinds.len();
     let mut list = empty_list();
-    let mut b = 0;
-    while b < n {
-        let e = block_end(b, n);
+    for b in (0..n).step_by(BLOCK) {
         run_block(
             kinds,
             labels,
@@ -101,10 +95,9 @@ pub fn run_states(
             s,
             k,
             b,
-            e,
+            (b + BLOCK).min(n),
             &mut list,
             state_table,
         );
-        b = e;
     }
 }

@@ -19,21 +19,13 @@ fn finish(
         ≡ finished_in most_parts started (inputs_of plan.now rules.now node_table.now state_table.now) }
 {
     let mut rec = started;
-    let mut iterations: u8 = 0;
-    while iterations < 254 {
+    for _parts in 0..254u8 {
         let next = rec.advance(plan, rules, node_table, state_table);
         rec = next.session;
-        let answer = next.answer;
-        match answer {
-            AdvanceAnswer::More => {
-                iterations += 1;
-            }
-            AdvanceAnswer::Finished => {
-                return rec.read();
-            }
-            AdvanceAnswer::Refused(n) => {
-                return ReadAnswer::Refused(n);
-            }
+        match next.answer {
+            AdvanceAnswer::More => {}
+            AdvanceAnswer::Finished => return rec.read(),
+            AdvanceAnswer::Refused(n) => return ReadAnswer::Refused(n),
         }
     }
     rec.read()

@@ -113,15 +113,14 @@ pub fn take_in(
 {
     let mut part = have;
     let mut end = 0;
-    let mut i = 0;
-    while i < chunk.len() {
+    for b in chunk {
         let next = take_byte(
             loaded,
             plan,
             rules,
             node_table,
             state_table,
-            chunk[i],
+            *b,
             asked,
             part,
             out,
@@ -129,7 +128,6 @@ pub fn take_in(
         );
         part = next.have;
         end = next.end;
-        i += 1;
     }
     Taken { have: part, end }
 }

@@ -105,13 +105,6 @@ pub fn lines_space() -> [u8; 65536]
     [0; 65536]
 }
 
-fn least(a: usize, b: usize) -> usize
-    ensures upper_bound { (result ≤ a) × (result ≤ b) }
-    ensures value { result ≡ min a b }
-{
-    if a < b { a } else { b }
-}
-
 // One read of at most `most` bytes. Fewer may come, as from a pipe; none at the end of the input.
 pub fn read_some<R: Read>(input: &mut R, most: usize, chunk: &mut [u8]) -> io::Result<usize>
     ensures upper_bound { IfOk result (λ n. n ≤ most) }
@@ -119,7 +112,7 @@ pub fn read_some<R: Read>(input: &mut R, most: usize, chunk: &mut [u8]) -> io::R
     ensures prefix_len { IfOk result (λ n. IsPrefixLen n chunk.new) }
     ensures taken { ReadConsumes (R.remaining input.old) (R.remaining input.new) result (take most chunk.new) }
 {
-    let n = least(most, chunk.len());
+    let n = most.min(chunk.len());
     input.read(&mut chunk[..n])
 }
 
@@ -155,7 +148,7 @@ pub fn read_whole<R: Read>(input: &mut R, most: usize, space: &mut [u8]) -> io::
     ensures taken { IfOk result (λ r. Consumes (R.remaining input.old) (R.remaining input.new) (take r.count space.new)) }
     ensures ended { IfOk result (λ r. r.count < r.asked → IsAtEnd (R.remaining input.new)) }
 {
-    let n = least(most, space.len());
+    let n = most.min(space.len());
     let count = read_full(input, &mut space[..n])?;
     Ok(ReadCount { asked: n, count })
 }

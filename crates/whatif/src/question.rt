@@ -38,8 +38,7 @@ pub fn question_length(asked: &[u8]) -> usize
 pub fn kept_changes(asked: &[u8]) -> usize
     ensures { (result ≡ min (change_count asked.now) 65) × (result ≤ 65) }
 {
-    let m = number16(asked, 0);
-    if m < KEPT { m } else { KEPT }
+    number16(asked, 0).min(KEPT)
 }
 
 // The nodes of a list of changes, three bytes each.
@@ -49,10 +48,8 @@ pub fn nodes_in(list: &[u8]) -> [u16; KEPT]
     ensures result_len { length result ≡ 65 }
 {
     let mut nodes = [0u16; KEPT];
-    let mut i = 0;
-    while 3 * i + 2 < list.len() {
+    for i in 0..list.len() / 3 {
         nodes[i] = number16(list, 3 * i) as u16;
-        i += 1;
     }
     nodes
 }
@@ -64,10 +61,8 @@ pub fn labels_in(list: &[u8]) -> [u8; KEPT]
     ensures result_len { length result ≡ 65 }
 {
     let mut labels = [0u8; KEPT];
-    let mut i = 0;
-    while 3 * i + 2 < list.len() {
+    for i in 0..list.len() / 3 {
         labels[i] = list[3 * i + 2];
-        i += 1;
     }
     labels
 }

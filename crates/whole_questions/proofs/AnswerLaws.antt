@@ -1,7 +1,7 @@
 -- The answer of a whole question where the checks before 18 pass, step by step.
 --     climbed-state, marked-at, roots-lost, roots-answer   for given roots: the last state is one, its mark, and the answer
---     rooted-room, lent-lost, root-args, lent-answer       the roots: none, and those that were found
-use Prim.Native.Nat.{ℕ, ◌+◌, ◌-◌, ◌*◌, ◌≤◌, ◌<◌}
+--     lent-lost, root-args, lent-answer                    the roots: none, and those that were found
+use Prim.Native.Nat.{ℕ, ◌+◌, ◌-◌, ◌*◌, ◌<◌}
 use mathlib.Core.Path.{◌≡◌, sym, ap, ap₂, ◌∙◌, subst}
 use mathlib.Core.Bool.{Bool, true, false}
 use mathlib.Core.List.{List, []}
@@ -106,9 +106,6 @@ module _ (p r node_table state_table vs bs : List ℕ) (A : LentArgs p r node_ta
     module _ (f : q.ok ≡ true) where
       found : RootedIs q (roots_given n (take (n * 4) node_table) left)
       found = rooted-some q _ R.result f
-
-      pub rooted-room : q.count ≤ length q.nodes
-      rooted-room = found.room
 
       are : RootsAre n (length left) found.list
       are = R.few found.list found.is

@@ -1,7 +1,7 @@
 -- All parts, one at a time: the rest still to do gives what all of them give.
 --     climbed-none, climbed-some   an answer tells what it was made from
 --     Going                     the invariant
---     going_start, going_done   before the first part, and after the last
+--     going_done                after the last part
 --     states_length             the states handed on are those of the parts before
 --     going-lost, going_next    a part without a result, and one more part
 use Prim.Native.Nat.{ℕ, ◌+◌, ◌*◌, ◌≤◌, ◌<◌}
@@ -11,7 +11,7 @@ use mathlib.Core.List.{List, [], ◌∷◌, ◌++◌}
 use mathlib.Core.Option.{Option, none, some}
 use native.Mathlib.Omega.{arith}
 use native.Mathlib.Numerals.{add-one}
-use lib.ListN.{length, get_or, take, drop, set, replicate, drop_of_length-le, length-set}
+use lib.ListN.{length, get_or, take, drop, set, drop_of_length-le, length-set}
 use lib.Seq.{length-take-le, take-suc, take-suc-set, drop-cons}
 use borrow.Author.Tests.{le-leb}
 use Rattle.trees.specs.Climb.{and_then}
@@ -51,16 +51,6 @@ module _ (n s k : ℕ) (p r node_table state_table ms vs bs : List ℕ) where
     pub rest : handled_from (view_in n s k p r node_table state_table) vs bs [] [] (reached 0 0 0) ms
         ≡ handled_from (view_in n s k p r node_table state_table) vs bs (take i ms) (take i states)
         (reached last links passed) (drop i ms)
-
-  pub going_start : AllArgs n s k p r node_table state_table ms vs bs → Going (replicate 254 0) 0 0 0 0
-  going_start A = record {
-    args = A;
-    upto = omega arith;
-    long = refl;
-    few-links = omega arith;
-    few-passed = omega arith;
-    rest = refl;
-  }
 
   module _ (states : List ℕ) (last links passed i : ℕ) (G : Going states last links passed i) where
     pub going_done : length ms ≤ i

@@ -31,8 +31,7 @@ pub fn all_parts(
     let mut last: u8 = 0;
     let mut links: u32 = 0;
     let mut passed: u32 = 0;
-    let mut i: usize = 0;
-    while i < roots.len() {
+    for i in 0..roots.len() {
         match part(
             n,
             s,
@@ -56,7 +55,6 @@ pub fn all_parts(
                 return Climbed::OutOfRange;
             }
         }
-        i += 1;
     }
     Climbed::Reached(Reached {
         state: last,

@@ -83,10 +83,8 @@ pub fn sets_down(
         → SetsWritten kinds.now labels.now leaves inner.now marks s k first
         cells.new }
 {
-    let mut v = kinds.len();
     let mut set = c;
-    while 0 < v {
-        v -= 1;
+    for v in (0..kinds.len()).rev() {
         set = node_down(kinds, labels, inner, s, k, cells, v, set);
     }
 }

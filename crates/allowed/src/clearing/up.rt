@@ -85,10 +85,7 @@ pub fn pairs_up(
     ensures { UpWritten kinds.now labels.now leaves.now inner.now s k
         (length kinds.now) cells.old cells.new }
 {
-    let n = kinds.len();
-    let mut v: usize = 0;
-    while v < n {
+    for v in 0..kinds.len() {
         node_up(kinds, labels, leaves, inner, s, k, cells, v);
-        v += 1;
     }
 }

@@ -84,9 +84,7 @@ pub fn come_down(
         → DownWritten kinds.now labels.now leaves.now inner.now marks s k 0 first
         cells.new }
 {
-    let mut v = kinds.len();
-    while 0 < v {
-        v -= 1;
+    for v in (0..kinds.len()).rev() {
         node_down(kinds, labels, leaves, inner, s, k, cells, v);
     }
 }

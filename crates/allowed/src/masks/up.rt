@@ -55,11 +55,7 @@ pub fn run_up(
     ensures { UpWritten kinds.now labels.now leaves.now inner.now s k
         (length kinds.now) cells.old cells.new }
 {
-    let n = kinds.len();
-    let mut v: usize = 0;
-    while v < n {
-        let x = node_cell(kinds, labels, leaves, inner, s, k, cells, v);
-        cells[v] = x;
-        v += 1;
+    for v in 0..kinds.len() {
+        cells[v] = node_cell(kinds, labels, leaves, inner, s, k, cells, v);
     }
 }

@@ -43,7 +43,7 @@ use Rattle.tables.specs.declared.answers.Checking.{Checking}
 use Rattle.tables.specs.declared.answers.Checking.TheVariants.{Yes}
 use Rattle.tables.specs.Answers.{building_number, BuildDone, CheckDone}
 use Rattle.tables.proofs.BuildLaws.{built-as-built}
-use Rattle.tables.proofs.CheckTheorems.{check-yes, yes-check, build_number}
+use Rattle.tables.proofs.CheckTheorems.{check-yes, yes-check}
 use Rattle.branches.specs.declared.answers.Reading.{Reading}
 use Rattle.branches.specs.declared.answers.Reading.TheVariants.{BelowUpper}
 use Rattle.branches.specs.declared.answers.Branching.TheVariants.{Answered}

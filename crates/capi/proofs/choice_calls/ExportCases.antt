@@ -1,26 +1,25 @@
 -- The ways out of `whatif_count`.
---     header-there, copy-args    what the code after an accepted reply requires
+--     header-there, most_states    what the code after an accepted reply requires
 --     refused-exported, short-exported, counted-exported   one for each way out
 use Prim.Native.Nat.{ℕ, ◌+◌, ◌≤◌, ◌<◌}
 use mathlib.Core.Path.{◌≡◌, refl, sym, ap, ◌∙◌, subst}
-use mathlib.Core.Bool.{Bool, true, false, cond}
-use mathlib.Core.List.{List, [], ◌∷◌, ◌++◌}
+use mathlib.Core.Bool.{true}
+use mathlib.Core.List.{List, [], ◌∷◌}
 use native.Mathlib.Omega.{arith}
-use lib.Dec.{leb, eqb}
-use lib.ListN.{length, take, drop}
+use lib.Dec.{leb}
+use lib.ListN.{length}
 use borrow.Author.Tests.{le-leb, lt-leb}
-use Rattle.list_laws.proofs.RowLaws.{length-tabulate}
 use Rattle.formats.specs.Rules.{state_count}
-use Rattle.formats.specs.Checks.{Check, check, first_no}
+use Rattle.formats.specs.Checks.{check, first_no}
 use Rattle.formats.specs.Buffers.{headed_buffers_fit, rule_tables}
 use Rattle.formats.proofs.BufferLaws.{Headed, headed-are}
 use Rattle.formats.proofs.CheckLaws.{Numbered, first_no-append-zero, first_no-append-no, first_no-append-left, first_no-yes}
 use Rattle.formats.proofs.CheckLaws.{first_no-no, first_no-none}
-use Rattle.choices.specs.question_counts.CountOn.{count_view, roots_in, list_in, is_countable, listed_checks, count_checks, count_number}
+use Rattle.choices.specs.question_counts.CountOn.{count_view, is_countable, listed_checks, count_checks, count_number}
 use Rattle.choices.proofs.question_counts.BuiltCounts.{fit-17}
 use Rattle.choices.specs.declared.count.Counted.{Counted}
-use Rattle.choices.specs.Promise.{refused_with, counted_at, count_result, CountDone}
-use Rattle.list_laws.specs.Copying.{over_buffer, CopyArgs}
+use Rattle.choices.specs.Promise.{count_result, CountDone}
+use Rattle.list_laws.specs.Copying.{over_buffer}
 use Rattle.capi.specs.choice_calls.CountExported.{exported_checks, CountExported}
 
 module _ (p r node_table state_table vs : List ℕ) where
@@ -49,25 +48,12 @@ module _ (p r node_table state_table vs : List ℕ) where
     pub header-there : a.answer ≡ 0 → 0 + 4 ≤ length r
     header-there z = omega (arith, (headed z).headers.table-long)
 
-    sixteen : length a.counts ≡ 16
-    unfolding count_result
-    sixteen = ap (λ (x : Counted). length x.counts) D.result
-        ∙ either (eqb (count_number p r node_table state_table vs) 0)
-      where
-        either : (b : Bool)
-            → length (cond b (counted_at (count_view p r node_table state_table) vs
-            (list_in (roots_in (count_view p r node_table state_table) vs)))
-            (refused_with (count_number p r node_table state_table vs))).counts ≡ 16
-        either true = length-tabulate 16 _
-        either false = refl
-
     done : CountDone p r node_table state_table vs (count_result p r node_table state_table vs)
     done = subst (λ (x : Counted). CountDone p r node_table state_table vs x) D.result D
 
     -- s is the count of states as it was read
-    pub copy-args : a.answer ≡ 0 → (s : ℕ) → s ≡ state_count r → (d : List ℕ) → s ≤ length d → CopyArgs 16 a.counts s d
-    copy-args z s e d h =
-        record { wide = sixteen; few = omega (arith, e, (headed z).headers.in-limits.few); room = h }
+    pub most_states : a.answer ≡ 0 → (s : ℕ) → s ≡ state_count r → s ≤ 16
+    most_states z s e = omega (arith, e, (headed z).headers.in-limits.few)
 
     -- ---- the ways out
 

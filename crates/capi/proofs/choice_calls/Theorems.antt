@@ -3,12 +3,12 @@
 --                       definition by trying all"
 --     count-sum         "and their sum is K to the power m"
 --     count-as-asked    "the parts and links told are those of a question whose W is these nodes and the root"
-use Prim.Native.Nat.{ℕ, ◌-◌, ◌^◌, ◌≤◌, ◌<◌}
+use Prim.Native.Nat.{ℕ, ◌-◌, ◌^◌, ◌≤◌}
 use mathlib.Core.Path.{◌≡◌, refl, sym, ap, ◌∙◌}
 use mathlib.Core.List.{List, [], ◌∷◌, ◌++◌}
 use native.Mathlib.Omega.{arith}
 use lib.Dec.{leb}
-use lib.ListN.{length, get_or, take, drop}
+use lib.ListN.{length, take, drop}
 use lib.Seq.{get_or-take, length-take-le}
 use Rattle.list_laws.specs.Rows.{tabulate}
 use Rattle.list_laws.proofs.RowLaws.{length-tabulate, get_d_tabulate, tabulate-of}

@@ -1,9 +1,9 @@
 -- The ways out of `whatif_lay_over`.
---     accepted-is, count_most, nodes-args, labels-args   what an accepted reply holds, and what its copies require
+--     accepted-is, count_most   what an accepted reply holds
 --     refused-exported, nodes-short, labels-short, laid-exported   one for each way out
 use Prim.Native.Nat.{ℕ, ◌≤◌, ◌<◌}
-use mathlib.Core.Path.{◌≡◌, refl, sym, ap, ap₂, ◌∙◌, subst}
-use mathlib.Core.Bool.{Bool, true, false, ◌&&◌}
+use mathlib.Core.Path.{◌≡◌, refl, sym, ap, ◌∙◌}
+use mathlib.Core.Bool.{Bool, false, ◌&&◌}
 use mathlib.Core.List.{List, [], ◌∷◌, ◌++◌}
 use native.Mathlib.Omega.{arith}
 use lib.Dec.{leb}
@@ -16,9 +16,9 @@ use Rattle.changes.specs.Entries.{nodes_listed, labels_listed}
 use Rattle.changes.specs.LayOver.{padded, laid, lay_checks, lay_number, laid_reply, lay_reply, laying_number, LayDone}
 use Rattle.changes.specs.declared.LaidOver.{LaidOver}
 use Rattle.changes.proofs.EntryLaws.{length-nodes, length-labels}
-use Rattle.changes.proofs.StoredLaws.{length-padded, take-padded}
+use Rattle.changes.proofs.StoredLaws.{take-padded}
 use Rattle.changes.proofs.Theorems.{lay-zero}
-use Rattle.list_laws.specs.Copying.{over_buffer, CopyArgs}
+use Rattle.list_laws.specs.Copying.{over_buffer}
 use Rattle.capi.specs.list_calls.ListsExported.{exported_checks, LayExported}
 
 checks-numbered : (lvs lbs uvs ubs : List ℕ) → Numbered (lay_checks lvs lbs uvs ubs)
@@ -39,24 +39,6 @@ module _ (lvs lbs uvs ubs : List ℕ) (r : LaidOver) (D : LayDone lvs lbs uvs ub
 
   pub count_most : m ≡ 0 → r.count ≤ 64
   count_most z = omega (arith, count-length z, (lay-zero lvs lbs uvs ubs (passed z)).remain)
-
-  pub nodes-args : m ≡ 0 → (d : List ℕ) → r.count ≤ length d → CopyArgs 64 r.nodes r.count d
-  nodes-args z d h = record {
-    wide = ap (λ (x : LaidOver). length x.nodes) (accepted-is z)
-        ∙ length-padded (nodes_listed (laid lvs lbs uvs ubs))
-        (omega (arith, length-nodes (laid lvs lbs uvs ubs), count-length z, count_most z));
-    few = count_most z;
-    room = h;
-  }
-
-  pub labels-args : m ≡ 0 → (d : List ℕ) → r.count ≤ length d → CopyArgs 64 r.labels r.count d
-  labels-args z d h = record {
-    wide = ap (λ (x : LaidOver). length x.labels) (accepted-is z)
-        ∙ length-padded (labels_listed (laid lvs lbs uvs ubs))
-        (omega (arith, length-labels (laid lvs lbs uvs ubs), count-length z, count_most z));
-    few = count_most z;
-    room = h;
-  }
 
   nodes-over : m ≡ 0 → (d : List ℕ)
       → over_buffer r.count r.nodes d ≡ nodes_listed (laid lvs lbs uvs ubs) ++ drop (length (laid lvs lbs uvs ubs)) d

@@ -5,15 +5,15 @@
 --     refused-keeps      a refused one leaves both buffers and the count unchanged
 --     told-associative   "laying over is associative", of what four accepted calls hand back
 use Prim.Native.Nat.{ℕ}
-use mathlib.Core.Path.{◌≡◌, refl, sym, ap, ap₂, ◌∙◌, subst}
-use mathlib.Core.List.{List, ◌++◌}
+use mathlib.Core.Path.{◌≡◌, refl, sym, ap, ap₂, ◌∙◌}
+use mathlib.Core.List.{List}
 use lib.ListN.{length, take, drop}
 use lib.Seq.{take_at}
 use contract.Lifetimes.{Lfts}
 use borrow.Fn.World.{ArgsD, ResD}
 use borrow.Fn.Kinds.{ended_of}
 use denote.Triple.Clauses.{AtExit}
-use Rattle.changes.specs.Entries.{Entry, nodes_listed, labels_listed}
+use Rattle.changes.specs.Entries.{nodes_listed, labels_listed}
 use Rattle.changes.specs.LayOver.{laid}
 use Rattle.changes.proofs.EntryLaws.{length-nodes, length-labels}
 use Rattle.changes.proofs.Theorems.{one-result}

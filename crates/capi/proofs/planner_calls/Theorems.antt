@@ -3,22 +3,21 @@
 --     out-restores-plan     a plan that went home goes out from its file, byte for byte, where there is room for it
 --     home-accepts          home accepts exactly the plans of acceptable files, where the output is long enough
 use Prim.Native.Nat.{ℕ, ◌+◌, ◌*◌, ◌≤◌}
-use mathlib.Core.Path.{◌≡◌, refl, sym, ap, ap₂, ◌∙◌, subst}
-use mathlib.Core.Bool.{Bool, true, ◌&&◌}
+use mathlib.Core.Path.{◌≡◌, sym, ap, ap₂, ◌∙◌, subst}
+use mathlib.Core.Bool.{true}
 use mathlib.Core.List.{List, ◌++◌}
 use mathlib.Core.Logic.{◌↔◌}
 use native.Mathlib.Omega.{arith}
-use lib.Dec.{eqb, leb}
 use lib.ListN.{length, drop}
 use borrow.Author.Tests.{eq-eqb, le-leb}
 use Rattle.list_laws.specs.Tests.{all_below}
 use Rattle.list_laws.proofs.BoolLaws.{and_both}
-use Rattle.trees.specs.Tree.{Tree, size}
+use Rattle.trees.specs.Tree.{Tree}
 use Rattle.formats.specs.Plan.{plan_length, plan_tree, plan_bytes}
 use Rattle.formats.specs.Checks.{first_no, plan_checks}
 use Rattle.formats.proofs.PlanTrees.{tree-plan, length-plan_bytes}
 use Rattle.planner.specs.Siblings.{Siblings, count, pre_labels, image, unimage, empty_label}
-use Rattle.planner.specs.File.{file_count, file_length, label_run, file_tree, file_bytes, well_formed, out_room, is_image}
+use Rattle.planner.specs.File.{file_count, file_length, label_run, file_tree, file_bytes, well_formed, out_room}
 use Rattle.planner.specs.File.{comes_from_file}
 use Rattle.planner.specs.Conversion.{plan_of, file_of, Acceptable, GoesHome}
 use Rattle.planner.proofs.FileTrees.{WellFormed, formed-well, read-file, file-tree, length-file, tree-file}

@@ -2,14 +2,14 @@
 --     merge-exported          whatif_merge, from the answer's promise
 --     count_most, lines-args  a reply has at most 256 lines, and its arrays are there whole
 --     refused-exported, short-exported, agree-exported    whatif_agree: refused, the lines do not fit, accepted
-use Prim.Native.Nat.{ℕ, zero, suc, ◌+◌, ◌*◌, ◌≤◌, ◌<◌}
-use mathlib.Core.Path.{◌≡◌, refl, sym, ap, ◌∙◌, subst}
+use Prim.Native.Nat.{ℕ, ◌*◌, ◌≤◌, ◌<◌}
+use mathlib.Core.Path.{◌≡◌, refl, sym, ap, ◌∙◌}
 use mathlib.Core.Bool.{Bool, cond}
-use mathlib.Core.List.{List, ◌++◌}
+use mathlib.Core.List.{List}
 use native.Mathlib.Decide.{dec_lt}
 use native.Mathlib.Omega.{arith}
-use lib.Dec.{eqb, leb}
-use lib.ListN.{length, drop}
+use lib.Dec.{eqb}
+use lib.ListN.{length}
 use borrow.Author.Tests.{eq-eqb, ne_eqb, le-leb, lt-leb}
 use Rattle.list_laws.proofs.RowLaws.{length-tabulate}
 use Rattle.products.specs.declared.merging.MergeAnswer.{MergeAnswer}
@@ -19,7 +19,7 @@ use Rattle.products.proofs.merging.WriteLaws.{written_all}
 use Rattle.products.specs.agreement.Lines.{Line}
 use Rattle.products.proofs.agreement.reachable.RecordLaws.{length-lines}
 use Rattle.products.specs.declared.agreement.Agreement.{Agreement}
-use Rattle.products.specs.agreement.Reply.{column, lines_in, shown_reply, reply_of, AgreeDone}
+use Rattle.products.specs.agreement.Reply.{column, shown_reply, reply_of, AgreeDone}
 use Rattle.capi.specs.product_calls.Exported.{MergeExported, LinesArgs, lines_for, agree_number, AgreeExported}
 
 pub merge-exported : (first second out : List ℕ) (a : MergeAnswer) (out' : List ℕ) → MergeDone first second out a out'

@@ -3,10 +3,10 @@
 --     LinesLoop                        the invariant of put_lines: i lines are written
 --     lines_start, lines-call, lines_next, lines-done    its start, what a line requires, one line more, its end
 use Prim.Native.Nat.{ℕ, suc, ◌+◌, ◌*◌, ◌≤◌, ◌<◌}
-use mathlib.Core.Path.{◌≡◌, refl, sym, ap, ap₂, ◌∙◌, subst}
-use mathlib.Core.List.{List, [], ◌∷◌, ◌++◌}
+use mathlib.Core.Path.{◌≡◌, refl, sym, ap, ap₂, ◌∙◌}
+use mathlib.Core.List.{List, [], ◌∷◌}
 use native.Mathlib.Omega.{arith}
-use lib.ListN.{length, get_or, set}
+use lib.ListN.{length, set}
 use Rattle.list_laws.specs.Rows.{rows}
 use Rattle.list_laws.proofs.RowLaws.{length-rows}
 use Rattle.products.specs.merging.Writes.{written}

@@ -4,13 +4,13 @@
 --     agree-exactly      accepted, 1 is replied exactly where every plan gets the same answer from both tables
 --     agree-separates    accepted with lines, they are a separating plan of at most 256 lines, of least height
 --     agree-untouched    where 1 is replied the lines are as they were
-use Prim.Native.Nat.{ℕ, ◌+◌, ◌*◌, ◌≤◌, ◌<◌}
-use mathlib.Core.Path.{◌≡◌, refl, sym, ap, ◌∙◌, subst}
+use Prim.Native.Nat.{ℕ, ◌+◌, ◌*◌, ◌<◌}
+use mathlib.Core.Path.{◌≡◌, sym, ap, ◌∙◌, subst}
 use mathlib.Core.Bool.{Bool, cond, ◌&&◌}
-use mathlib.Core.List.{List, [], ◌++◌}
+use mathlib.Core.List.{List, ◌++◌}
 use native.Mathlib.Decide.{ℕ_discrete}
 use native.Mathlib.Omega.{arith}
-use lib.Dec.{eqb, leb}
+use lib.Dec.{leb}
 use lib.ListN.{length, drop}
 use borrow.Author.Tests.{eq-eqb, ne_eqb}
 use Rattle.trees.specs.Tree.{Tree}
@@ -22,9 +22,8 @@ use Rattle.products.specs.merging.Merged.{merged_bytes}
 use Rattle.products.proofs.merging.MergedTheorem.{merged-accepts}
 use Rattle.products.proofs.merging.Theorems.{Mergeable, accepted-mergeable}
 use Rattle.products.specs.agreement.Agreement.{Agree, Separates}
-use Rattle.products.specs.declared.agreement.Agreement.{Agreement}
-use Rattle.products.specs.agreement.Reply.{lines_in, AgreeDone}
-use Rattle.capi.specs.product_calls.Exported.{MergeExported, line_numbers, lines_for, agree_number, AgreeExported}
+use Rattle.products.specs.agreement.Reply.{lines_in}
+use Rattle.capi.specs.product_calls.Exported.{MergeExported, line_numbers, agree_number, AgreeExported}
 
 -- "one table that clears exactly the plans that both clear"
 pub merge-clears : (first second out : List ℕ) (r : ℕ) (out' : List ℕ) → MergeExported first second out r out' → r ≡ 0

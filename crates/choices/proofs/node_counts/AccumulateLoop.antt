@@ -8,10 +8,9 @@ use native.Mathlib.Omega.{arith}
 use native.Mathlib.Nat.{add-mul}
 use lib.Arith.{digits_lt}
 use lib.Dec.{eqb}
-use lib.ListN.{length, get_or, set, length-set}
+use lib.ListN.{get_or, set, length-set}
 use lib.Seq.{get_or-set_same, get_or-set_other}
 use borrow.Author.Tests.{eq-eqb, ne_eqb}
-use Rattle.formats.proofs.PlanLaws.{product-most}
 use Rattle.choices.specs.assignments.Sums.{sum_to, one}
 use Rattle.choices.specs.node_counts.Capped.{capped}
 use Rattle.choices.specs.node_counts.Join.{led_to, ways_to, TableArgs, Kept, AccumulateArgs, Accumulated}
@@ -63,22 +62,8 @@ module _ (f : List ℕ) (s k i e p q x : ℕ) (l₀ l : List ℕ) (b : ℕ) (L :
     row : p * k + b < s * k
     row = digits_lt L.args.left (omega (arith, T.labels, h))
 
-    pub accumulating-row : p * k + b < 65536
-    accumulating-row = omega (arith, row, product-most s k 16 64 T.states_most T.labels_most)
-
     cell : (p * k + b) * s + q < s * k * s
     cell = digits_lt row L.args.right
-
-    pub accumulating-cell : (p * k + b) * s + q < 65536
-    accumulating-cell =
-        omega (
-          arith,
-          cell,
-          product-most (s * k) s 1024 16 (product-most s k 16 64 T.states_most T.labels_most) T.states_most,
-        )
-
-    pub accumulating-in : (p * k + b) * s + q < length f
-    accumulating-in = omega (arith, cell, T.room)
 
     pub accumulating-state : led_to f s k p q b < 16
     accumulating-state = T.below ((p * k + b) * s + q)
@@ -103,15 +88,6 @@ module _ (f : List ℕ) (s k i e p q x : ℕ) (l₀ l : List ℕ) (b : ℕ) (L :
           ∙ (let d = add-mul (sum_to (b - i) g) (one c (led_to f s k p q b)) x in
           let u = ap (λ (z : ℕ). z * x) v in omega (arith, d, u));
     }
-
-pub accumulate-none : (f : List ℕ) (s k i e p q x : ℕ) (l : List ℕ) → AccumulateArgs f s k i e p q x l → x ≡ 0
-    → Accumulated f s k i e p q x l l
-accumulate-none f s k i e p q x l A z = record {
-  kept = A.kept;
-  counts = λ c h.
-      let w = ap (λ (m : ℕ). ways_to f s k i e p q c * m) z in
-      omega (arith, A.kept.most c, w);
-}
 
 pub accumulating-done : (f : List ℕ) (s k i e p q x : ℕ) (l₀ l : List ℕ) (b : ℕ) → Pouring f s k i e p q x l₀ l b → e ≤ b
     → Accumulated f s k i e p q x l₀ l

@@ -13,7 +13,6 @@ use Rattle.tables.specs.declared.answers.Reached.{Reached}
 use Rattle.tables.specs.declared.answers.Climbed.TheVariants.{Reached as To, OutOfRange}
 use Rattle.tables.specs.Climbs.{View, climb_on, climbed_of}
 use Rattle.tables.specs.inner.PathViews.{path_view}
-use Rattle.tables.specs.inner.Steps.{ClimbArgs}
 use Rattle.tables.proofs.ClimbBounds.{climb-bounded}
 use Rattle.choices.specs.assignments.Sums.{sum_to, one}
 use Rattle.list_laws.proofs.BoolLaws.{and_both, and-no-left, and-no-right}
@@ -63,9 +62,6 @@ module _ (n s k : ℕ) (ls inn node_table state_table : List ℕ) (h t : ℕ) (r
   }
 
   module _ (l : List ℕ) (links q : ℕ) (L : Carrying l links q) (hq : q < s) where
-    pub carry-climb : ClimbArgs n s k ls inn node_table state_table h q
-    carry-climb = record { path = L.args.path; at = L.args.at; state = hq }
-
     -- a climb that ends in a state
     module _ (x : Reached) (e : To x ≡ climbed_of (climb_on X h t q)) where
       is : climb_on X h t q ≡ some x

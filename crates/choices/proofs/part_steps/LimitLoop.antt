@@ -1,14 +1,13 @@
 -- One iteration of assignments_fit, its start and its ends.
 use Prim.Native.Nat.{ℕ, zero, suc, ◌+◌, ◌-◌, ◌*◌, ◌/◌, ◌^◌, ◌≤◌, ◌<◌}
 use mathlib.Core.Path.{◌≡◌, sym, ap, ◌∙◌}
-use mathlib.Core.Bool.{true, false}
+use mathlib.Core.Bool.{false}
 use native.Mathlib.Omega.{arith}
 use native.Mathlib.Numerals.{add-one}
-use native.Mathlib.Nat.{mul-le-mul_right, add-mul, mul_comm, div-add-mod', mod-lt, pow-zero, pow-succ'}
+use native.Mathlib.Nat.{mul-le-mul_right, add-mul, mul_comm, div-add-mod', mod-lt, pow-succ'}
 use lib.Dec.{leb}
-use borrow.Author.Tests.{le-leb, lt-leb}
+use borrow.Author.Tests.{lt-leb}
 use Rattle.choices.specs.node_counts.Capped.{count_limit}
-use Rattle.choices.proofs.node_counts.CappedLaws.{product-within}
 
 product-over : (a b : ℕ) → 0 < b → count_limit / b < a → count_limit < a * b
 product-over a b h l =
@@ -38,24 +37,10 @@ pub record Powering (k m p i : ℕ) : Type 0 where
   pub is : p ≡ k ^ i
   pub most : p ≤ count_limit
 
-pub power-start : (k m : ℕ) → 1 ≤ k → Powering k m 1 0
-power-start k m h = record { some-label = h; upto = omega arith; is = sym (pow-zero k); most = omega arith }
-
 module _ (k m p i : ℕ) (L : Powering k m p i) where
   module _ (h : i < m) where
     next-is : p * k ≡ k ^ (i + 1)
     next-is = mul_comm p k ∙ ap (λ (x : ℕ). k * x) L.is ∙ sym (ap (λ (n : ℕ). k ^ n) (add-one i) ∙ pow-succ' k i)
-
-    pub power-fits : p ≤ count_limit / k → p * k ≤ count_limit
-    power-fits f = product-within p k (omega (arith, L.some-label)) f
-
-    pub power-next : p ≤ count_limit / k → Powering k m (p * k) (i + 1)
-    power-next f = record {
-      some-label = L.some-label;
-      upto = omega arith;
-      is = next-is;
-      most = power-fits f;
-    }
 
     pub power-over : count_limit / k < p → false ≡ leb (k ^ m) count_limit
     power-over f =
@@ -68,8 +53,3 @@ module _ (k m p i : ℕ) (L : Powering k m p i) where
           power-up k L.some-label (i + 1) (m - (i + 1)),
           ap (λ (n : ℕ). k ^ n) e,
         )))
-
-  pub power-done : m ≤ i → true ≡ leb (k ^ m) count_limit
-  power-done h =
-      let e : i ≡ m = omega (arith, L.upto) in
-      sym (le-leb (k ^ m) count_limit (omega (arith, L.is, L.most, ap (λ (n : ℕ). k ^ n) e)))

@@ -1,15 +1,14 @@
--- What copy_row and side_counts promise, at each way out.
-use Prim.Native.Nat.{ℕ, suc, ◌+◌, ◌-◌, ◌*◌, ◌≤◌, ◌<◌}
+-- What side_counts promises, at each way out.
+use Prim.Native.Nat.{ℕ, suc, ◌-◌, ◌*◌, ◌≤◌, ◌<◌}
 use mathlib.Core.Path.{◌≡◌, refl, sym, ap, ◌∙◌}
-use mathlib.Core.Bool.{Bool, true, false}
+use mathlib.Core.Bool.{true, false}
 use mathlib.Core.List.{List}
 use mathlib.Core.Option.{Option, none, some}
 use native.Mathlib.Decide.{ℕ_discrete}
 use native.Mathlib.Omega.{arith}
-use lib.Dec.{ltb}
-use lib.ListN.{length, get_or, set, length-set, get_or-eq_default}
+use lib.ListN.{get_or, set, length-set}
 use lib.Seq.{get_or-set_same, get_or-set_other}
-use borrow.Author.Tests.{lt-ltb, le-ltb, eq-eqb, ne_eqb, ltb-true, ltb-false}
+use borrow.Author.Tests.{lt-ltb, le-ltb, eq-eqb, ne_eqb}
 use Rattle.tables.specs.StateCells.{state_cell}
 use Rattle.tables.specs.declared.answers.Reached.{Reached}
 use Rattle.tables.specs.Climbs.{View, below, run_on, climb_on}
@@ -18,55 +17,9 @@ use Rattle.tables.proofs.LookupLaws.{below-yes, below-no, below-state, below_non
 use Rattle.tables.proofs.ClimbBounds.{climb-bounded}
 use Rattle.choices.specs.assignments.Sums.{sum_to, one}
 use Rattle.choices.proofs.assignments.SumLaws.{sum-ext}
-use Rattle.choices.specs.node_counts.Capped.{count_limit}
 use Rattle.choices.specs.declared.part_steps.carry.Carried.{Carried}
 use Rattle.choices.specs.part_steps.Carry.{links_in, arrives_at, CarryArgs, CarriedUp}
-use Rattle.choices.specs.part_steps.Side.{count_in, side_ok, side_links, side_count, RowArgs, RowCopied, SideArgs, SideDone}
-
--- ---- copy_row
-
-module _ (cs : List ℕ) (i : ℕ) (l₀ : List ℕ) where
-  pub record Copying (l : List ℕ) (c : ℕ) : Type 0 where
-    pub args : RowArgs cs i l₀
-    pub upto : c ≤ 16
-    pub sixteen : length l ≡ 16
-    pub counts : (j : ℕ) → j < c → get_or l j 0 ≡ count_in cs i j
-
-  pub copy_start : RowArgs cs i l₀ → Copying l₀ 0
-  copy_start A = record {
-    args = A;
-    upto = omega arith;
-    sixteen = A.sixteen;
-    counts = λ j h. absurd (omega arith);
-  }
-
-  pub copy-next : (l : List ℕ) (c : ℕ) → Copying l c → c < 16 → Copying (set l c (count_in cs i c)) (c + 1)
-  copy-next l c L h = record {
-    args = L.args;
-    upto = omega arith;
-    sixteen = length-set l c _ ∙ L.sixteen;
-    counts = λ j g. elim (ℕ_discrete j c) [
-      | yes e ↦ ap (λ (z : ℕ). get_or (set l c (count_in cs i c)) z 0) e
-          ∙ get_or-set_same l c (count_in cs i c) 0 (omega (arith, L.sixteen)) ∙ ap (count_in cs i) (sym e)
-      | no e ↦ get_or-set_other l c j (count_in cs i c) 0 e ∙ L.counts j (omega arith)
-    ];
-  }
-
-  pub copy_done : (l : List ℕ) (c : ℕ) → Copying l c → 16 ≤ c → RowCopied cs i l
-  copy_done l c L h = record {
-    kept = record { sixteen = L.sixteen; most = most };
-    counts = λ j g. L.counts j (omega arith);
-  }
-    where
-      most : (j : ℕ) → get_or l j 0 ≤ count_limit
-      most j = go (ltb j 16) refl
-        where
-          go : (b : Bool) → ltb j 16 ≡ b → get_or l j 0 ≤ count_limit
-          go true e = omega (arith, L.counts j (omega (arith, ltb-true j 16 e)), L.args.most (i * 16 + j))
-          go false e =
-              omega (arith, get_or-eq_default l 0 {n = j} (omega (arith, ltb-false j 16 e, L.sixteen)))
-
--- ---- side_counts
+use Rattle.choices.specs.part_steps.Side.{count_in, side_ok, side_links, side_count, RowCopied, SideArgs, SideDone}
 
 no-yes : (A : Type 0) → false ≡ true → A
 no-yes A e = absurd (let z : ◌≡◌ {A = ℕ} 0 1 = cc in omega arith)

@@ -24,11 +24,9 @@ pub fn accumulate(
     if x == 0 {
         return;
     }
-    let mut b = from;
-    while b < to {
+    for b in from..to {
         let d = inner[(p * k + b) * s + q] as usize;
         out[d] = capped_add(out[d], x);
-        b += 1;
     }
 }
 
@@ -48,11 +46,9 @@ pub fn join_row(
     ensures { RowJoined inner.now s k from to p x right.now out.old
         out.new }
 {
-    let mut q = 0;
-    while q < s {
+    for q in 0..s {
         let y = capped_times(right[q], x);
         accumulate(inner, s, k, from, to, p, q, y, out);
-        q += 1;
     }
 }
 
@@ -72,9 +68,7 @@ pub fn join(
     ensures { Joined inner.now s k from to left.now right.now out.old
         out.new }
 {
-    let mut p = 0;
-    while p < s {
+    for p in 0..s {
         join_row(inner, s, k, from, to, p, left[p], right, out);
-        p += 1;
     }
 }

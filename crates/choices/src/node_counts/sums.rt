@@ -11,11 +11,7 @@ pub fn capped_add(a: u64, b: u64) -> u64
     requires b_le_count_limit { b ≤ count_limit }
     ensures { result ≡ capped (a + b) }
 {
-    let r = a + b;
-    if COUNT_LIMIT < r {
-        return COUNT_LIMIT;
-    }
-    r
+    (a + b).min(COUNT_LIMIT)
 }
 
 // a × b, at most the limit.

@@ -35,8 +35,7 @@ pub fn carry_counts(
         state_table.now) from to row.now out.old result out.new }
 {
     let mut links: u32 = 0;
-    let mut q: usize = 0;
-    while q < s {
+    for q in 0..s {
         match climb_state(labels, inner, node_table, state_table, n, s, k, from, to, q) {
             Climbed::Reached(x) => {
                 let d = x.state as usize;
@@ -50,7 +49,6 @@ pub fn carry_counts(
                 };
             }
         }
-        q += 1;
     }
     Carried { ok: true, links }
 }

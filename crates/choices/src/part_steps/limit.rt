@@ -10,13 +10,11 @@ pub fn assignments_fit(k: u64, m: usize) -> bool
     ensures { result ≡ leb (k ^ m) count_limit }
 {
     let mut p: u64 = 1;
-    let mut i: usize = 0;
-    while i < m {
+    for i in 0..m {
         if COUNT_LIMIT / k < p {
             return false;
         }
-        p = p * k;
-        i += 1;
+        p *= k;
     }
     true
 }

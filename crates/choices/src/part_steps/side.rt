@@ -12,11 +12,8 @@ pub fn copy_row(table: &[u64], i: usize, out: &mut [u64; STATE_LIMIT])
     requires { RowArgs table.now i out.old }
     ensures { RowCopied table.now i out.new }
 {
-    let mut c: usize = 0;
-    while c < STATE_LIMIT {
-        out[c] = table[i * STATE_LIMIT + c];
-        c += 1;
-    }
+    let at = i * STATE_LIMIT;
+    out.copy_from_slice(&table[at..at + STATE_LIMIT]);
 }
 
 // The counts at child c, at depth `to`, where `own` is the place from 1 of the last earlier root below c and `other`

@@ -1,7 +1,7 @@
 -- The trials of target states, one by one.
 --     test-uncoloured, test-lost, test-end   one trial, by what its look-up and its descent give
 --     Trying                                 the loop's state: the searches so far, and the same answer from here
---     trying_start, -lost, -found, -on, -end before the first trial, and by what comes of each
+--     trying-lost, -found, -on, -end         by what comes of each trial
 use Prim.Native.Nat.{ℕ, zero, suc, ◌+◌, ◌-◌, ◌*◌, ◌^◌, ◌≤◌, ◌<◌}
 use mathlib.Core.Path.{◌≡◌, refl, sym, ap, ap₂, ◌∙◌, subst}
 use mathlib.Core.Bool.{Bool, true, false, cond}
@@ -128,10 +128,6 @@ module _ (n m : ℕ) (numbers copies : List ℕ) (c w q x : ℕ) (A : TargetArgs
 
 -- ---- all trials
 
-none_before : (o : Option Tried) → o ≡ after_trial [] o
-none_before none = refl
-none_before (some r) = refl
-
 one_more : (ls ks : List ℕ) (o : Option Tried) → after_trial ls (after_trial ks o) ≡ after_trial (ls ++ ks) o
 one_more ls ks none = refl
 one_more ls ks (some r) = ap (λ (l : List ℕ). some (tried r.state l)) (sym (append_assoc ls ks r.searches))
@@ -149,18 +145,6 @@ module _ (s : ℕ) (T : ColourTable) (rows : ℕ → List ℕ) (c w q : ℕ) whe
     pub falls : drops ≤ x * 15
     pub few : links ≤ drops * 65535
     pub rest : try_from T rows c w q s 0 ≡ after_trial searches (try_from T rows c w q (s - x) x)
-
-  pub trying_start : Trying 0 0 0
-  trying_start = record {
-    searches = [];
-    number = refl;
-    total = refl;
-    upto = omega arith;
-    falls = omega arith;
-    few = omega arith;
-    rest = none_before (try_from T rows c w q s 0)
-        ∙ ap (λ (f : ℕ). after_trial [] (try_from T rows c w q f 0)) (let e : s ≡ s - 0 = omega arith in e);
-  }
 
   nothing : try_from T rows c w q s 0 ≡ none → TargetsDone s T rows c w q NoState
   unfolding trial_of

@@ -35,8 +35,7 @@ pub fn all_by_colours(
     let mut last: u8 = 0;
     let mut drops: u32 = 0;
     let mut links: u32 = 0;
-    let mut i: usize = 0;
-    while i < roots.len() {
+    for (i, root) in roots.iter().enumerate() {
         let t = part_by_colours(
             labels,
             kinds,
@@ -54,7 +53,7 @@ pub fn all_by_colours(
             &states[..i],
             nodes,
             changes,
-            roots[i] as usize,
+            *root as usize,
         );
         match t {
             Trial::NoState => {
@@ -65,7 +64,6 @@ pub fn all_by_colours(
                 states[i] = q;
                 drops += d;
                 links += l;
-                i += 1;
             }
         }
     }

@@ -73,8 +73,7 @@ pub fn try_targets(
 {
     let mut drops: u32 = 0;
     let mut links: u32 = 0;
-    let mut x: usize = 0;
-    while x < s {
+    for x in 0..s {
         match try_target(numbers, copies, n, m, c, w, q, x) {
             Tested::NotEnded => {
                 return Trial::NoState;
@@ -85,7 +84,6 @@ pub fn try_targets(
                 if holds {
                     return Trial::State(x as u8, drops, links);
                 }
-                x += 1;
             }
         }
     }

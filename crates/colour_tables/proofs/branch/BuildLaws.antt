@@ -7,14 +7,14 @@
 --     built-coloured           the buffers afterwards are as built, with any excess
 use Prim.Native.Nat.{ℕ, ◌+◌, ◌-◌, ◌*◌, ◌≤◌, ◌<◌}
 use mathlib.Core.Path.{◌≡◌, sym, ap, ap₂, ◌∙◌}
-use mathlib.Core.Bool.{Bool, true, false, not}
+use mathlib.Core.Bool.{Bool, true, false}
 use mathlib.Core.List.{List, [], ◌++◌}
 use native.Mathlib.Omega.{arith}
 use native.Mathlib.Nat.{mul-le-mul}
 use lib.Dec.{leb}
 use lib.ListN.{length, take, drop}
 use lib.Seq.{take_at}
-use borrow.Author.Tests.{le-leb, lt-leb, leb-true, not-true, not-false}
+use borrow.Author.Tests.{le-leb, lt-leb, leb-true}
 use Rattle.list_laws.specs.Tests.{all_below}
 use Rattle.list_laws.proofs.BoolLaws.{and_left, and_right}
 use Rattle.trees.specs.Tree.{Tree, size}
@@ -59,17 +59,17 @@ module _ (p r : List ℕ) (numbers bytes : ℕ) (none : first_no (branch_table_c
   fit_is : colours_fit (node_count p) (state_count r) numbers bytes ≡ x
   fit_is = ap₂ (λ (i j : ℕ). colours_fit i j numbers bytes) (sym a) (sym b) ∙ sym result
 
-  pub room-no : not x ≡ true → 11 ≡ first_no (branch_colour_checks p r numbers bytes)
+  pub room-no : x ≡ false → 11 ≡ first_no (branch_colour_checks p r numbers bytes)
   unfolding branch_colour_checks
   room-no f =
       last-part (branch_table_checks p r) _ (branch-table-numbered p r) none 11
-      (sym (first_no-no 11 (colours_fit (node_count p) (state_count r) numbers bytes) [] (fit_is ∙ not-true x f)))
+      (sym (first_no-no 11 (colours_fit (node_count p) (state_count r) numbers bytes) [] (fit_is ∙ f)))
 
-  pub room-good : not x ≡ false → 0 ≡ first_no (branch_colour_checks p r numbers bytes)
+  pub room-good : x ≡ true → 0 ≡ first_no (branch_colour_checks p r numbers bytes)
   unfolding branch_colour_checks
   room-good f =
       last-part (branch_table_checks p r) _ (branch-table-numbered p r) none 0
-      (sym (first_no-yes 11 (colours_fit (node_count p) (state_count r) numbers bytes) [] (fit_is ∙ not-false x f)
+      (sym (first_no-yes 11 (colours_fit (node_count p) (state_count r) numbers bytes) [] (fit_is ∙ f)
       ∙ first_no-none))
 
 -- ---- where all checks pass

@@ -1,7 +1,7 @@
 -- The cells of a row and of the table it is put into.
 --     below-marked, -none, -same, next-root, next-below   the row of a node, by the tests on the way
 --     part_length                                         a colour's table among all numbers
---     put-cell, put-apart, put-length                     what is in the numbers after a row was put into them
+--     put-cell, put-apart                                 what is in the numbers after a row was put into them
 --     colour-none, colour-put, colour-length              the same for a colour's table
 use Prim.Native.Nat.{ℕ, zero, suc, ◌+◌, ◌*◌, ◌≤◌, ◌<◌}
 use mathlib.Core.Path.{◌≡◌, ap, ◌∙◌}
@@ -59,11 +59,6 @@ module _ (b : List ℕ) (at : ℕ) (r : Row) (l : ℕ) where
 
   abbrev three : List ℕ
   three = set two (at + 2) r.depth
-
-  pub put-length : length (put_row b at r l) ≡ length b
-  put-length =
-      length-set three (at + 3) l ∙ length-set two (at + 2) r.depth ∙ length-set one (at + 1) r.jump
-      ∙ length-set b at r.up
 
   pub put-apart : (j : ℕ) → ((i : ℕ) → i < 4 → j ≡ at + i → ⊥) → get_or (put_row b at r l) j 0 ≡ get_or b j 0
   put-apart j n =

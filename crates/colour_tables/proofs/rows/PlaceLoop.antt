@@ -35,8 +35,9 @@ module _ (row : List ℕ) (q : ℕ) where
       let z : place_of q (drop i row) ≡ 0 = ap (place_of q) (head i h) ∙ rw (eq-eqb q (get_or row i 0) (sym e)) in
       (omega (arith, S.rest), omega arith)
 
-  pub searched-past : (i : ℕ) → Searched i → length row ≤ i → (i ≡ place_of q row) × (i ≤ length row)
+  pub searched-past : (i : ℕ) → Searched i → length row ≤ i
+      → (length row ≡ place_of q row) × (length row ≤ length row)
   unfolding place_of
   searched-past i S h =
       let z : place_of q (drop i row) ≡ 0 = ap (place_of q) (drop_of_length-le row h) in
-      (omega (arith, S.rest), omega (arith, S.within))
+      (omega (arith, S.rest, S.within), omega arith)

@@ -4,9 +4,9 @@
 --     labels-refused, room-refused    10 and 11; all_pass: none
 use Prim.Native.Nat.{ℕ, ◌≤◌, ◌<◌}
 use mathlib.Core.Path.{◌≡◌, sym, ap, ap₂, ◌∙◌}
-use mathlib.Core.Bool.{Bool, true, false, not}
+use mathlib.Core.Bool.{Bool, true, false}
 use mathlib.Core.List.{List, [], ◌∷◌}
-use borrow.Author.Tests.{le-leb, lt-leb, not-true, not-false}
+use borrow.Author.Tests.{le-leb, lt-leb}
 use Rattle.list_laws.specs.Tests.{all_below}
 use Rattle.formats.specs.Plan.{node_count, labels_within}
 use Rattle.formats.specs.Rules.{state_count, label_count}
@@ -49,12 +49,12 @@ module _ (p r : List ℕ) (l m : ℕ) where
           labels_are : all_below (label_count r) (labels_within p) ≡ x
           labels_are = ap (λ (i : ℕ). all_below i (labels_within p)) (sym c) ∙ sym below
 
-          pub labels-refused : not x ≡ true → 10 ≡ first_no (rule_colour_checks p r l m)
+          pub labels-refused : x ≡ false → 10 ≡ first_no (rule_colour_checks p r l m)
           labels-refused f =
               after 10 (sym (first_no-yes 27 (set_states_fit (state_count r)) _ states_fit
-              ∙ first_no-no 10 (all_below (label_count r) (labels_within p)) _ (labels_are ∙ not-true x f)))
+              ∙ first_no-no 10 (all_below (label_count r) (labels_within p)) _ (labels_are ∙ f)))
 
-          module _ (low : not x ≡ false) (y : Bool) (fit : y ≡ set_colours_fit n s l m) where
+          module _ (low : x ≡ true) (y : Bool) (fit : y ≡ set_colours_fit n s l m) where
             fit_is : set_colours_fit (node_count p) (state_count r) l m ≡ y
             fit_is = ap₂ (λ (i j : ℕ). set_colours_fit i j l m) (sym a) (sym b) ∙ sym fit
 
@@ -62,14 +62,14 @@ module _ (p r : List ℕ) (l m : ℕ) where
                 → z ≡ first_no (rule_colour_checks p r l m)
             last z e =
                 after z (e ∙ sym (first_no-yes 27 (set_states_fit (state_count r)) _ states_fit
-                ∙ first_no-yes 10 (all_below (label_count r) (labels_within p)) _ (labels_are ∙ not-false x low)))
+                ∙ first_no-yes 10 (all_below (label_count r) (labels_within p)) _ (labels_are ∙ low)))
 
-            pub room-refused : not y ≡ true → 11 ≡ first_no (rule_colour_checks p r l m)
+            pub room-refused : y ≡ false → 11 ≡ first_no (rule_colour_checks p r l m)
             room-refused f =
                 last 11
-                (sym (first_no-no 11 (set_colours_fit (node_count p) (state_count r) l m) [] (fit_is ∙ not-true y f)))
+                (sym (first_no-no 11 (set_colours_fit (node_count p) (state_count r) l m) [] (fit_is ∙ f)))
 
-            pub all_pass : not y ≡ false → 0 ≡ first_no (rule_colour_checks p r l m)
+            pub all_pass : y ≡ true → 0 ≡ first_no (rule_colour_checks p r l m)
             all_pass f =
-                last 0 (sym (first_no-yes 11 (set_colours_fit (node_count p) (state_count r) l m) [] (fit_is ∙ not-false y f)
+                last 0 (sym (first_no-yes 11 (set_colours_fit (node_count p) (state_count r) l m) [] (fit_is ∙ f)
                 ∙ first_no-none))

@@ -1,38 +1,19 @@
 -- The states at a node's parent.
---     above-start, above-next, above-all   the loop over the states
 --     right_in, left_in              the places of a right child's and of a left child's
 --     above-right, above-left            they are the values of the definition
 --     place-.., sums, right-args, left-args   what the code reads of the sibling is inside, and small
 use Prim.Native.Nat.{ℕ, ◌+◌, ◌-◌, ◌*◌, ◌≤◌, ◌<◌}
-use mathlib.Core.Path.{◌≡◌, ◌∙◌}
+use mathlib.Core.Path.{◌≡◌}
 use mathlib.Core.List.{List}
 use native.Mathlib.Omega.{arith}
-use native.Mathlib.Decide.{ℕ_discrete}
 use native.Mathlib.Nat.{mul-le-mul}
-use lib.ListN.{length, get_or, set, length-set}
-use lib.Seq.{get_or-set_same, get_or-set_other}
+use lib.ListN.{length, get_or}
 use borrow.Author.Tests.{eq-eqb, ne_eqb}
 use Rattle.list_laws.proofs.RowLaws.{stride}
 use Rattle.tables.specs.node_tables.Cells.{parent_cell, size_cell}
 use Rattle.tables.specs.StateCells.{state_cell}
 use Rattle.tables.specs.inner.Maps.{near_value}
 use Rattle.colour_tables.specs.set_states.StatesAbove.{StatesAboveTo, FromArgs, UpArgs}
-
-module _ (f : ℕ → ℕ) where
-  pub above-start : (above : List ℕ) → length above ≡ 4 → StatesAboveTo 0 f above
-  above-start above l = record { long = l; cells = λ q h. absurd (omega arith) }
-
-  pub above-next : (c x : ℕ) (above : List ℕ) → StatesAboveTo c f above → c < 4 → x ≡ f c → StatesAboveTo (c + 1) f (set above c x)
-  above-next c x above U h e = record {
-    long = length-set above c x ∙ U.long;
-    cells = λ j l. elim (ℕ_discrete j c) [
-      | yes q ↦ rw q (get_or-set_same above c x 0 (omega (arith, U.long)) ∙ e)
-      | no q ↦ get_or-set_other above c j x 0 q ∙ U.cells j (omega arith)
-    ];
-  }
-
-  pub above-all : (c s : ℕ) (above : List ℕ) → StatesAboveTo c f above → s ≤ c → StatesAboveTo s f above
-  above-all c s above U h = record { long = U.long; cells = λ j l. U.cells j (omega arith) }
 
 pub right_in : (s k x a q m : ℕ) → x < s → a < k → q < s → s * k * s ≤ m → (x * k + a) * s + q * 1 < m
 right_in s k x a q m hx ha hq r =

@@ -2,24 +2,19 @@
 --     bit_is             a shift and a mask give membership
 --     joined, bound      a union with one member past all others is a sum
 --     image-next         one state more of a preimage
---     successors-start, -next, -all   the loop over a row
 use Prim.Native.Nat.{ℕ, ◌+◌, ◌*◌, ◌/◌, ◌%◌, ◌^◌, ◌≤◌, ◌<◌}
 use mathlib.Core.Path.{◌≡◌, refl, ◌∙◌}
 use mathlib.Core.Bool.{Bool}
-use mathlib.Core.List.{List}
 use native.Mathlib.Omega.{arith}
 use native.Mathlib.Decide.{ℕ_discrete}
 use native.Mathlib.Nat.{mul-le-mul_right, one-mul, pow-suc, mod-eq_of_lt}
 use native.Mathlib.Numerals.{add-one}
 use lib.Bits.{bit_and, bit_or, and_mask, or_shifted_r}
 use lib.Dec.{eqb}
-use lib.ListN.{length, get_or, set, length-set}
 use lib.Pow.{pow_mono}
-use lib.Seq.{get_or-set_same, get_or-set_other}
 use borrow.Author.Tests.{eq-eqb, ne_eqb}
 use Rattle.colours.specs.marks.Marks.{bit}
 use Rattle.colours.specs.StateSets.{set_of, member}
-use Rattle.colour_tables.specs.sets.Sets.{SuccessorsBy}
 
 bit-of-eqb : (x : ℕ) → x < 2 → x ≡ bit (eqb x 1)
 bit-of-eqb x h = elim (ℕ_discrete x 1) [
@@ -55,22 +50,3 @@ image-start p = refl
 pub image-next : (p : ℕ → Bool) (i r b : ℕ) → r ≡ set_of i p → b ≡ bit (p i) → b * 2 ^ i + r ≡ set_of (i + 1) p
 unfolding set_of
 image-next p i r b e f = rw (add-one i, e, f)
-
--- ---- the loop over a row
-
-module _ (above row : List ℕ) where
-  pub successors-start : (successors : List ℕ) → length successors ≡ 16 → SuccessorsBy above row 0 successors
-  successors-start successors l = record { long = l; cells = λ c h. absurd (omega arith) }
-
-  pub successors_next : (c x : ℕ) (successors : List ℕ) → SuccessorsBy above row c successors → c < 16
-      → x ≡ set_of (length above) (λ y. member (get_or row c 0) (get_or above y 0)) → SuccessorsBy above row (c + 1) (set successors c x)
-  successors_next c x successors L h e = record {
-    long = length-set successors c x ∙ L.long;
-    cells = λ j l. elim (ℕ_discrete j c) [
-      | yes q ↦ rw q (get_or-set_same successors c x 0 (omega (arith, L.long)) ∙ e)
-      | no q ↦ get_or-set_other successors c j x 0 q ∙ L.cells j (omega arith)
-    ];
-  }
-
-  pub successors-all : (c k : ℕ) (successors : List ℕ) → SuccessorsBy above row c successors → k ≤ c → SuccessorsBy above row k successors
-  successors-all c k successors L h = record { long = L.long; cells = λ j l. L.cells j (omega arith) }

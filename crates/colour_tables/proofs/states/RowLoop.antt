@@ -1,36 +1,15 @@
--- The loops over the copy above a node: a row filled.
---     row-start, row_next, row-all     the first c of a row are f's
+-- The copy above a node, as a row.
 --     above-top, above_parent          the copy above a node
 use Prim.Native.Nat.{ℕ, ◌+◌, ◌*◌, ◌≤◌, ◌<◌}
 use mathlib.Core.Path.{◌≡◌, refl, ap, ◌∙◌}
 use mathlib.Core.List.{List, [], ◌∷◌}
 use native.Mathlib.Omega.{arith}
-use native.Mathlib.Decide.{ℕ_discrete}
-use lib.ListN.{length, get_or, set, length-set}
-use lib.Seq.{get_or-set_same, get_or-set_other}
+use lib.ListN.{get_or}
 use borrow.Author.Tests.{eq-eqb, ne_eqb}
 use Rattle.list_laws.specs.Rows.{tabulate}
 use Rattle.list_laws.proofs.RowLaws.{get_d_tabulate}
 use Rattle.tables.specs.node_tables.Cells.{parent_cell}
 use Rattle.colour_tables.specs.states.inner.Rows.{RowOf, above_cell}
-
--- ---- a row
-
-module _ (f : ℕ → ℕ) where
-  pub row-start : (row : List ℕ) → length row ≡ 16 → RowOf 0 f row
-  row-start row l = record { long = l; cells = λ c h. absurd (omega arith) }
-
-  pub row_next : (c x : ℕ) (row : List ℕ) → RowOf c f row → c < 16 → x ≡ f c → RowOf (c + 1) f (set row c x)
-  row_next c x row R h e = record {
-    long = length-set row c x ∙ R.long;
-    cells = λ j l. elim (ℕ_discrete j c) [
-      | yes q ↦ rw q (get_or-set_same row c x 0 (omega (arith, R.long)) ∙ e)
-      | no q ↦ get_or-set_other row c j x 0 q ∙ R.cells j (omega arith)
-    ];
-  }
-
-  pub row-all : (c k : ℕ) (row : List ℕ) → RowOf c f row → k ≤ c → RowOf k f row
-  row-all c k row R h = record { long = R.long; cells = λ j l. R.cells j (omega arith) }
 
 -- ---- the copy above
 

@@ -6,12 +6,10 @@ ghost use Rattle.colours.specs.Colouring.{place_of};
 pub fn place_of(row: &[u8], q: u8) -> usize
     ensures { (result ≡ place_of q row.now) × (result ≤ length row.now) }
 {
-    let mut i: usize = 0;
-    while i < row.len() {
-        if row[i] == q {
+    for (i, x) in row.iter().enumerate() {
+        if *x == q {
             return i;
         }
-        i += 1;
     }
-    i
+    row.len()
 }

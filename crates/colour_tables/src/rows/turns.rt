@@ -33,9 +33,8 @@ pub fn take_in_turn(
 {
     let mut owners = [0u8; 16];
     let mut taken: usize = 0;
-    let mut c: usize = 0;
-    while c < successors.len() {
-        let q = successors[c] as usize;
+    for (c, q) in successors.iter().enumerate() {
+        let q = *q as usize;
         let low = (taken + 1) & (131071 - taken);
         let bit = if (taken >> q) & 1 == 0 { 1 << q } else { low };
         taken += bit;
@@ -43,6 +42,5 @@ pub fn take_in_turn(
         owners[x as usize] = c as u8;
         bytes[at + c] = x;
         put_colour(numbers, n, c, v, owners[q]);
-        c += 1;
     }
 }

@@ -12,10 +12,8 @@ fn states_above_from(inner: &[u8], s: usize, base: usize, stride: usize) -> [u8;
     ensures { StatesAboveTo s (λ q. get_or inner.now (base + q * stride) 0) result }
 {
     let mut above = [0u8; 4];
-    let mut q = 0;
-    while q < s {
+    for q in 0..s {
         above[q] = inner[base + q * stride];
-        q += 1;
     }
     above
 }

@@ -35,9 +35,7 @@ pub fn write_sets(
         bytes.new numbers.new }
 {
     let n = labels.len();
-    let mut v = n;
-    while 0 < v {
-        v -= 1;
+    for v in (0..n).rev() {
         let above = row_above(bytes, numbers, n, base, count, v);
         let successors = successors_down(above, labels, numbers, inner, bytes, n, s, k, count, v);
         put_copy(successors, bytes, numbers, n, base, count, v);

@@ -26,11 +26,9 @@ pub fn preimage(above: &[u8], t: u8) -> u8
     ensures { result ≡ set_of (length above.now) (λ x. member t (get_or above.now x 0)) }
 {
     let mut r: u8 = 0;
-    let mut i: usize = 0;
-    while i < above.len() {
-        let b = bit_of(t, above[i]);
+    for (i, x) in above.iter().enumerate() {
+        let b = bit_of(t, *x);
         r = with_bit(r, b, i);
-        i += 1;
     }
     r
 }

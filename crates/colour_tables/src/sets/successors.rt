@@ -10,10 +10,8 @@ pub fn successors_by_set(row: [u8; 16], above: &[u8], k: usize) -> [u8; 16]
     ensures { SuccessorsBy above.now row k result }
 {
     let mut successors = [0u8; 16];
-    let mut c = 0;
-    while c < k {
+    for c in 0..k {
         successors[c] = preimage(above, row[c]);
-        c += 1;
     }
     successors
 }

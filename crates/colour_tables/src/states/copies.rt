@@ -16,11 +16,7 @@ fn row_at(bytes: &[u8], at: usize, k: usize) -> [u8; 16]
     ensures { RowOf k (λ c. get_or bytes.now (at + c) 0) result }
 {
     let mut row = [0u8; 16];
-    let mut c = 0;
-    while c < k {
-        row[c] = bytes[at + c];
-        c += 1;
-    }
+    row[..k].copy_from_slice(&bytes[at..at + k]);
     row
 }
 

@@ -12,11 +12,9 @@ fn successors_by_word(row: [u8; 16], steps: &[u8], s: usize, k: usize, a: usize)
     ensures { RowOf s (λ c. get_or steps.now (get_or row c 0 * k + a) 0) result }
 {
     let mut successors = [0u8; 16];
-    let mut c = 0;
-    while c < s {
+    for c in 0..s {
         let q = row[c] as usize;
         successors[c] = steps[q * k + a];
-        c += 1;
     }
     successors
 }
@@ -36,9 +34,7 @@ pub fn write_words(
         numbers.new }
 {
     let n = labels.len();
-    let mut v = n;
-    while 0 < v {
-        v -= 1;
+    for v in (0..n).rev() {
         let above = row_above(bytes, numbers, n, 0, s, v);
         let a = labels[v] as usize;
         let successors = successors_by_word(above, steps, s, k, a);

@@ -1,16 +1,16 @@
 -- The call: its parts, and its answers.
---     may_none .. room-labels   the tests of checks 17 and 11
+--     may-some .. room-is       the tests of checks 17 and 11
 --     plan-args .. parts-written     of the parts that are handed on
 --     first-no .. all_yes       the checks, by the way the code's tests went
 --     done_refused, done-written     the call's answers
-use Prim.Native.Nat.{ℕ, ◌+◌, ◌*◌, ◌≤◌, ◌<◌}
-use mathlib.Core.Path.{◌≡◌, refl, sym, ap, ap₂, ◌∙◌, subst}
+use Prim.Native.Nat.{ℕ, ◌+◌, ◌*◌, ◌≤◌}
+use mathlib.Core.Path.{◌≡◌, refl, sym, ap, ◌∙◌, subst}
 use mathlib.Core.Bool.{Bool, true, false, cond, ◌&&◌, ◌||◌}
 use mathlib.Core.List.{List, [], ◌∷◌}
 use native.Mathlib.Omega.{arith}
 use lib.Dec.{leb, eqb}
 use lib.ListN.{length}
-use borrow.Author.Tests.{eq-eqb, ne_eqb, eqb-true, le-leb, lt-leb, leb-true}
+use borrow.Author.Tests.{ne_eqb, eqb-true, leb-true}
 use Rattle.list_laws.proofs.BoolLaws.{and_left, and_right}
 use Rattle.trees.specs.Tree.{size}
 use Rattle.formats.specs.Limits.{change_limit}
@@ -92,9 +92,6 @@ module _ {p r may : List ℕ} {n s k work nodes labels : ℕ} (a : PlanArgs p r 
 
 -- ---- the tests of checks 17 and 11
 
-pub may_none : (m n : ℕ) → m ≡ 0 → true ≡ may_fits m n
-may_none m n e = sym (ap (λ (b : Bool). b || eqb m n) (eq-eqb m 0 e))
-
 pub may-some : (m n : ℕ) → (m ≡ 0 → ⊥) → eqb m n ≡ may_fits m n
 may-some m n e = sym (ap (λ (b : Bool). b || eqb m n) (ne_eqb m 0 e))
 
@@ -102,15 +99,6 @@ may-each : (m n : ℕ) → may_fits m n ≡ true → (m ≡ 0 → ⊥) → m ≡
 may-each m n e z = eqb-true m n (may-some m n z ∙ e)
 
 module _ (n s work nodes labels : ℕ) where
-  pub room-work : work < n * (s + 1) → false ≡ fewest_room n s work nodes labels
-  room-work h = sym (ap (λ (b : Bool). b && (leb 64 nodes && leb 64 labels)) (lt-leb (n * (s + 1)) work h))
-
-  pub room-nodes : n * (s + 1) ≤ work → nodes < 64 → false ≡ fewest_room n s work nodes labels
-  room-nodes g h = sym (ap₂ (λ (b c : Bool). b && (c && leb 64 labels)) (le-leb (n * (s + 1)) work g) (lt-leb 64 nodes h))
-
-  pub room-labels : n * (s + 1) ≤ work → 64 ≤ nodes → leb 64 labels ≡ fewest_room n s work nodes labels
-  room-labels g h = sym (ap₂ (λ (b c : Bool). b && (c && leb 64 labels)) (le-leb (n * (s + 1)) work g) (le-leb 64 nodes h))
-
   room-is : fewest_room n s work nodes labels ≡ true → (n * (s + 1) ≤ work) × (64 ≤ nodes) × (64 ≤ labels)
   room-is e =
       let f = and_right (leb (n * (s + 1)) work) (leb 64 nodes && leb 64 labels) e in (

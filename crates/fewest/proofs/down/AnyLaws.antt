@@ -47,18 +47,12 @@ module _ (n : ℕ) (f : ℕ → Bool) (r : ℕ) (F : First n f r) where
     | no h ↦ absurd (true-false (sym e ∙ any-no n f (λ i l. F.before i (omega (arith, F.most)))))
   ]
 
-pub first-start : (f : ℕ → Bool) (i : ℕ) → i < 0 → f i ≡ false
-first-start f i h = absurd (omega arith)
-
 -- one number more
 pub first_next : (f : ℕ → Bool) (r : ℕ) → ((i : ℕ) → i < r → f i ≡ false) → f r ≡ false → (i : ℕ) → i < r + 1 → f i ≡ false
 first_next f r e z i h = elim (ℕ_discrete i r) [ yes q ↦ ap f q ∙ z | no q ↦ e i (omega arith) ]
 
 pub first-here : (n : ℕ) (f : ℕ → Bool) (r : ℕ) → r < n → ((i : ℕ) → i < r → f i ≡ false) → f r ≡ true → First n f r
 first-here n f r h e z = record { most = omega arith; before = e; hit = λ l. z }
-
-pub first-none : (n : ℕ) (f : ℕ → Bool) (r : ℕ) → r ≡ n → ((i : ℕ) → i < r → f i ≡ false) → First n f n
-first-none n f r q e = record { most = omega arith; before = λ i h. e i (omega arith); hit = λ l. absurd (omega arith) }
 
 module _ (far : ℕ) where
   pub any-least : (n : ℕ) (f : ℕ → ℕ) (c : ℕ) → c < far → c ≤ least_to far n f → any_of n (λ i. eqb (f i) c) ≡ eqb (least_to far n f) c

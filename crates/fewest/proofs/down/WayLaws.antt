@@ -3,7 +3,7 @@
 --     left_is, right_is, label_is   its left state, right state and label are those of `witness`
 --     none-under                    over states that cost more than c no label costs c
 use Prim.Native.Nat.{ℕ, ◌+◌, ◌*◌, ◌≤◌, ◌<◌}
-use mathlib.Core.Path.{◌≡◌, sym, ap, ap₂, ◌∙◌}
+use mathlib.Core.Path.{◌≡◌, sym, ap₂, ◌∙◌}
 use mathlib.Core.Bool.{Bool, true, false}
 use mathlib.Core.List.{List}
 use native.Mathlib.Omega.{arith}
@@ -15,7 +15,7 @@ use Rattle.state_sets.specs.StateSets.{member}
 use Rattle.fewest.specs.inner.Cost.{inner_cost, least_label, least_right, least_left, left_choice, right_choice}
 use Rattle.fewest.specs.inner.Cost.{label_choice}
 use Rattle.fewest.proofs.costs.LeastLaws.{least-le}
-use Rattle.fewest.specs.inner.Rows.{label_cost, change_of, RowArgs, leaf_cost as leaf_label_cost}
+use Rattle.fewest.specs.inner.Rows.{label_cost, RowArgs}
 use Rattle.fewest.specs.inner.Problems.{problem_for}
 use Rattle.fewest.specs.inner.down.Search.{any_of, label_hit, right_hit, left_hit, Chosen, RightSearch, LeftSearch}
 use Rattle.fewest.proofs.down.AnyLaws.{any-no, any-ext, any-least, first-place}
@@ -94,26 +94,6 @@ module _ (s k : ℕ) (lv inn : List ℕ) (stock : ℕ → ℕ) (acc : ℕ → Bo
       label_is = first-place 65536 k (inner_cost (problem_for s k lv inn stock acc) v a j (f p) p (g q) q) c b
           (label_hit inn s k p q a (member (stock v)) (get_or W (from + p) 0 + get_or W (at + q) 0) j c) u label-least
           (λ i l. hits-label p q i C.left_in C.right_in) C.label
-
--- ---- one cost, by the way the code's tests went
-
-module _ (inn : List ℕ) (s k p q a : ℕ) (may : ℕ → Bool) (base j b to : ℕ) (e : to ≡ get_or inn ((p * k + b) * s + q) 0) where
-  pub label-not : (to ≡ j → ⊥) → 65536 ≡ label_cost inn s k p q a may base j b
-  unfolding label_cost
-  label-not n = rw (ne_eqb (get_or inn ((p * k + b) * s + q) 0) j (λ z. n (e ∙ z)))
-
-  pub label-yes : to ≡ j → (c : ℕ) → c ≡ change_of may a b → base + c ≡ label_cost inn s k p q a may base j b
-  unfolding label_cost
-  label-yes z c h = rw (eq-eqb (get_or inn ((p * k + b) * s + q) 0) j (sym e ∙ z)) (ap (λ (y : ℕ). base + y) h)
-
-module _ (lv : List ℕ) (a : ℕ) (may : ℕ → Bool) (j b : ℕ) where
-  pub leaf-not : (get_or lv b 0 ≡ j → ⊥) → 65536 ≡ leaf_label_cost lv a may j b
-  unfolding leaf_label_cost
-  leaf-not n = rw (ne_eqb (get_or lv b 0) j n)
-
-  pub leaf-yes : get_or lv b 0 ≡ j → (c : ℕ) → c ≡ change_of may a b → c ≡ leaf_label_cost lv a may j b
-  unfolding leaf_label_cost
-  leaf-yes z c h = rw (eq-eqb (get_or lv b 0) j z) h
 
 -- ---- what the searches need
 

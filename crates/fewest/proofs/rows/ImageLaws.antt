@@ -1,12 +1,11 @@
 -- The states that all labels give over two states, as sets, and a row lowered by such a set.
 --     member-with              a set and one state besides
 --     image-start, image-next  one label more; fill-next, images-all   one pair of states more
---     cost-yes, cost-no        the cost of a state of a set
---     set-start, set_next, set_all   a row lowered by a set; own-lowered   and by one state
+--     LoweredTo                a row lowered by a set, state by state
 --     image-cost, image-relaxed      the least over all labels, by the node's own label and the set
 --     image-args, images-fit         what the loops need of the sets
 use Prim.Native.Nat.{ℕ, ◌+◌, ◌*◌, ◌/◌, ◌%◌, ◌^◌, ◌≤◌, ◌<◌, min, max}
-use mathlib.Core.Path.{◌≡◌, refl, sym, ap, ap₂, ◌∙◌, subst}
+use mathlib.Core.Path.{◌≡◌, refl, sym, ap, ap₂, ◌∙◌}
 use mathlib.Core.Bool.{Bool, false, cond, ◌||◌}
 use mathlib.Core.List.{List}
 use native.Mathlib.Decide.{ℕ_discrete, dec_lt}
@@ -14,9 +13,9 @@ use native.Mathlib.Numerals.{add-one}
 use native.Mathlib.Nat.{one-mul, mod-eq_of_lt, mod-lt, zero-div, div-lt_iff_lt-mul}
 use native.Mathlib.Omega.{arith}
 use lib.Arith.{digits_div, digits_mod}
-use lib.Bits.{bit_and, bit_or, and_mask, or_shr, or_step}
+use lib.Bits.{bit_or, or_shr, or_step}
 use lib.Dec.{eqb}
-use lib.ListN.{length, get_or, set, length-set}
+use lib.ListN.{length, get_or, set}
 use lib.Pow.{pow-lt}
 use lib.Seq.{get_or-set_same, get_or-set_other}
 use borrow.Author.Tests.{eq-eqb, ne_eqb}
@@ -27,7 +26,7 @@ use Rattle.state_sets.specs.StateSets.{member}
 use Rattle.state_sets.proofs.SetLaws.{member-single}
 use Rattle.fewest.specs.Least.{least_to, no_way_out}
 use Rattle.fewest.specs.Relabelling.{stock_of}
-use Rattle.fewest.specs.inner.Rows.{label_cost, labels_cost, Relaxed, CostRow, RowArgs}
+use Rattle.fewest.specs.inner.Rows.{label_cost, labels_cost, Relaxed, RowArgs}
 use Rattle.fewest.specs.inner.Images.{Image, Images, ImagesArgs, ImageArgs, ImagesFit, ImagesFor}
 use Rattle.fewest.specs.inner.down.Search.{any_of}
 use Rattle.fewest.proofs.costs.LeastLaws.{least-far, least-le}
@@ -119,60 +118,12 @@ module _ (inn : List ℕ) (s k m : ℕ) (A : ImagesArgs inn s k m) where
       go : (j p q : ℕ) → j / s ≡ p → j % s ≡ q → j < s * s → Image inn s k p q (get_or I j 0)
       go j p q ep eq h = rw (← ep, ← eq) (L j h)
 
--- ---- the cost of a state of a set
-
-pub cost-yes : (x j c : ℕ) → bit_and (x / 2 ^ j) 1 ≡ 1 → c ≡ cond (member x j) c no_way_out
-unfolding member
-cost-yes x j c e =
-    let z : x / 2 ^ j % 2 ≡ 1 = sym (and_mask (x / 2 ^ j) 1) ∙ e in
-    rw (eq-eqb (x / 2 ^ j % 2) 1 z)
-
-pub cost-no : (x j c : ℕ) → (bit_and (x / 2 ^ j) 1 ≡ 1 → ⊥) → 65536 ≡ cond (member x j) c no_way_out
-unfolding member
-cost-no x j c e =
-    let z : x / 2 ^ j % 2 ≡ 1 → ⊥ = λ q. e (and_mask (x / 2 ^ j) 1 ∙ q) in
-    rw (ne_eqb (x / 2 ^ j % 2) 1 z)
-
 -- ---- a row lowered state by state
 
 pub record LoweredTo (f : ℕ → ℕ) (j : ℕ) (before after : List ℕ) : Type 0 where
   pub wide : length after ≡ length before
   pub done : (i : ℕ) → i < j → get_or after i 0 ≡ min (get_or before i 0) (f i)
   pub rest : (i : ℕ) → j ≤ i → get_or after i 0 ≡ get_or before i 0
-
-pub set-start : (f : ℕ → ℕ) (row : List ℕ) → LoweredTo f 0 row row
-set-start f row = record { wide = refl; done = λ i h. absurd (omega arith); rest = λ i h. refl }
-
-pub set_next : (f : ℕ → ℕ) (j : ℕ) (before r : List ℕ) (x y : ℕ) → j < length r → LoweredTo f j before r → x ≡ f j
-    → y ≡ min (get_or r j 0) x → LoweredTo f (j + 1) before (set r j y)
-set_next f j before r x y room L ex ey = record {
-  wide = length-set r j y ∙ L.wide;
-  done = λ i h. elim (ℕ_discrete i j) [
-    | yes e ↦ rw e (get_or-set_same r j y 0 room ∙ omega (arith, ey, ex, L.rest j (omega arith)))
-    | no e ↦ get_or-set_other r j i y 0 e ∙ L.done i (omega arith)
-  ];
-  rest = λ i h. get_or-set_other r j i y 0 (λ e. omega arith) ∙ L.rest i (omega arith);
-}
-
-pub set_all : (s : ℕ) (f : ℕ → ℕ) (j : ℕ) (before after : List ℕ) → s ≤ j → LoweredTo f j before after → Relaxed s f before after
-set_all s f j before after h L = record { wide = L.wide; costs = λ i l. L.done i (omega arith) }
-
--- the cost of one state
-lowered-at : (s at base y : ℕ) (row : List ℕ) → at < s → CostRow s row → y ≡ min (get_or row at 0) base
-    → Relaxed s (λ j. cond (eqb at j) base no_way_out) row (set row at y)
-lowered-at s at base y row h C e = record {
-  wide = length-set row at y;
-  costs = λ j l. by-eq (λ (z : ℕ). get_or (set row at y) j 0 ≡ min (get_or row j 0) z) at j
-      (λ q. rw (← q) (get_or-set_same row at y 0 (omega (arith, C.wide)) ∙ e))
-      (λ q. omega (arith, get_or-set_other row at j y 0 (λ z. q (sym z)), C.low j l));
-}
-
--- the same with the number as the code has it
-pub own-lowered : (s to at base y : ℕ) (row : List ℕ) → to ≡ at → at < s → CostRow s row → y ≡ min (get_or row to 0) base
-    → Relaxed s (λ j. cond (eqb at j) base no_way_out) row (set row to y)
-own-lowered s to at base y row e h C ey =
-    subst (λ (x : ℕ). Relaxed s (λ j. cond (eqb at j) base no_way_out) row (set row x y)) (sym e)
-    (lowered-at s at base y row h C (ey ∙ ap (λ (x : ℕ). min (get_or row x 0) base) e))
 
 -- ---- the least over all labels
 

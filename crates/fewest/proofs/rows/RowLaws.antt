@@ -1,5 +1,5 @@
 -- The turns of the loops over a row of costs.
---     bit-is                a shift and a mask tell membership
+--     cost-yes, cost-no     a shift and a mask tell membership
 --     relax-start, relax-next   one label more; step_start, step-next   one state more
 use Prim.Native.Nat.{ℕ, zero, suc, ◌+◌, ◌*◌, ◌/◌, ◌%◌, ◌^◌, ◌≤◌, ◌<◌, min}
 use mathlib.Core.Path.{◌≡◌, refl, sym, ap, ◌∙◌}
@@ -23,22 +23,19 @@ use Rattle.fewest.proofs.costs.LeastLaws.{least-far}
 use Rattle.fewest.specs.inner.Rows.{change_of, label_cost, labels_cost, leaf_cost, Relaxed, CostRow, RowArgs}
 use Rattle.fewest.specs.inner.Rows.{RightArgs, LeftArgs, LeafArgs}
 
--- ---- labels in a set
+-- ---- the cost of a member of a set
 
-pub change-same : (may : ℕ → Bool) (a b : ℕ) → a ≡ b → 0 ≡ change_of may a b
-change-same may a b e = rw (eq-eqb a b e)
-
-pub change-may : (m a b : ℕ) → (a ≡ b → ⊥) → bit_and (m / 2 ^ b) 1 ≡ 1 → 1 ≡ change_of (member m) a b
+pub cost-yes : (x j c : ℕ) → bit_and (x / 2 ^ j) 1 ≡ 1 → c ≡ cond (member x j) c no_way_out
 unfolding member
-change-may m a b n e =
-    let z : m / 2 ^ b % 2 ≡ 1 = sym (and_mask (m / 2 ^ b) 1) ∙ e in
-    rw (ne_eqb a b n, eq-eqb (m / 2 ^ b % 2) 1 z)
+cost-yes x j c e =
+    let z : x / 2 ^ j % 2 ≡ 1 = sym (and_mask (x / 2 ^ j) 1) ∙ e in
+    rw (eq-eqb (x / 2 ^ j % 2) 1 z)
 
-pub change-not : (m a b : ℕ) → (a ≡ b → ⊥) → (bit_and (m / 2 ^ b) 1 ≡ 1 → ⊥) → 65536 ≡ change_of (member m) a b
+pub cost-no : (x j c : ℕ) → (bit_and (x / 2 ^ j) 1 ≡ 1 → ⊥) → 65536 ≡ cond (member x j) c no_way_out
 unfolding member
-change-not m a b n e =
-    let z : m / 2 ^ b % 2 ≡ 1 → ⊥ = λ q. e (and_mask (m / 2 ^ b) 1 ∙ q) in
-    rw (ne_eqb a b n, ne_eqb (m / 2 ^ b % 2) 1 z)
+cost-no x j c e =
+    let z : x / 2 ^ j % 2 ≡ 1 → ⊥ = λ q. e (and_mask (x / 2 ^ j) 1 ∙ q) in
+    rw (ne_eqb (x / 2 ^ j % 2) 1 z)
 
 -- ---- one label more
 

@@ -104,9 +104,7 @@ pub fn labels_down(
     ensures { Down kinds.now labels.now leaves.now inner.now may.now s k
         0 work.old work.new }
 {
-    let mut v = kinds.len();
-    while 0 < v {
-        v -= 1;
+    for v in (0..kinds.len()).rev() {
         node_down(kinds, labels, leaves, inner, may, s, k, work, v);
     }
 }

@@ -5,7 +5,6 @@ ghost use Rattle.fewest.specs.inner.down.Search.{First};
 ghost use Rattle.fewest.specs.inner.down.Root.{root_cost, RootArgs};
 
 use crate::rows::NO_WAY;
-use crate::rows::relax::lesser;
 
 // The cost of state j at the root, whose costs stand from `at` on; 65,536 where its mark is another.
 fn root_cost(work: &[u32], marks: &[u8], s: usize, at: usize, mark: u8, j: usize) -> u32
@@ -24,11 +23,9 @@ pub fn root_least(work: &[u32], marks: &[u8], s: usize, at: usize, mark: u8) -> 
     ensures { result ≡ least_to 65536 s (root_cost work.now marks.now at mark) }
 {
     let mut r: u32 = NO_WAY;
-    let mut j: usize = 0;
-    while j < s {
+    for j in 0..s {
         let c = root_cost(work, marks, s, at, mark, j);
-        r = lesser(r, c);
-        j += 1;
+        r = r.min(c);
     }
     r
 }
@@ -38,12 +35,10 @@ pub fn root_state(work: &[u32], marks: &[u8], s: usize, at: usize, mark: u8, c: 
     requires { RootArgs work.now marks.now s at }
     ensures { First s (λ j. eqb (root_cost work.now marks.now at mark j) c) result }
 {
-    let mut j: usize = 0;
-    while j < s {
+    for j in 0..s {
         if root_cost(work, marks, s, at, mark, j) == c {
             return j;
         }
-        j += 1;
     }
     s
 }

@@ -1,12 +1,24 @@
 // The first way into a state at its cost: left state, right state and label.
-ghost use Rattle.std.specs.Prelude.{◌≡◌, true, ◌+◌, ◌<◌, eqb, get_or};
+ghost use Rattle.std.specs.Prelude.{◌≡◌, true, cond, ◌+◌, ◌≤◌, ◌<◌, eqb, get_or};
 ghost use Rattle.state_sets.specs.StateSets.{member};
-ghost use Rattle.fewest.specs.inner.Rows.{label_cost, leaf_cost, LeafArgs, RowArgs};
+ghost use Rattle.fewest.specs.Least.{no_way_out};
+ghost use Rattle.fewest.specs.inner.Rows.{change_of, label_cost, leaf_cost, LeafArgs, RowArgs};
 ghost use Rattle.fewest.specs.inner.down.Search.{any_of, First, label_hit, right_hit, left_hit, RightSearch, LeftSearch, Chosen};
 
 use crate::rows::NO_WAY;
 use crate::rows::relax::change_cost;
 use formats::rules::rule;
+
+// The cost of state j by label b, which leads to state `to`, over states that cost `base` together.
+fn cost_by(to: usize, j: usize, a: usize, b: usize, labels: u64, base: u32) -> u32
+    requires { (b < 64) × (base ≤ 131072) }
+    ensures { result ≡ cond (eqb to j) (base + change_of (member labels) a b) no_way_out }
+{
+    if to != j {
+        return NO_WAY;
+    }
+    base + change_cost(a, b, labels)
+}
 
 // The cost of state j by label b, over states p and q that cost `base` together.
 fn label_cost(
@@ -24,11 +36,7 @@ fn label_cost(
     requires { RowArgs inner.now s k p q a base × (b < k) }
     ensures { result ≡ label_cost inner.now s k p q a (member labels) base j b }
 {
-    let to = rule(inner, s, k, p, b, q) as usize;
-    if to != j {
-        return NO_WAY;
-    }
-    base + change_cost(a, b, labels)
+    cost_by(rule(inner, s, k, p, b, q) as usize, j, a, b, labels, base)
 }
 
 // The first label that gives state j at cost c; k where none does.
@@ -47,12 +55,10 @@ fn find_label(
     requires { RowArgs inner.now s k p q a base }
     ensures { First k (label_hit inner.now s k p q a (member labels) base j c) result }
 {
-    let mut b: usize = 0;
-    while b < k {
+    for b in 0..k {
         if label_cost(inner, s, k, p, q, a, labels, base, j, b) == c {
             return b;
         }
-        b += 1;
     }
     k
 }
@@ -97,12 +103,10 @@ fn find_right(
     requires { RightSearch work.now inner.now s k p x at c }
     ensures { First s (right_hit work.now inner.now s k p x at a (member labels) j c) result }
 {
-    let mut q: usize = 0;
-    while q < s {
+    for q in 0..s {
         if label_hits(inner, s, k, p, q, a, labels, x + work[at + q], j, c) {
             return q;
         }
-        q += 1;
     }
     s
 }
@@ -123,12 +127,10 @@ fn find_left(
     requires { LeftSearch work.now inner.now s k from at c }
     ensures { First s (left_hit work.now inner.now s k from at a (member labels) j c) result }
 {
-    let mut p: usize = 0;
-    while p < s {
+    for p in 0..s {
         if find_right(work, inner, s, k, p, work[from + p], at, a, labels, j, c) < s {
             return p;
         }
-        p += 1;
     }
     s
 }
@@ -174,11 +176,7 @@ fn leaf_cost(leaves: &[u8], s: usize, k: usize, a: usize, labels: u64, j: usize,
     requires { LeafArgs leaves.now s k × (b < k) }
     ensures { result ≡ leaf_cost leaves.now a (member labels) j b }
 {
-    let to = leaves[b] as usize;
-    if to != j {
-        return NO_WAY;
-    }
-    change_cost(a, b, labels)
+    cost_by(leaves[b] as usize, j, a, b, labels, 0)
 }
 
 // The first label that gives a leaf state j at cost c; k where none does.
@@ -194,12 +192,10 @@ pub fn find_leaf_label(
     requires { LeafArgs leaves.now s k }
     ensures { First k (λ b. eqb (leaf_cost leaves.now a (member labels) j b) c) result }
 {
-    let mut b: usize = 0;
-    while b < k {
+    for b in 0..k {
         if leaf_cost(leaves, s, k, a, labels, j, b) == c {
             return b;
         }
-        b += 1;
     }
     k
 }

@@ -29,14 +29,10 @@ pub fn list_changes(
     ensures { Listed (λ v. get_or labels.now v 0) (size_cell s work.now) (length labels.now)
         nodes.old out.old result nodes.new out.new }
 {
-    let n = labels.len();
     let mut c: usize = 0;
-    let mut v: usize = 0;
-    while v < n {
-        let a = labels[v] as u32;
+    for (v, a) in labels.iter().enumerate() {
         let b = work[v * (s + 1)];
-        c = put_change(nodes, out, c, v, a, b);
-        v += 1;
+        c = put_change(nodes, out, c, v, *a as u32, b);
     }
     c
 }

@@ -9,7 +9,7 @@ pub fn stock(may: &[u64], v: usize) -> u64
     ensures { result ≡ stock_of may.now v }
 {
     if may.len() == 0 {
-        return 18446744073709551615;
+        return u64::MAX;
     }
     may[v]
 }
@@ -20,10 +20,6 @@ pub fn put_row(work: &mut [u32], s: usize, v: usize, z: u32, row: &[u32])
     ensures { RowDone s v z (λ j. get_or row.now j 0) work.old work.new }
 {
     let at = v * (s + 1);
-    let mut j: usize = 0;
-    while j < s {
-        work[at + 1 + j] = row[j];
-        j += 1;
-    }
     work[at] = z;
+    work[at + 1..at + 1 + s].copy_from_slice(&row[..s]);
 }

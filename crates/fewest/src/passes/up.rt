@@ -139,11 +139,8 @@ fn pass_up(
     ensures { Up kinds.now labels.now leaves.now inner.now may.now s k
         (length kinds.now) work.old work.new }
 {
-    let n = kinds.len();
-    let mut v: usize = 0;
-    while v < n {
+    for v in 0..kinds.len() {
         node_turn(kinds, labels, leaves, inner, may, images, s, k, work, v);
-        v += 1;
     }
 }
 

@@ -5,8 +5,7 @@ ghost use Rattle.fewest.specs.Least.{no_way_out};
 ghost use Rattle.fewest.specs.inner.Rows.{labels_cost, Relaxed, CostRow, RowArgs};
 ghost use Rattle.fewest.specs.inner.Images.{Image, Images, ImagesArgs, ImageArgs};
 
-use crate::rows::NO_WAY;
-use crate::rows::relax::lesser;
+use crate::rows::relax::cost_in;
 use formats::rules::rule;
 
 // The set, and state j besides.
@@ -23,11 +22,9 @@ fn image_of(inner: &[u8], s: usize, k: usize, p: usize, q: usize) -> u16
     ensures { Image inner.now s k p q result }
 {
     let mut r: u16 = 0;
-    let mut b: usize = 0;
-    while b < k {
+    for b in 0..k {
         let j = rule(inner, s, k, p, b, q) as usize;
         r = with_state(r, j);
-        b += 1;
     }
     r
 }
@@ -37,23 +34,9 @@ pub fn fill_images(images: &mut [u16], inner: &[u8], s: usize, k: usize)
     requires { ImagesArgs inner.now s k (length images.old) }
     ensures { Images inner.now s k images.new }
 {
-    let mut i: usize = 0;
-    while i < s * s {
-        let x = image_of(inner, s, k, i / s, i % s);
-        images[i] = x;
-        i += 1;
+    for i in 0..s * s {
+        images[i] = image_of(inner, s, k, i / s, i % s);
     }
-}
-
-// c where state j is in the set, else "no way".
-fn cost_in(states: u16, j: usize, c: u32) -> u32
-    requires { j < 16 }
-    ensures { result ≡ cond (member states j) c no_way_out }
-{
-    if (states >> j) & 1 == 1 {
-        return c;
-    }
-    NO_WAY
 }
 
 // Lowers the cost of each state of the set to c.
@@ -61,13 +44,10 @@ fn lower_set(row: &mut [u32], s: usize, states: u16, c: u32)
     requires { (s ≤ 16) × CostRow s row.old }
     ensures { Relaxed s (λ j. cond (member states j) c no_way_out) row.old row.new }
 {
-    let mut j: usize = 0;
-    while j < s {
-        let x = cost_in(states, j, c);
+    for j in 0..s {
+        let x = cost_in(states as u64, j, c);
         let y = row[j];
-        let z = lesser(y, x);
-        row[j] = z;
-        j += 1;
+        row[j] = y.min(x);
     }
 }
 
@@ -88,8 +68,7 @@ fn lower_own(
 {
     let to = rule(inner, s, k, p, a, q) as usize;
     let y = row[to];
-    let x = lesser(y, base);
-    row[to] = x;
+    row[to] = y.min(base);
 }
 
 // Lowers the row by every label, over states p and q that cost `base` together, of a node of label a that may take

@@ -1,12 +1,24 @@
 // An inner node's row, way by way: the cost of a state is lowered to that of each way into it.
-ghost use Rattle.std.specs.Prelude.{◌≡◌, ◌≤◌, ◌<◌, min};
+ghost use Rattle.std.specs.Prelude.{◌≡◌, cond, ◌≤◌, ◌<◌};
 ghost use Rattle.state_sets.specs.StateSets.{member};
+ghost use Rattle.fewest.specs.Least.{no_way_out};
 ghost use Rattle.fewest.specs.inner.Images.{ImagesFit};
 ghost use Rattle.fewest.specs.inner.Rows.{change_of, labels_cost, right_cost, left_cost, Relaxed, CostRow, RowArgs, RightArgs, LeftArgs};
 
 use crate::rows::NO_WAY;
 use crate::rows::images::relax_image;
 use formats::rules::rule;
+
+// c where x is in the set, else "no way".
+pub fn cost_in(set: u64, x: usize, c: u32) -> u32
+    requires { x < 64 }
+    ensures { result ≡ cond (member set x) c no_way_out }
+{
+    if (set >> x) & 1 == 1 {
+        return c;
+    }
+    NO_WAY
+}
 
 // The cost of label b at a node of label a that may take the labels of the set.
 pub fn change_cost(a: usize, b: usize, labels: u64) -> u32
@@ -16,20 +28,7 @@ pub fn change_cost(a: usize, b: usize, labels: u64) -> u32
     if a == b {
         return 0;
     }
-    if (labels >> b) & 1 == 1 {
-        return 1;
-    }
-    NO_WAY
-}
-
-// The lesser of two costs.
-pub fn lesser(x: u32, y: u32) -> u32
-    ensures { result ≡ min x y }
-{
-    if x < y {
-        return x;
-    }
-    y
+    cost_in(labels, b, 1)
 }
 
 // Lowers the row by every label, over states p and q that cost `base` together.
@@ -47,14 +46,11 @@ pub fn relax_labels(
     requires { RowArgs inner.now s k p q a base × CostRow s row.old }
     ensures { Relaxed s (labels_cost inner.now s k p q a (member labels) base) row.old row.new }
 {
-    let mut b: usize = 0;
-    while b < k {
+    for b in 0..k {
         let to = rule(inner, s, k, p, b, q) as usize;
         let c = change_cost(a, b, labels);
         let y = row[to];
-        let x = lesser(y, base + c);
-        row[to] = x;
-        b += 1;
+        row[to] = y.min(base + c);
     }
 }
 
@@ -103,10 +99,8 @@ pub fn relax_right(
     ensures { Relaxed s (right_cost inner.now s k p a (member labels) left right.now) row.old
         row.new }
 {
-    let mut q: usize = 0;
-    while q < s {
+    for q in 0..s {
         relax_way(row, inner, images, s, k, p, q, a, labels, left + right[q]);
-        q += 1;
     }
 }
 
@@ -127,9 +121,7 @@ pub fn relax_left(
     ensures { Relaxed s (left_cost inner.now s k a (member labels) left.now right.now)
         row.old row.new }
 {
-    let mut p: usize = 0;
-    while p < s {
+    for p in 0..s {
         relax_right(row, inner, images, s, k, p, left[p], right, a, labels);
-        p += 1;
     }
 }

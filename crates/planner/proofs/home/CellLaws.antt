@@ -2,20 +2,19 @@
 --     stack_same, cells_same, cells-cons, cells-end     only their own cells count
 --     push-done, count-done                             one entry more; the count of a list
 use Prim.Native.Nat.{ℕ, zero, suc, ◌+◌, ◌-◌, ◌*◌, ◌%◌, ◌≤◌, ◌<◌, min}
-use mathlib.Core.Path.{◌≡◌, refl, sym, ap, ap₂, ◌∙◌, subst}
-use mathlib.Core.Bool.{Bool, true, false, cond, ◌&&◌}
+use mathlib.Core.Path.{◌≡◌, refl, sym, ap, ap₂, ◌∙◌}
+use mathlib.Core.Bool.{Bool, true, false}
 use mathlib.Core.List.{List, [], ◌∷◌}
 use mathlib.Core.Option.{Option, none, some}
-use native.Mathlib.Decide.{dec_lt, ℕ_discrete}
 use native.Mathlib.Omega.{arith}
 use native.Mathlib.Numerals.{add-one}
 use lib.Dec.{leb}
 use lib.ListN.{length, get_or, set, take, drop, length-set, length-take, length-drop}
 use lib.Seq.{get_or-set_same, get_or-set_other, ext_get_or, get_or-take, get_or-drop, drop-cons}
 use borrow.Author.Tests.{le-leb, lt-leb}
-use Rattle.planner.specs.inner.HomeMachine.{Waiting, waiting, HomeState, home_state, released, with_count, homeward}
-use Rattle.planner.specs.home.inner.Cells.{waiting_at, stack_of, cells_from, home_now, marked, Kept, Fits, PushArgs}
-use Rattle.planner.specs.home.inner.Cells.{PushDone, CountArgs, CountDone, ReleaseArgs, ReleaseDone}
+use Rattle.planner.specs.inner.HomeMachine.{Waiting, waiting, with_count, homeward}
+use Rattle.planner.specs.home.inner.Cells.{waiting_at, stack_of, cells_from, home_now, marked, Kept, PushArgs}
+use Rattle.planner.specs.home.inner.Cells.{PushDone, CountArgs, CountDone}
 
 pub stack_same : (p q : List ℕ) (n d : ℕ) → ((j : ℕ) → j < d → get_or q (12 + j) 0 ≡ get_or p (12 + j) 0)
     → ((j : ℕ) → j < d → get_or q (12 + n + j) 0 ≡ get_or p (12 + n + j) 0) → stack_of q n d ≡ stack_of p n d

@@ -1,98 +1,25 @@
--- The loops that test a plan, and the answers of check 19.
---     fits-leaf, fits-inner                         one node
---     labels-no, labels-iteration, labels-end       labels and kinds
---     runs-no, runs-iteration, runs-end             runs of inner nodes
+-- The tests of a plan, and the answers of check 19.
 --     size-unimage                                  a tree of 2n+1 nodes is of n planner's nodes
 --     comes-not, comes-tests                        check 19 from the three tests
-use Prim.Native.Nat.{ℕ, zero, suc, ◌+◌, ◌-◌, ◌*◌, ◌≤◌, ◌<◌}
-use mathlib.Core.Path.{◌≡◌, refl, sym, ap, ap₂, ◌∙◌, subst}
-use mathlib.Core.Bool.{Bool, true, false, ◌&&◌}
-use mathlib.Core.List.{List, [], ◌∷◌}
+use Prim.Native.Nat.{ℕ, ◌+◌, ◌-◌, ◌*◌, ◌≤◌, ◌<◌}
+use mathlib.Core.Path.{◌≡◌, refl, sym, ap, ap₂, ◌∙◌}
+use mathlib.Core.Bool.{true, false, ◌&&◌}
+use mathlib.Core.List.{List}
 use native.Mathlib.Omega.{arith}
-use native.Mathlib.Numerals.{add-one}
-use lib.Dec.{eqb, ltb, leb}
-use lib.ListN.{length, get_or, take, drop, drop_of_length-le}
-use lib.Seq.{drop-cons}
-use borrow.Author.Tests.{eq-eqb, ne_eqb, lt-ltb, le-ltb, le-leb, lt-leb}
+use lib.Dec.{eqb}
+use lib.ListN.{length, get_or, take, drop}
+use borrow.Author.Tests.{eq-eqb, ne_eqb, le-leb, lt-leb}
 use Rattle.list_laws.proofs.BoolLaws.{and-no-left, and-no-right, and-next}
 use Rattle.list_laws.proofs.SliceLaws.{run-part, end-part, length_part}
-use Rattle.trees.specs.Tree.{Tree, leaf, node, size, labels_of, kinds_of}
+use Rattle.trees.specs.Tree.{Tree, leaf, node, size}
 use Rattle.formats.specs.Plan.{node_count, labels_within, kinds_in, plan_tree}
 use Rattle.formats.specs.Checks.{first_no, plan_checks}
-use Rattle.formats.proofs.PlanLaws.{plan-passes, kinds-plan_tree, labels-plan_tree, size-plan_tree}
+use Rattle.formats.proofs.PlanLaws.{plan-passes, kinds-plan_tree, labels-plan_tree}
 use Rattle.formats.specs.Passing.{PlanPasses}
-use Rattle.planner.specs.Siblings.{count, unimage, empty_label}
-use Rattle.planner.specs.File.{is_image, comes_from_file}
-use Rattle.planner.specs.inner.ImageTests.{label_fits, labels_fit, all_runs_fit, one_top, passes_tests}
+use Rattle.planner.specs.Siblings.{count, unimage}
+use Rattle.planner.specs.File.{comes_from_file}
+use Rattle.planner.specs.inner.ImageTests.{labels_fit, all_runs_fit, one_top, passes_tests}
 use Rattle.planner.proofs.Theorems.{tests-are-image}
-use Rattle.planner.specs.home.inner.Runs.{run_after}
-
-pub fits-leaf : (a k : ℕ) → k ≡ 0 → eqb a 63 ≡ label_fits a k
-fits-leaf a zero e = refl
-fits-leaf a (suc k) e = absurd (omega arith)
-
-pub fits-inner : (a k : ℕ) → (k ≡ 0 → ⊥) → ltb a 63 ≡ label_fits a k
-fits-inner a zero e = absurd (e refl)
-fits-inner a (suc k) e = refl
-
-pub after-leaf : (k run : ℕ) → k ≡ 0 → 0 ≡ run_after k run
-after-leaf zero run e = refl
-after-leaf (suc k) run e = absurd (omega arith)
-
-pub after-inner : (k run : ℕ) → (k ≡ 0 → ⊥) → run + 1 ≡ run_after k run
-after-inner zero run e = absurd (e refl)
-after-inner (suc k) run e = refl
-
-from : (l : List ℕ) (i : ℕ) → i < length l → drop i l ≡ get_or l i 0 ∷ drop (i + 1) l
-from l i h = rw add-one (drop-cons l i 0 h)
-
--- ---- labels and kinds
-
-module _ (ls ks : List ℕ) (i : ℕ) (z : length ls ≡ length ks) where
-  labels_next : i < length ls
-      → labels_fit (drop i ls) (drop i ks)
-      ≡ (label_fits (get_or ls i 0) (get_or ks i 0) && labels_fit (drop (i + 1) ls) (drop (i + 1) ks))
-  labels_next h = ap₂ labels_fit (from ls i h) (from ks i (omega arith))
-
-  pub labels-no : labels_fit (drop i ls) (drop i ks) ≡ labels_fit ls ks → i < length ls
-      → label_fits (get_or ls i 0) (get_or ks i 0) ≡ false
-      → labels_fit ls ks ≡ false
-  labels-no e h f = sym e ∙ labels_next h ∙ and-no-left _ _ f
-
-  pub labels-iteration : labels_fit (drop i ls) (drop i ks) ≡ labels_fit ls ks → i < length ls
-      → label_fits (get_or ls i 0) (get_or ks i 0) ≡ true
-      → labels_fit (drop (i + 1) ls) (drop (i + 1) ks) ≡ labels_fit ls ks
-  labels-iteration e h f = sym (and-next _ _ f) ∙ sym (labels_next h) ∙ e
-
-  pub labels-end : labels_fit (drop i ls) (drop i ks) ≡ labels_fit ls ks → length ls ≤ i → true ≡ labels_fit ls ks
-  labels-end e h = ap (λ (l : List ℕ). labels_fit l (drop i ks)) (sym (drop_of_length-le ls h)) ∙ e
-
--- ---- runs
-
-runs-cons : (m k : ℕ) (ks : List ℕ) (w : ℕ) → 0 < m
-    → all_runs_fit m (k ∷ ks) w ≡ (ltb (run_after k w) m && all_runs_fit m ks (run_after k w))
-runs-cons m zero ks w h = sym (and-next _ _ (lt-ltb 0 m h))
-runs-cons m (suc k) ks w h = ap (λ (n : ℕ). ltb n m && all_runs_fit m ks n) (sym (add-one w))
-
-module _ (ks : List ℕ) (w i : ℕ) (e : all_runs_fit 256 (drop i ks) w ≡ all_runs_fit 256 ks 0) where
-  runs-next : i < length ks
-      → (ltb (run_after (get_or ks i 0) w) 256 && all_runs_fit 256 (drop (i + 1) ks) (run_after (get_or ks i 0) w))
-      ≡ all_runs_fit 256 ks 0
-  runs-next h =
-      sym (ap (λ (l : List ℕ). all_runs_fit 256 l w) (from ks i h)
-      ∙ runs-cons 256 (get_or ks i 0) (drop (i + 1) ks) w (omega arith)) ∙ e
-
-  pub runs-no : i < length ks → (r : ℕ) → r ≡ run_after (get_or ks i 0) w → 255 < r → all_runs_fit 256 ks 0 ≡ false
-  runs-no h r q l = sym (runs-next h) ∙ and-no-left _ _ (le-ltb (run_after (get_or ks i 0) w) 256 (omega arith))
-
-  pub runs-iteration : i < length ks → (r : ℕ) → r ≡ run_after (get_or ks i 0) w → r ≤ 255
-      → all_runs_fit 256 (drop (i + 1) ks) r ≡ all_runs_fit 256 ks 0
-  runs-iteration h r q l =
-      ap (all_runs_fit 256 (drop (i + 1) ks)) q
-      ∙ sym (and-next _ _ (lt-ltb (run_after (get_or ks i 0) w) 256 (omega arith))) ∙ runs-next h
-
-  pub runs-end : length ks ≤ i → true ≡ all_runs_fit 256 ks 0
-  runs-end h = ap (λ (l : List ℕ). all_runs_fit 256 l w) (sym (drop_of_length-le ks h)) ∙ e
 
 -- ---- one tree at the top
 

@@ -3,32 +3,31 @@
 --     home-room                     the file's length, by N
 --     home-read-args, home-is       the two runs and the header
 --     home-done, home-refused       the answers of the call
-use Prim.Native.Nat.{ℕ, ◌+◌, ◌-◌, ◌*◌, ◌/◌, ◌≤◌, ◌<◌}
-use mathlib.Core.Path.{◌≡◌, refl, sym, ap, ap₂, ◌∙◌, subst}
-use mathlib.Core.Bool.{Bool, true, false, ◌&&◌}
-use mathlib.Core.List.{List, [], ◌++◌, append_assoc}
+use Prim.Native.Nat.{ℕ, ◌+◌, ◌-◌, ◌*◌, ◌/◌, ◌≤◌}
+use mathlib.Core.Path.{◌≡◌, refl, sym, ap, ap₂, ◌∙◌}
+use mathlib.Core.Bool.{true}
+use mathlib.Core.List.{List, ◌++◌, append_assoc}
 use native.Mathlib.Omega.{arith}
-use lib.Dec.{eqb, leb}
-use lib.ListN.{length, get_or, take, drop}
-use lib.Seq.{sets, length-sets}
+use lib.Dec.{eqb}
+use lib.ListN.{length, take, drop}
+use lib.Seq.{sets}
 use borrow.Author.Tests.{eqb-true}
 use Rattle.list_laws.proofs.BoolLaws.{and_left, and_right}
 use Rattle.list_laws.proofs.SliceLaws.{run-part, end-part, rest-cut}
-use Rattle.trees.specs.Tree.{Tree, size, labels_of, kinds_of}
+use Rattle.trees.specs.Tree.{Tree, labels_of, kinds_of}
 use Rattle.formats.specs.Plan.{node_count, labels_within, kinds_in, plan_tree}
 use Rattle.formats.specs.Checks.{first_no, plan_checks}
 use Rattle.formats.proofs.PlanLaws.{plan-passes, kinds-plan_tree, labels-plan_tree, size-plan_tree}
 use Rattle.formats.specs.Passing.{PlanPasses}
 use Rattle.planner.specs.Siblings.{Siblings, count, width, pre_labels, pre_counts, image, unimage}
 use Rattle.planner.specs.File.{file_length, file_bytes, image_labels, is_image, comes_from_file, home_checks}
-use Rattle.planner.specs.Conversion.{file_of}
 use Rattle.planner.specs.inner.ImageTests.{labels_fit, all_runs_fit}
 use Rattle.planner.proofs.ImageLaws.{image-unimage}
 use Rattle.planner.proofs.ImageTestLaws.{image-tests}
 use Rattle.planner.proofs.CheckAnswers.{home-passes}
 use Rattle.planner.specs.out.inner.Laid.{plan_header}
 use Rattle.planner.proofs.out.PlanLaws.{rest-is, headed}
-use Rattle.planner.specs.home.inner.Cells.{cells_from, Kept, Fits, ReadArgs, ReadDone}
+use Rattle.planner.specs.home.inner.Cells.{ReadArgs, ReadDone}
 use Rattle.planner.specs.home.Home.{HomeArgs, HomeWritten, HomeDone}
 use Rattle.planner.proofs.home.CheckLoop.{size-unimage}
 

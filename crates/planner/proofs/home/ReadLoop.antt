@@ -2,25 +2,25 @@
 --     node-push, node-count, node-release      an inner node; a leaf after inner nodes; a leaf after a leaf
 --     Reading                                  the same is still to be written
 --     reading-start, reading-args, reading-iteration, reading-end
-use Prim.Native.Nat.{ℕ, zero, suc, ◌+◌, ◌-◌, ◌*◌, ◌≤◌, ◌<◌}
-use mathlib.Core.Path.{◌≡◌, refl, sym, ap, ap₂, ◌∙◌, subst}
-use mathlib.Core.Bool.{Bool, true, false, ◌&&◌}
+use Prim.Native.Nat.{ℕ, zero, suc, ◌+◌, ◌-◌, ◌≤◌, ◌<◌}
+use mathlib.Core.Path.{◌≡◌, refl, sym, ap, ap₂, ◌∙◌}
+use mathlib.Core.Bool.{true}
 use mathlib.Core.List.{List, [], ◌∷◌, ◌++◌}
 use mathlib.Core.Option.{Option, none, some}
 use native.Mathlib.Decide.{ℕ_discrete}
 use native.Mathlib.Omega.{arith}
-use lib.Dec.{ltb, eqb}
+use lib.Dec.{ltb}
 use lib.ListN.{length, get_or}
 use borrow.Author.Tests.{ltb-true}
 use Rattle.list_laws.proofs.BoolLaws.{and_left, and_right}
-use Rattle.trees.specs.Tree.{size, labels_of, kinds_of}
+use Rattle.trees.specs.Tree.{labels_of, kinds_of}
 use Rattle.trees.proofs.NodeLaws.{length-labels, length-kinds}
 use Rattle.planner.specs.Siblings.{Siblings, empty, sibling, count, width, pre_labels, pre_counts, image, empty_label}
-use Rattle.planner.specs.inner.HomeMachine.{Waiting, HomeState, home_state, homeward, node_item, read_back}
+use Rattle.planner.specs.inner.HomeMachine.{HomeState, home_state, homeward, node_item, read_back}
 use Rattle.planner.specs.inner.ImageTests.{label_fits, labels_fit, all_runs_fit}
 use Rattle.planner.proofs.HomeMachine.{from_right, homeward-tree}
 use Rattle.planner.proofs.ItemLaws.{read_back-image}
-use Rattle.planner.specs.home.inner.Cells.{stack_of, cells_from, home_now, Kept, Fits, PushArgs, CountArgs}
+use Rattle.planner.specs.home.inner.Cells.{stack_of, cells_from, home_now, Kept, PushArgs, CountArgs}
 use Rattle.planner.specs.home.inner.Cells.{ReleaseArgs, PushDone, CountDone, ReleaseDone, NodeArgs, NodeDone}
 use Rattle.planner.specs.home.inner.Cells.{ReadArgs, ReadDone}
 use Rattle.planner.proofs.home.CellLaws.{cells-end}

@@ -1,41 +1,25 @@
 -- One iteration, and the end, of the loop that writes what is complete.
 --     Releasing           the same is still to be written
---     releasing-start, releasing-iteration, releasing-end
-use Prim.Native.Nat.{ℕ, zero, suc, ◌+◌, ◌-◌, ◌*◌, ◌%◌, ◌≤◌, ◌<◌}
-use mathlib.Core.Path.{◌≡◌, refl, sym, ap, ap₂, ◌∙◌, subst}
-use mathlib.Core.Bool.{Bool, true, false, cond, ◌&&◌}
-use mathlib.Core.List.{List, [], ◌∷◌}
-use mathlib.Core.Option.{Option, none, some}
+--     releasing-iteration, releasing-first, releasing-end
+use Prim.Native.Nat.{ℕ, suc, ◌+◌, ◌-◌, ◌%◌, ◌≤◌, ◌<◌}
+use mathlib.Core.Path.{◌≡◌, sym, ap, ap₂, ◌∙◌, subst}
+use mathlib.Core.Bool.{cond}
+use mathlib.Core.List.{List, ◌∷◌}
 use native.Mathlib.Omega.{arith}
-use lib.Dec.{leb, ltb}
+use lib.Dec.{leb}
 use lib.ListN.{length, get_or, set, length-set}
 use lib.Seq.{get_or-set_same, get_or-set_other}
-use borrow.Author.Tests.{lt-ltb}
-use Rattle.list_laws.proofs.BoolLaws.{true-false}
-use Rattle.planner.specs.inner.HomeMachine.{Waiting, waiting, HomeState, home_state, released, homeward}
-use Rattle.planner.specs.home.inner.Cells.{waiting_at, stack_of, cells_from, home_now, Kept, Fits, ReleaseArgs}
+use borrow.Author.Tests.{le-leb, lt-leb}
+use Rattle.planner.specs.inner.HomeMachine.{HomeState, home_state, released, homeward}
+use Rattle.planner.specs.home.inner.Cells.{stack_of, cells_from, Kept, ReleaseArgs}
 use Rattle.planner.specs.home.inner.Cells.{ReleaseDone}
 use Rattle.planner.proofs.home.CellLaws.{stack_same, cells_same, cells-cons}
 
--- whether what is on top is still to be written
-abbrev resume : Bool → List Waiting → List ℕ → List ℕ → HomeState
-resume true st ls cs = released st ls cs
-resume false st ls cs = home_state st ls cs
-
-resume-cond : (b : Bool) (st : List Waiting) (ls cs : List ℕ)
-    → cond b (released st ls cs) (home_state st ls cs) ≡ resume b st ls cs
-resume-cond true st ls cs = refl
-resume-cond false st ls cs = refl
-
-pub record Releasing (n d left : ℕ) (p : List ℕ) (top : ℕ) (more : Bool) (q : List ℕ) : Type 0 where
-  pub rest : resume more (stack_of q n top) (cells_from q 12 n (top + left)) (cells_from q (12 + n) n (top + left))
+pub record Releasing (n d left : ℕ) (p : List ℕ) (top : ℕ) (q : List ℕ) : Type 0 where
+  pub rest : released (stack_of q n top) (cells_from q 12 n (top + left)) (cells_from q (12 + n) n (top + left))
       ≡ released (stack_of p n d) (cells_from p 12 n (d + left)) (cells_from p (12 + n) n (d + left))
   pub lower : top ≤ d
   pub kept : Kept n p q
-
-pub releasing-start : (n d left : ℕ) (p : List ℕ) → Releasing n d left p d true p
-releasing-start n d left p =
-    record { rest = refl; lower = omega arith; kept = record { same = refl; excess = λ j h. refl } }
 
 -- entry i is written
 abbrev pub written : ℕ → ℕ → List ℕ → ℕ → List ℕ
@@ -94,18 +78,12 @@ module _ (n d left : ℕ) (p : List ℕ) (A : ReleaseArgs p n d left) (i : ℕ) 
       stack_same q (written n left q i) n i (λ j l. other (12 + j) (λ e. omega arith) (λ e. omega (arith, A.inside)))
       (λ j l. other (12 + n + j) (λ e. omega (arith, A.inside)) (λ e. omega arith))
 
-  released-is : resume (leb 64 (get_or q (12 + i) 0)) (stack_of (written n left q i) n i)
-      (cells_from (written n left q i) 12 n (i + left)) (cells_from (written n left q i) (12 + n) n (i + left))
-      ≡ released (stack_of q n (suc i)) (cells_from q 12 n (i + 1 + left)) (cells_from q (12 + n) n (i + 1 + left))
+  released-is : released (stack_of q n (suc i)) (cells_from q 12 n (i + 1 + left)) (cells_from q (12 + n) n (i + 1 + left))
+      ≡ (let r = written n left q i in cond (leb 64 (get_or q (12 + i) 0))
+      (released (stack_of r n i) (cells_from r 12 n (i + left)) (cells_from r (12 + n) n (i + left)))
+      (home_state (stack_of r n i) (cells_from r 12 n (i + left)) (cells_from r (12 + n) n (i + left))))
   unfolding stack_of
-  released-is =
-      ap₂ (λ (st : List Waiting) (l : List ℕ). resume (leb 64 (get_or q (12 + i) 0)) st l
-      (cells_from (written n left q i) (12 + n) n (i + left))) stack-rest labels-more
-      ∙ ap (resume (leb 64 (get_or q (12 + i) 0)) (stack_of q n i)
-      (get_or q (12 + i) 0 % 64 ∷ cells_from q 12 n (i + 1 + left))) counts-more
-      ∙ sym (resume-cond (leb 64 (get_or q (12 + i) 0)) (stack_of q n i)
-      (get_or q (12 + i) 0 % 64 ∷ cells_from q 12 n (i + 1 + left))
-      (get_or q (12 + n + i) 0 ∷ cells_from q (12 + n) n (i + 1 + left)))
+  released-is = rw (stack-rest, labels-more, counts-more)
 
   written-kept : Kept n p (written n left q i)
   written-kept = record {
@@ -113,39 +91,51 @@ module _ (n d left : ℕ) (p : List ℕ) (A : ReleaseArgs p n d left) (i : ℕ) 
     excess = λ j l. other j (λ e. omega (arith, A.inside)) (λ e. omega (arith, A.inside)) ∙ K.excess j l;
   }
 
-empty-stack : (q : List ℕ) (n top : ℕ) (ls cs : List ℕ) → ltb 0 top ≡ false
-    → home_state (stack_of q n top) ls cs ≡ released (stack_of q n top) ls cs
-unfolding stack_of
-empty-stack q n zero ls cs e = refl
-empty-stack q n (suc t) ls cs e = absurd (true-false (sym (lt-ltb 0 (suc t) (omega arith)) ∙ e))
+module _ {n d left : ℕ} {p : List ℕ} {top : ℕ} {q : List ℕ} (A : ReleaseArgs p n d left)
+    (R : Releasing n d left p top q) where
+  module _ (h : 0 < top) where
+    abbrev r : List ℕ
+    r = written n left q (top - 1)
 
-module _ (n d left : ℕ) (p : List ℕ) (A : ReleaseArgs p n d left) (top : ℕ) (q : List ℕ) where
-  pub releasing-iteration : (more : Bool) → Releasing n d left p top more q → more ≡ true → 0 < top
-      → Releasing n d left p (top - 1) (leb 64 (get_or q (12 + (top - 1)) 0)) (written n left q (top - 1))
-  releasing-iteration false R e h = absurd (true-false (sym e))
-  releasing-iteration true R e h =
-      let l : top - 1 < d = omega (arith, R.lower) in
-      let s : suc (top - 1) ≡ top = omega arith in
-      let t : top - 1 + 1 ≡ top = omega arith in
-      record {
-        rest = released-is n d left p A (top - 1) q l R.kept
-            ∙ ap₂ (λ (j k : ℕ). released (stack_of q n j) (cells_from q 12 n (k + left))
-            (cells_from q (12 + n) n (k + left))) s t
-            ∙ R.rest;
-        lower = omega (arith, R.lower);
-        kept = written-kept n d left p A (top - 1) q l R.kept;
-      }
+    l : top - 1 < d
+    l = omega (arith, R.lower)
 
-  ended : (more : Bool) → Releasing n d left p top more q → (more && ltb 0 top) ≡ false
-      → home_state (stack_of q n top) (cells_from q 12 n (top + left)) (cells_from q (12 + n) n (top + left))
-      ≡ released (stack_of p n d) (cells_from p 12 n (d + left)) (cells_from p (12 + n) n (d + left))
-  ended false R e = R.rest
-  ended true R e = empty-stack q n top (cells_from q 12 n (top + left)) (cells_from q (12 + n) n (top + left)) e ∙ R.rest
+    next-kept : Kept n p r
+    next-kept = written-kept n d left p A (top - 1) q l R.kept
 
-  pub releasing-end : (more : Bool) → Releasing n d left p top more q → (more && ltb 0 top) ≡ false
-      → ReleaseDone n d left p top q
-  releasing-end more R e = record {
-    rest = λ xs. ap (λ (T : HomeState). homeward xs 0 T.stack T.labels T.counts) (ended more R e);
-    lower = R.lower;
+    step : cond (leb 64 (get_or q (12 + (top - 1)) 0))
+        (released (stack_of r n (top - 1)) (cells_from r 12 n (top - 1 + left)) (cells_from r (12 + n) n (top - 1 + left)))
+        (home_state (stack_of r n (top - 1)) (cells_from r 12 n (top - 1 + left)) (cells_from r (12 + n) n (top - 1 + left)))
+        ≡ released (stack_of p n d) (cells_from p 12 n (d + left)) (cells_from p (12 + n) n (d + left))
+    step =
+        let s : suc (top - 1) ≡ top = omega arith in
+        let t : top - 1 + 1 ≡ top = omega arith in
+        sym (released-is n d left p A (top - 1) q l R.kept)
+        ∙ ap₂ (λ (j k : ℕ). released (stack_of q n j) (cells_from q 12 n (k + left)) (cells_from q (12 + n) n (k + left))) s t
+        ∙ R.rest
+
+    -- not the first of its list
+    pub releasing-iteration : 64 ≤ get_or q (12 + (top - 1)) 0 → Releasing n d left p (top - 1) r
+    releasing-iteration e = record {
+      rest = rw (le-leb 64 (get_or q (12 + (top - 1)) 0) e) at step;
+      lower = omega (arith, R.lower);
+      kept = next-kept;
+    }
+
+    pub releasing-first : get_or q (12 + (top - 1)) 0 < 64 → ReleaseDone n d left p (top - 1) r
+    releasing-first e = record {
+      rest = λ xs. ap (λ (T : HomeState). homeward xs 0 T.stack T.labels T.counts)
+          (rw (lt-leb 64 (get_or q (12 + (top - 1)) 0) e) at step);
+      lower = omega (arith, R.lower);
+      kept = next-kept;
+    }
+
+  pub releasing-end : top ≡ 0 → ReleaseDone n d left p 0 q
+  unfolding stack_of
+  releasing-end z = record {
+    rest = λ xs. ap (λ (T : HomeState). homeward xs 0 T.stack T.labels T.counts)
+        (subst (λ (j : ℕ). released (stack_of q n j) (cells_from q 12 n (j + left)) (cells_from q (12 + n) n (j + left))
+        ≡ released (stack_of p n d) (cells_from p 12 n (d + left)) (cells_from p (12 + n) n (d + left))) z R.rest);
+    lower = omega arith;
     kept = R.kept;
   }

@@ -1,35 +1,30 @@
 -- The loop that tests the child counts, and the answers of the tests of a file.
---     Waiting, waiting-start, waiting_none, waiting-many, waiting-iteration, waiting-end
+--     Waiting, waiting-start, waiting_none, waiting-many    the invariant, its start, and where it is refused
 --     file-not, file-counts         the answers of the test of a file
 --     room-many .. room-rest        and of the test of the outputs
 use Prim.Native.Nat.{ℕ, zero, suc, ◌+◌, ◌-◌, ◌*◌, ◌≤◌, ◌<◌}
-use mathlib.Core.Path.{◌≡◌, refl, sym, ap, ap₂, ◌∙◌, subst}
-use mathlib.Core.Bool.{Bool, true, false, ◌&&◌}
+use mathlib.Core.Path.{◌≡◌, refl, sym, ap, ◌∙◌}
+use mathlib.Core.Bool.{Bool, true, false}
 use mathlib.Core.List.{List, [], ◌∷◌}
-use mathlib.Core.Option.{Option, none, some}
 use native.Mathlib.Omega.{arith}
-use native.Mathlib.Numerals.{add-one}
-use lib.Dec.{eqb, leb}
-use lib.ListN.{length, get_or, drop, take, length-drop, drop_of_length-le}
-use lib.Seq.{drop-cons}
+use lib.Dec.{leb}
+use lib.ListN.{length, drop, take, length-drop}
 use borrow.Author.Tests.{eq-eqb, ne_eqb, le-leb, lt-leb}
 use Rattle.list_laws.proofs.BoolLaws.{and-no-left, and-next}
 use Rattle.list_laws.proofs.SliceLaws.{end-part}
 use Rattle.formats.specs.Bytes.{le32}
-use Rattle.formats.specs.Plan.{plan_length}
 use Rattle.planner.proofs.FileTrees.{WellFormed, well-formed}
-use Rattle.planner.specs.File.{file_count, file_length, count_run, pending, nothing_left, is_preorder, well_formed, out_room}
+use Rattle.planner.specs.File.{file_count, count_run, pending, nothing_left, is_preorder, well_formed, out_room}
 
 -- ---- the counts
 
 pub record Waiting (cs : List ℕ) (w i : ℕ) : Type 0 where
   pub answer : nothing_left (pending (drop i cs) w) ≡ is_preorder cs
-  pub within : i ≤ length cs
   pub few : w ≤ length cs + 256
 
 pub waiting-start : (cs : List ℕ) → Waiting cs 1 0
 unfolding is_preorder
-waiting-start cs = record { answer = refl; within = omega arith; few = omega arith }
+waiting-start cs = record { answer = refl; few = omega arith }
 
 pending-none : (cs : List ℕ) (w : ℕ) → w ≡ 0 → 0 < length cs → nothing_left (pending cs w) ≡ false
 pending-none [] w e h = absurd (omega arith)
@@ -41,30 +36,12 @@ pending-many [] w h = ne_eqb w 0 (λ e. omega arith)
 pending-many (c ∷ cs) zero h = refl
 pending-many (c ∷ cs) (suc w) h = pending-many cs (c + w) (omega arith)
 
-pending_next : (c : ℕ) (cs : List ℕ) (w : ℕ) → 1 ≤ w → pending (c ∷ cs) w ≡ pending cs (w - 1 + c)
-pending_next c cs zero h = absurd (omega arith)
-pending_next c cs (suc w) h = let e : c + w ≡ suc w - 1 + c = omega arith in ap (pending cs) e
-
-module _ (cs : List ℕ) (w i : ℕ) (W : Waiting cs w i) where
+module _ {cs : List ℕ} {w i : ℕ} (W : Waiting cs w i) where
   pub waiting_none : i < length cs → w < 1 → is_preorder cs ≡ false
   waiting_none h l = sym W.answer ∙ pending-none (drop i cs) w (omega arith) (simp length-drop (omega arith))
 
   pub waiting-many : length cs - i < w → is_preorder cs ≡ false
   waiting-many h = sym W.answer ∙ pending-many (drop i cs) w (simp length-drop (omega arith))
-
-  pub waiting-iteration : i < length cs → 1 ≤ w → w ≤ length cs - i → get_or cs i 0 < 256
-      → Waiting cs (w - 1 + get_or cs i 0) (i + 1)
-  waiting-iteration h l m s =
-      let e : drop i cs ≡ get_or cs i 0 ∷ drop (i + 1) cs = rw (add-one i) (drop-cons cs i 0 h) in
-      record {
-        answer = sym (ap (λ (x : List ℕ). nothing_left (pending x w)) e
-            ∙ ap nothing_left (pending_next (get_or cs i 0) (drop (i + 1) cs) w l)) ∙ W.answer;
-        within = omega arith;
-        few = omega arith;
-      }
-
-  pub waiting-end : length cs ≤ i → eqb w 0 ≡ is_preorder cs
-  waiting-end h = ap (λ (x : List ℕ). nothing_left (pending x w)) (sym (drop_of_length-le cs h)) ∙ W.answer
 
 -- ---- the file
 

@@ -1,11 +1,10 @@
--- One iteration, and the end, of the loops that write the plan.
---     Filling, filling-start, filling-iteration, filling-end
---     Laying, laying-start, laying-iteration, laying-end     the nodes up to v are at their places
+-- One iteration, and the end, of the loop that writes the nodes.
+--     Laying, laying-iteration, laying-end     the nodes up to v are at their places
 --     place_inside                                           a place is a node of the plan
-use Prim.Native.Nat.{ℕ, zero, suc, ◌+◌, ◌-◌, ◌*◌, ◌≤◌, ◌<◌}
-use mathlib.Core.Path.{◌≡◌, refl, sym, ap, ap₂, ◌∙◌, subst}
-use mathlib.Core.Bool.{Bool, true, false, cond}
-use mathlib.Core.List.{List, [], ◌∷◌}
+use Prim.Native.Nat.{ℕ, ◌+◌, ◌-◌, ◌*◌, ◌≤◌, ◌<◌}
+use mathlib.Core.Path.{◌≡◌, refl, sym, ap, ◌∙◌}
+use mathlib.Core.Bool.{Bool, cond}
+use mathlib.Core.List.{List}
 use mathlib.Core.Option.{Option, none, some}
 use native.Mathlib.Decide.{dec_lt, ℕ_discrete}
 use native.Mathlib.Omega.{arith}
@@ -13,54 +12,11 @@ use lib.Dec.{ltb}
 use lib.ListN.{length, get_or, set, length-set}
 use lib.Seq.{get_or-set_same, get_or-set_other}
 use borrow.Author.Tests.{lt-ltb, le-ltb}
-use Rattle.trees.specs.Tree.{size, labels_of, kinds_of}
-use Rattle.planner.specs.Siblings.{Siblings, count, pre_labels, image, items, item_label, item_kind, places, empty_label}
-use Rattle.planner.proofs.ImageLaws.{size-image, PlaceOf, place-item, NodeAt, item-place}
+use Rattle.planner.specs.Siblings.{Siblings, count, pre_labels, items, item_label, item_kind, places, empty_label}
+use Rattle.planner.proofs.ImageLaws.{PlaceOf, place-item, NodeAt, item-place}
 use Rattle.planner.proofs.ItemLaws.{label-item, kind-item}
 use Rattle.planner.proofs.PreorderLaws.{length-pre_labels}
-use Rattle.planner.specs.out.inner.Laid.{Filled, Nodes, LayArgs, Laid}
-
--- ---- one byte everywhere
-
-pub record Filling (from to x : ℕ) (p q : List ℕ) (i : ℕ) : Type 0 where
-  pub low : from ≤ i
-  pub high : i ≤ to
-  pub inside : (j : ℕ) → from ≤ j → j < i → get_or q j 0 ≡ x
-  pub before : (j : ℕ) → j < from → get_or q j 0 ≡ get_or p j 0
-  pub after : (j : ℕ) → i ≤ j → get_or q j 0 ≡ get_or p j 0
-  pub same : length q ≡ length p
-
-pub filling-start : (from to x : ℕ) (p : List ℕ) → from ≤ to → Filling from to x p p from
-filling-start from to x p h = record {
-  low = omega arith;
-  high = h;
-  inside = λ j l m. absurd (omega arith);
-  before = λ j l. refl;
-  after = λ j l. refl;
-  same = refl;
-}
-
-pub filling-iteration : (from to x : ℕ) (p q : List ℕ) (i : ℕ) → Filling from to x p q i → i < to → to ≤ length p
-    → Filling from to x p (set q i x) (i + 1)
-filling-iteration from to x p q i F h room = record {
-  low = omega (arith, F.low);
-  high = omega arith;
-  inside = λ j l m. elim (ℕ_discrete j i) [
-    | yes e ↦ ap (λ (k : ℕ). get_or (set q i x) k 0) e ∙ get_or-set_same q i x 0 (omega (arith, F.same))
-    | no e ↦ get_or-set_other q i j x 0 e ∙ F.inside j l (omega arith)
-  ];
-  before = λ j l. get_or-set_other q i j x 0 (λ e. omega (arith, F.low)) ∙ F.before j l;
-  after = λ j l. get_or-set_other q i j x 0 (λ e. omega arith) ∙ F.after j (omega arith);
-  same = length-set q i x ∙ F.same;
-}
-
-pub filling-end : (from to x : ℕ) (p q : List ℕ) (i : ℕ) → Filling from to x p q i → to ≤ i → Filled from to x p q
-filling-end from to x p q i F h = record {
-  inside = λ j l m. F.inside j l (omega arith);
-  before = F.before;
-  after = λ j l. F.after j (omega (arith, F.high));
-  same = F.same;
-}
+use Rattle.planner.specs.out.inner.Laid.{Nodes, LayArgs, Laid}
 
 -- ---- the nodes
 
@@ -71,14 +27,6 @@ label_below v ls u = cond (ltb u v) (get_or ls u 0) empty_label
 abbrev kind_below : ℕ → Option ℕ → ℕ
 kind_below v none = 0
 kind_below v (some u) = cond (ltb u v) 1 0
-
-label-none : (ls : List ℕ) (x : Option ℕ) → empty_label ≡ item_label (label_below 0 ls) x
-label-none ls none = refl
-label-none ls (some u) = rw (le-ltb u 0 (omega arith))
-
-kind-none : (x : Option ℕ) → 0 ≡ kind_below 0 x
-kind-none none = refl
-kind-none (some u) = rw (le-ltb u 0 (omega arith))
 
 below_next : (u v : ℕ) → (u ≡ v → ⊥) → ltb u v ≡ ltb u (v + 1)
 below_next u v h = elim (dec_lt u v) [
@@ -115,18 +63,6 @@ pub length-labels-is : (f : Siblings) (ls ps : List ℕ) → Nodes f ls ps → l
 length-labels-is f ls ps N = ap length (sym N.labels) ∙ length-pre_labels f
 
 module _ (f : Siblings) (ls ps p : List ℕ) (n : ℕ) (A : LayArgs f ls ps p n) where
-  pub size_fits : n ≤ 65535
-  size_fits = omega (arith, A.size_is, size-image f, A.nodes.few)
-
-  pub laying-start : Laying f ls n p p 0
-  laying-start = record {
-    label = λ j h. A.labels_empty j h ∙ label-none ls (get_or (items f 0) j none);
-    kind = λ j h. A.kinds_empty j h ∙ kind-none (get_or (items f 0) j none);
-    head = λ j h. refl;
-    excess = λ j h. refl;
-    same = refl;
-  }
-
   module _ (v : ℕ) (h : v < length ls) where
     in_tree : v < count f
     in_tree = omega (arith, length-labels-is f ls ps A.nodes)

@@ -2,27 +2,27 @@
 --     place-args, places-written     the pass over the counts
 --     write-args, plan-is            the plan
 --     out-done, out-refused          the answers of the call
-use Prim.Native.Nat.{ℕ, ◌+◌, ◌-◌, ◌*◌, ◌≤◌, ◌<◌}
-use mathlib.Core.Path.{◌≡◌, refl, sym, ap, ap₂, ◌∙◌, subst}
+use Prim.Native.Nat.{ℕ, ◌+◌, ◌-◌, ◌*◌, ◌≤◌}
+use mathlib.Core.Path.{◌≡◌, refl, sym, ap, ◌∙◌}
 use mathlib.Core.Bool.{true}
 use mathlib.Core.List.{List, [], ◌++◌}
 use native.Mathlib.Omega.{arith}
-use lib.ListN.{length, get_or, take, drop, length-append, length-drop, get_or-append}
+use lib.ListN.{length, get_or, take, drop, length-append, get_or-append}
 use Rattle.list_laws.proofs.SliceLaws.{length_part, run-part}
 use Rattle.trees.specs.Tree.{size}
-use Rattle.formats.specs.Plan.{plan_length, plan_bytes}
+use Rattle.formats.specs.Plan.{plan_length}
 use Rattle.formats.specs.Checks.{first_no}
-use Rattle.planner.specs.Siblings.{Siblings, count, width, pre_labels, pre_counts, image, items, places}
+use Rattle.planner.specs.Siblings.{count, width, pre_labels, pre_counts, image, items, places}
 use Rattle.planner.specs.File.{file_count, label_run, count_run, file_tree, out_checks}
 use Rattle.planner.specs.Conversion.{plan_of, places_of}
-use Rattle.planner.specs.inner.OutMachine.{outward, Written, placed}
-use Rattle.planner.proofs.PreorderLaws.{length-pre_counts, length-pre_labels}
-use Rattle.planner.proofs.FileTrees.{WellFormed, read-file}
+use Rattle.planner.specs.inner.OutMachine.{outward, placed}
+use Rattle.planner.proofs.PreorderLaws.{length-pre_counts}
+use Rattle.planner.proofs.FileTrees.{read-file}
 use Rattle.planner.proofs.ImageLaws.{size-image, length-items, length-places}
 use Rattle.planner.proofs.OutMachine.{outward-tree, placed-items, placed-tree}
 use Rattle.planner.proofs.CheckAnswers.{OutPasses, out-passes}
 use Rattle.planner.specs.out.inner.Stack.{PlaceArgs, NodesPlaced}
-use Rattle.planner.specs.out.inner.Laid.{Nodes, WriteArgs, PlanWritten}
+use Rattle.planner.specs.out.inner.Laid.{WriteArgs, PlanWritten}
 use Rattle.planner.specs.out.Out.{OutArgs, OutWritten, OutDone}
 use Rattle.planner.proofs.out.CheckLoop.{count-part}
 use Rattle.planner.proofs.out.PlanLaws.{rest-is}

@@ -1,22 +1,19 @@
--- One node read, and one iteration and the end of the loop over all nodes.
+-- One node read, and the invariant of the loop over all nodes.
 --     node-inner, node-leaf     a node with children, and one without
 --     leaf-args, next_fits      what closing the lists needs
 --     Placing                   the same items are still to be written, to the same places
---     placing-start, placing-args, placing-iteration, placing-end
-use Prim.Native.Nat.{ℕ, zero, suc, ◌+◌, ◌-◌, ◌*◌, ◌≤◌, ◌<◌}
-use mathlib.Core.Path.{◌≡◌, refl, sym, ap, ap₂, ◌∙◌, subst}
-use mathlib.Core.Bool.{Bool, true, false}
+--     placing-start             its start
+use Prim.Native.Nat.{ℕ, zero, suc, ◌+◌, ◌-◌, ◌*◌, ◌≤◌}
+use mathlib.Core.Path.{◌≡◌, refl, sym, ap, ◌∙◌}
+use mathlib.Core.Bool.{true, false}
 use mathlib.Core.List.{List, [], ◌∷◌}
-use mathlib.Core.Option.{Option, none}
+use mathlib.Core.Option.{Option}
 use native.Mathlib.Omega.{arith}
-use native.Mathlib.Numerals.{add-one}
 use lib.Dec.{eqb}
-use lib.ListN.{length, get_or, drop, drop_of_length-le}
-use lib.Seq.{drop-cons}
+use lib.ListN.{length, get_or, drop}
 use Rattle.planner.specs.inner.OutMachine.{Entry, entry, to_come, closed, outward, Written, placed}
 use Rattle.planner.proofs.OutMachine.{placed-items}
 use Rattle.planner.specs.out.inner.Stack.{stack_of, after_top, Pushed, CloseArgs, ListsClosed, NodeArgs, NodeRead}
-use Rattle.planner.specs.out.inner.Stack.{PlaceArgs, NodesPlaced}
 use Rattle.planner.proofs.out.StackLaws.{after_top-to_come}
 
 -- what the loop gives after lists were closed
@@ -83,7 +80,6 @@ pub record Placing (cs p ps q qs : List ℕ) (depth next left first v : ℕ) : T
   pub rest : placed (outward (drop v cs) v left (eqb first 1) (stack_of q depth)) next qs
       ≡ placed (outward cs 0 1 true []) 0 ps
   pub shallow : depth ≤ v
-  pub within : v ≤ length cs
   pub same : length q ≡ length p
   pub same_places : length qs ≡ length ps
   pub kept : (j : ℕ) → length cs * 4 ≤ j → get_or q j 0 ≡ get_or p j 0
@@ -93,52 +89,7 @@ unfolding stack_of
 placing-start cs p ps = record {
   rest = refl;
   shallow = omega arith;
-  within = omega arith;
   same = refl;
   same_places = refl;
   kept = λ j h. refl;
 }
-
-module _ (cs p ps q qs : List ℕ) (depth next left first v : ℕ) (A : PlaceArgs cs p ps)
-    (C : Placing cs p ps q qs depth next left first v) where
-  module _ (h : v < length cs) where
-    next-read : placed (outward (get_or cs v 0 ∷ drop (v + 1) cs) v left (eqb first 1) (stack_of q depth)) next qs
-        ≡ placed (outward cs 0 1 true []) 0 ps
-    next-read =
-        let e : drop v cs ≡ get_or cs v 0 ∷ drop (v + 1) cs = rw (add-one v) (drop-cons cs v 0 h) in
-        ap (λ (l : List ℕ). placed (outward l v left (eqb first 1) (stack_of q depth)) next qs) (sym e) ∙ C.rest
-
-    pub placing-args : NodeArgs q qs v (get_or cs v 0) depth next left first
-    placing-args = record {
-      room = omega (arith, C.shallow, C.same, A.room);
-      small = omega (arith, A.small);
-      counts = drop (v + 1) cs;
-      fits =
-          let e : (placed (outward (get_or cs v 0 ∷ drop (v + 1) cs) v left (eqb first 1) (stack_of q depth)) next qs).items
-          ≡ (placed (outward cs 0 1 true []) 0 ps).items = ap (λ (w : Written). w.items) next-read in
-          omega (arith, e, A.fits);
-    }
-
-    pub placing-iteration : (depth₁ next₁ left₁ first₁ : ℕ) (q₁ qs₁ : List ℕ)
-        → NodeRead v (get_or cs v 0) depth next left first q qs depth₁ next₁ left₁ first₁ q₁ qs₁
-        → Placing cs p ps q₁ qs₁ depth₁ next₁ left₁ first₁ (v + 1)
-    placing-iteration depth₁ next₁ left₁ first₁ q₁ qs₁ N = record {
-      rest = N.rest (drop (v + 1) cs) ∙ next-read;
-      shallow = omega (arith, N.deeper, C.shallow);
-      within = omega arith;
-      same = N.same ∙ C.same;
-      same_places = N.same_places ∙ C.same_places;
-      kept = λ j l. N.kept j (omega (arith, C.shallow)) ∙ C.kept j l;
-    }
-
-  pub placing-end : length cs ≤ v → NodesPlaced cs p ps q qs
-  placing-end h =
-      let e : placed (outward [] v left (eqb first 1) (stack_of q depth)) next qs
-      ≡ placed (outward cs 0 1 true []) 0 ps =
-      ap (λ (l : List ℕ). placed (outward l v left (eqb first 1) (stack_of q depth)) next qs)
-      (sym (drop_of_length-le cs h)) ∙ C.rest in
-      record {
-        places = ap (λ (w : Written). w.places) e;
-        same = C.same;
-        kept = C.kept;
-      }

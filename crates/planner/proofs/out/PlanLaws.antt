@@ -1,12 +1,15 @@
 -- The plan that is written is the image's: header, labels, kinds, and the excess as it was.
+--     filled          a part of a list, filled with one number
 --     lay-args        what the loop over the nodes needs
 --     plan-written    the four steps together
 use Prim.Native.Nat.{ℕ, ◌+◌, ◌-◌, ◌*◌, ◌≤◌, ◌<◌}
 use mathlib.Core.Path.{◌≡◌, refl, sym, ap, ◌∙◌}
-use mathlib.Core.List.{List, [], ◌∷◌, ◌++◌, append_assoc}
+use mathlib.Core.List.{List, ◌++◌, append_assoc}
 use native.Mathlib.Omega.{arith}
-use lib.ListN.{length, get_or, take, drop, length-drop, get_or-append}
-use lib.Seq.{sets, length-sets, sets-eq, ext_get_or, get_or-take, get_or-drop}
+use lib.ListN.{length, get_or, take, drop, replicate, length-drop, length-append, length-replicate, get_or-append, get_or-replicate}
+use lib.Seq.{sets, length-sets, sets-eq, ext_get_or, get_or-take, get_or-drop, length-take-le}
+use borrow.Rule.Slice.PartMut.{put_mid}
+use Rattle.std.proofs.lemmas.List.{get_or-append_right}
 use Rattle.trees.specs.Tree.{Tree, size, labels_of, kinds_of}
 use Rattle.trees.proofs.NodeLaws.{length-labels, length-kinds}
 use Rattle.list_laws.proofs.AppendLaws.{get_d_past}
@@ -61,6 +64,29 @@ module _ (p : List ℕ) (n : ℕ) (room : 12 ≤ length p) where
   pub headed-behind : (j : ℕ) → 12 ≤ j → get_or (sets p 0 (plan_header n)) j 0 ≡ get_or p j 0
   headed-behind j h = ap (λ (l : List ℕ). get_or l j 0) headed ∙ get_d_past (plan_header n) p 12 j refl h
 
+-- a part of a list, filled with x
+pub filled : (from to x : ℕ) (p w : List ℕ) → from ≤ to → to ≤ length p
+    → w ≡ replicate (length (take (to - from) (drop from p))) x → Filled from to x p (put_mid from (to - from) p w)
+filled from to x p w h room e =
+    let a : length (take from p) ≡ from = length-take-le from p (omega arith) in
+    let n : length (take (to - from) (drop from p)) ≡ to - from = length_part p from (to - from) (omega arith) in
+    let b : length w ≡ to - from = ap length e ∙ length-replicate _ x ∙ n in
+    let rest : List ℕ = drop (to - from) (drop from p) in
+    let c : length rest ≡ length p - to = simp length-drop (omega arith) in
+    record {
+      inside = λ j l m. get_or-append_right (take from p) (w ++ rest) from j 0 a l
+          ∙ get_or-append w rest 0 (j - from) (omega arith)
+          ∙ ap (λ (y : List ℕ). get_or y (j - from) 0) e
+          ∙ get_or-replicate (length (take (to - from) (drop from p))) (j - from) x 0 (omega arith);
+      before = λ j l. get_or-append (take from p) (w ++ rest) 0 j (omega arith) ∙ get_or-take from p j 0 l;
+      after = λ j l. get_or-append_right (take from p) (w ++ rest) from j 0 a (omega arith)
+          ∙ get_or-append_right w rest (to - from) (j - from) 0 b (omega arith)
+          ∙ get_or-drop (to - from) (drop from p) (j - from - (to - from)) 0
+          ∙ get_or-drop from p (to - from + (j - from - (to - from))) 0
+          ∙ (let i : from + (to - from + (j - from - (to - from))) ≡ j = omega arith in ap (λ (i : ℕ). get_or p i 0) i);
+      same = length-append (take from p) (w ++ rest) ∙ omega (arith, length-append w rest);
+    }
+
 -- how long plan and labels are
 pub record Room (ls p : List ℕ) : Type 0 where
   pub few : length ls ≤ 32767
@@ -72,18 +98,34 @@ write-room f ls ps p A = record {
   room = omega (arith, A.room, length-labels-is f ls ps A.nodes);
 }
 
-module _ (f : Siblings) (ls ps p : List ℕ) (A : WriteArgs f ls ps p) (n : ℕ) (en : n ≡ 2 * length ls + 1)
-    (p₁ p₂ p₃ : List ℕ)
-    (H : p₁ ≡ sets p 0 (plan_header n)) (F : Filled 12 (12 + n) empty_label p₁ p₂)
-    (G : Filled (12 + n) (12 + 2 * n) 0 p₂ p₃) where
+-- the plan p with a header, with the labels w₁ and with the kinds w₂
+module _ {f : Siblings} {ls ps p : List ℕ} (A : WriteArgs f ls ps p) (n : ℕ) (en : n ≡ 2 * length ls + 1)
+    {p₁ w₁ w₂ : List ℕ}
+    (H : p₁ ≡ sets p 0 (plan_header n)) (W₁ : w₁ ≡ replicate (length (take (12 + n - 12) (drop 12 p₁))) empty_label)
+    (W₂ : w₂ ≡ replicate (length (take (12 + 2 * n - (12 + n)) (drop (12 + n) (put_mid 12 (12 + n - 12) p₁ w₁)))) 0) where
+  abbrev p₂ : List ℕ
+  p₂ = put_mid 12 (12 + n - 12) p₁ w₁
+
+  abbrev p₃ : List ℕ
+  p₃ = put_mid (12 + n) (12 + 2 * n - (12 + n)) p₂ w₂
+
   e : n ≡ 2 * count f + 1
   e = omega (arith, length-labels-is f ls ps A.nodes)
 
   long : 12 ≤ length p
   long = omega (arith, A.room)
 
+  same_head : length p₁ ≡ length p
+  same_head = ap length H ∙ headed-length p n long
+
+  F : Filled 12 (12 + n) empty_label p₁ p₂
+  F = filled 12 (12 + n) empty_label p₁ w₁ (omega arith) (omega (arith, A.room, e, same_head)) W₁
+
+  G : Filled (12 + n) (12 + 2 * n) 0 p₂ p₃
+  G = filled (12 + n) (12 + 2 * n) 0 p₂ w₂ (omega arith) (omega (arith, A.room, e, same_head, F.same)) W₂
+
   same_length : length p₃ ≡ length p
-  same_length = G.same ∙ F.same ∙ ap length H ∙ headed-length p n long
+  same_length = G.same ∙ F.same ∙ same_head
 
   size_is : n ≡ size (image f)
   size_is = omega (arith, e, size-image f)
@@ -97,8 +139,8 @@ module _ (f : Siblings) (ls ps p : List ℕ) (A : WriteArgs f ls ps p) (n : ℕ)
     kinds_empty = λ j h. G.inside (12 + n + j) (omega arith) (omega arith);
   }
 
-  pub plan-written : (q : List ℕ) → Laid f n p₃ q → PlanWritten f p q
-  plan-written q L =
+  pub plan-written : {q : List ℕ} → Laid f n p₃ q → PlanWritten f p q
+  plan-written {q} L =
       let t : Tree = image f in
       let z : length q ≡ length p = L.same ∙ same_length in
       let head : take 12 q ≡ plan_header (size t) =

@@ -2,20 +2,18 @@
 --     stack_same, stack-top     only the entries count; the top and the rest
 --     stack-pushed              an entry more
 --     close-iteration, close-end
-use Prim.Native.Nat.{ℕ, zero, suc, ◌+◌, ◌-◌, ◌*◌, ◌/◌, ◌%◌, ◌≤◌, ◌<◌}
-use mathlib.Core.Path.{◌≡◌, refl, sym, ap, ap₂, ◌∙◌, subst}
-use mathlib.Core.Bool.{Bool, true, false, cond, not}
-use mathlib.Core.List.{List, [], ◌∷◌}
-use mathlib.Core.Option.{Option, none, some}
+use Prim.Native.Nat.{ℕ, zero, suc, ◌+◌, ◌*◌, ◌≤◌, ◌<◌}
+use mathlib.Core.Path.{◌≡◌, refl, sym, ap, ◌∙◌}
+use mathlib.Core.Bool.{Bool, true, false}
+use mathlib.Core.List.{List, ◌∷◌}
+use mathlib.Core.Option.{Option}
 use native.Mathlib.Omega.{arith}
 use native.Mathlib.Numerals.{add-one}
 use lib.Dec.{eqb}
 use lib.ListN.{length, get_or, set, length-set}
 use lib.Seq.{get_or-set_same, get_or-set_other}
-use borrow.Author.Tests.{eq-eqb, ne_eqb}
 use Rattle.list_laws.proofs.BoolLaws.{true-false}
-use Rattle.planner.specs.inner.OutMachine.{Entry, entry, to_come, closed, outward, Written, placed}
-use Rattle.planner.proofs.OutMachine.{placed-items}
+use Rattle.planner.specs.inner.OutMachine.{Entry, entry, to_come, closed, placed}
 use Rattle.planner.specs.out.inner.Stack.{node_on_top, is_later, entry_at, stack_of, after_top, goes_further, after_leaf}
 use Rattle.planner.specs.out.inner.Stack.{Pushed}
 
@@ -109,15 +107,3 @@ after_top-to_come p (suc d) = refl
 pub top-some : (p : List ℕ) (d : ℕ) (closing : Bool) → goes_further p d closing ≡ true → 0 < d
 top-some p zero closing e = absurd (true-false (sym e))
 top-some p (suc d) closing e = omega arith
-
-pub goes_further-closing : (p : List ℕ) (d : ℕ) → 0 < d → goes_further p d true ≡ true
-goes_further-closing p zero h = absurd (omega arith)
-goes_further-closing p (suc d) h = refl
-
-pub goes_further-open : (p : List ℕ) (d : ℕ) → 0 < d → goes_further p d false ≡ eqb (get_or p ((d - 1) * 4 + 2) 0) 0
-goes_further-open p zero h = absurd (omega arith)
-goes_further-open p (suc d) h = let e : d ≡ suc d - 1 = omega arith in ap (λ (i : ℕ). eqb (get_or p (i * 4 + 2) 0) 0) e
-
-pub after_top-top : (p : List ℕ) (d : ℕ) → 0 < d → after_top p d ≡ get_or p ((d - 1) * 4 + 2) 0
-after_top-top p zero h = absurd (omega arith)
-after_top-top p (suc d) h = let e : d ≡ suc d - 1 = omega arith in ap (λ (i : ℕ). get_or p (i * 4 + 2) 0) e

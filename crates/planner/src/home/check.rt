@@ -25,12 +25,10 @@ fn labels_fit(labels: &[u8], kinds: &[u8]) -> bool
     requires { length labels.now ≡ length kinds.now }
     ensures { result ≡ labels_fit labels.now kinds.now }
 {
-    let mut i: usize = 0;
-    while i < labels.len() {
-        if !label_fits(labels[i], kinds[i]) {
+    for (i, label) in labels.iter().enumerate() {
+        if !label_fits(*label, kinds[i]) {
             return false;
         }
-        i += 1;
     }
     true
 }
@@ -51,13 +49,11 @@ fn runs_fit(kinds: &[u8]) -> bool
     ensures { result ≡ all_runs_fit 256 kinds.now 0 }
 {
     let mut run: usize = 0;
-    let mut i: usize = 0;
-    while i < kinds.len() {
-        run = run_after(kinds[i], run);
+    for kind in kinds {
+        run = run_after(*kind, run);
         if 255 < run {
             return false;
         }
-        i += 1;
     }
     true
 }

@@ -51,17 +51,16 @@ fn release(file: &mut [u8], n: usize, depth: usize, left: usize) -> usize
     requires { ReleaseArgs file.old n depth left }
     ensures { ReleaseDone n depth left file.old result file.new }
 {
-    let mut top = depth;
-    let mut more = true;
-    while more & (0 < top) {
-        top = top - 1;
+    for top in (0..depth).rev() {
         let label = file[PLAN_HEAD + top];
         let count = file[PLAN_HEAD + n + top];
         file[PLAN_HEAD + top + left] = label % 64;
         file[PLAN_HEAD + n + top + left] = count;
-        more = 64 <= label;
+        if label < 64 {
+            return top;
+        }
     }
-    top
+    0
 }
 
 // Reads one node.
@@ -105,9 +104,7 @@ pub fn read_nodes(labels: &[u8], kinds: &[u8], file: &mut [u8], n: usize)
         left: n,
         run: 0,
     };
-    let mut v = labels.len();
-    while 0 < v {
-        v = v - 1;
+    for v in (0..labels.len()).rev() {
         w = read_node(file, n, labels[v], kinds[v], w);
     }
 }

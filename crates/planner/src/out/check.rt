@@ -14,16 +14,14 @@ fn is_preorder(counts: &[u8]) -> bool
     ensures { result ≡ is_preorder counts.now }
 {
     let mut wait: usize = 1;
-    let mut i: usize = 0;
-    while i < counts.len() {
+    for (i, count) in counts.iter().enumerate() {
         if wait < 1 {
             return false;
         }
         if counts.len() - i < wait {
             return false;
         }
-        wait = wait - 1 + counts[i] as usize;
-        i += 1;
+        wait = wait - 1 + *count as usize;
     }
     wait == 0
 }

@@ -5,7 +5,7 @@ ghost use Rattle.std.proofs.lemmas.List.Edits.{sets};
 ghost use Rattle.formats.specs.Layout.{plan_head};
 ghost use Rattle.formats.specs.Limits.{node_limit};
 ghost use Rattle.planner.specs.Siblings.{Siblings};
-ghost use Rattle.planner.specs.out.inner.Laid.{plan_header, Filled, LayArgs, Laid, WriteArgs, PlanWritten};
+ghost use Rattle.planner.specs.out.inner.Laid.{plan_header, LayArgs, Laid, WriteArgs, PlanWritten};
 
 use crate::EMPTY_LABEL;
 use formats::layout::PLAN_HEAD;
@@ -30,30 +30,16 @@ pub fn write_header(plan: &mut [u8], n: usize)
     plan[11] = (kinds / 16777216 % 256) as u8;
 }
 
-// The same byte from one place to another.
-fn fill(plan: &mut [u8], from: usize, to: usize, x: u8)
-    requires { (from ≤ to) × (to ≤ length plan.old) }
-    ensures { Filled from to x plan.old plan.new }
-{
-    let mut i: usize = from;
-    while i < to {
-        plan[i] = x;
-        i += 1;
-    }
-}
-
 // Label and kind of each node at its place; `size` is the plan's number of nodes.
 fn lay_nodes(labels: &[u8], places: &[u16], plan: &mut [u8], size: usize)
     requires { (f : Siblings) × LayArgs f labels.now places.now plan.old size }
     ensures { (f : Siblings) → LayArgs f labels.now places.now plan.old size
         → Laid f size plan.old plan.new }
 {
-    let mut v: usize = 0;
-    while v < labels.len() {
+    for (v, label) in labels.iter().enumerate() {
         let place = places[v] as usize;
-        plan[PLAN_HEAD + place] = labels[v];
+        plan[PLAN_HEAD + place] = *label;
         plan[PLAN_HEAD + size + place] = 1;
-        v += 1;
     }
 }
 
@@ -65,7 +51,7 @@ pub fn write_plan(labels: &[u8], places: &[u16], plan: &mut [u8])
 {
     let size = 2 * labels.len() + 1;
     write_header(plan, size);
-    fill(plan, PLAN_HEAD, PLAN_HEAD + size, EMPTY_LABEL);
-    fill(plan, PLAN_HEAD + size, PLAN_HEAD + 2 * size, 0);
+    plan[PLAN_HEAD..PLAN_HEAD + size].fill(EMPTY_LABEL);
+    plan[PLAN_HEAD + size..PLAN_HEAD + 2 * size].fill(0);
     lay_nodes(labels, places, plan, size);
 }

@@ -23,16 +23,6 @@ pub struct Walk {
     pub first: u8,
 }
 
-// One less, and 0 for 0.
-fn less_one(x: u8) -> u8
-    ensures { result ≡ x - 1 }
-{
-    if x == 0 {
-        return 0;
-    }
-    x - 1
-}
-
 // Stores x at index `at`, where there is such an index.
 fn put(places: &mut [u16], at: usize, x: u16)
     ensures { places.new ≡ set places.old at x }
@@ -133,7 +123,7 @@ fn read_node(plan: &mut [u8], places: &mut [u16], v: usize, count: u8, w: Walk) 
     ensures { NodeRead v count w.depth w.next w.left w.first plan.old places.old
         result.depth result.next result.left result.first plan.new places.new }
 {
-    push(plan, w.depth, v, less_one(w.left), w.first);
+    push(plan, w.depth, v, w.left.saturating_sub(1), w.first);
     if count != 0 {
         return Walk {
             depth: w.depth + 1,
@@ -163,9 +153,7 @@ pub fn place_nodes(counts: &[u8], plan: &mut [u8], places: &mut [u16])
         left: 1,
         first: 1,
     };
-    let mut v: usize = 0;
-    while v < counts.len() {
-        w = read_node(plan, places, v, counts[v], w);
-        v += 1;
+    for (v, count) in counts.iter().enumerate() {
+        w = read_node(plan, places, v, *count, w);
     }
 }

@@ -3,14 +3,15 @@
 --     column-zero      past the last line each array is 0
 --     lines-reply      a reply shows the lines it was made of
 --     front-column     the front of a record's array is the column of its lines
---     FrontLoop        the invariant of front
-use Prim.Native.Nat.{ℕ, zero, suc, ◌+◌, ◌≤◌, ◌<◌}
-use mathlib.Core.Path.{◌≡◌, refl, sym, ap, ap₂, ◌∙◌, subst}
+--     front_is         the first n entries of an array with zeros behind them are its front
+use Prim.Native.Nat.{ℕ, zero, suc, ◌+◌, ◌-◌, ◌≤◌, ◌<◌}
+use mathlib.Core.Path.{◌≡◌, refl, sym, ap, ap₂, ◌∙◌}
 use mathlib.Core.List.{List, [], ◌∷◌, ◌++◌}
 use native.Mathlib.Decide.{ℕ_discrete, dec_lt}
 use native.Mathlib.Omega.{arith}
-use lib.ListN.{length, get_or, take, set, replicate, length-set, get_or-append, get_or-eq_default}
-use lib.Seq.{get_or_at, get_or-set_same, get_or-set_other, take-suc, take-length}
+use lib.ListN.{length, get_or, take, drop, replicate, length-append, length-drop, get_or-append, get_or-eq_default}
+use lib.Seq.{get_or_at, get_or-take, get_or-drop, take-suc, take-length, length-take-le}
+use Rattle.std.proofs.lemmas.List.{get_or-append_right}
 use Rattle.list_laws.proofs.RowLaws.{length-tabulate, get_d_tabulate, tabulate-of}
 use Rattle.products.specs.agreement.Lines.{Line, leaf_line, inner_line}
 use Rattle.products.proofs.agreement.Marks.{zeros-at}
@@ -116,12 +117,12 @@ right_of : (k a i j : ℕ) → (k ≡ 0 → j ≡ 0) → line_right (line_of k a
 right_of zero a i j z = sym (z refl)
 right_of (suc k) a i j z = refl
 
-module _ (s1 s2 : ℕ) (t : Search) (n : ℕ) (A : CutArgs s1 s2 t n) where
-  pub cut-reply : (ks bs ls rs : List ℕ) → Front n t.kinds ks → Front n t.labels bs → Front n t.lefts ls
+module _ {s1 s2 : ℕ} {t : Search} {n : ℕ} (A : CutArgs s1 s2 t n) where
+  pub cut-reply : {ks bs ls rs : List ℕ} → Front n t.kinds ks → Front n t.labels bs → Front n t.lefts ls
       → Front n t.rights rs
       → ◌≡◌ {A = Agreement} (record { number = 0; count = n; kinds = ks; labels = bs; lefts = ls; rights = rs }) (reply_of 0
       (lines_to t n))
-  cut-reply ks bs ls rs K B L R =
+  cut-reply {ks} {bs} {ls} {rs} K B L R =
       cc (
         front-column t n A.few t.kinds line_kind refl (λ j. kind-of _ _ _ _ (A.fits.kind_bit j)) ks K,
         front-column t n A.few t.labels line_label refl (λ j. label_of (get_or t.kinds j 0) _ _ _) bs B,
@@ -130,51 +131,18 @@ module _ (s1 s2 : ℕ) (t : Search) (n : ℕ) (A : CutArgs s1 s2 t n) where
         length-lines t.kinds t.labels t.lefts t.rights n,
       )
 
-  pub cut-kinds : FrontArgs t.kinds n
-  cut-kinds = record { long = A.fits.kinds; few = A.few }
+-- ---- the front of an array
 
-  pub cut-labels : FrontArgs t.labels n
-  cut-labels = record { long = A.fits.labels; few = A.few }
-
-  pub cut-lefts : FrontArgs t.lefts n
-  cut-lefts = record { long = A.fits.lefts; few = A.few }
-
-  pub cut-rights : FrontArgs t.rights n
-  cut-rights = record { long = A.fits.rights; few = A.few }
-
--- ---- the loop of front
-
-pub record FrontLoop (a : List ℕ) (n : ℕ) (r : List ℕ) (i : ℕ) : Type 0 where
-  pub args : FrontArgs a n
-  pub upto : i ≤ n
-  pub front : Front i a r
-
-pub front-start : (a : List ℕ) (n : ℕ) → FrontArgs a n → FrontLoop a n (replicate 256 0) 0
-front-start a n A = record {
-  args = A;
-  upto = omega arith;
-  front = record { long = refl; copied = λ i h. absurd (omega arith); zero = λ i h. zeros-at 256 i };
-}
-
-module _ (a : List ℕ) (n : ℕ) (r : List ℕ) (i : ℕ) (L : FrontLoop a n r i) where
-  pub front-next : i < n → FrontLoop a n (set r i (get_or a i 0)) (i + 1)
-  front-next h = record {
-    args = L.args;
-    upto = omega arith;
-    front = record {
-      long = length-set r i (get_or a i 0) ∙ L.front.long;
-      copied = λ j l. elim (ℕ_discrete j i) [
-        | yes e ↦ ap (λ (m : ℕ). get_or (set r i (get_or a i 0)) m 0) e
-            ∙ get_or-set_same r i (get_or a i 0) 0 (omega (arith, L.front.long, L.args.few))
-            ∙ ap (λ (m : ℕ). get_or a m 0) (sym e)
-        | no e ↦ get_or-set_other r i j (get_or a i 0) 0 e ∙ L.front.copied j (omega arith)
-      ];
-      zero = λ j l. get_or-set_other r i j (get_or a i 0) 0 (λ e. omega arith) ∙ L.front.zero j (omega arith);
-    };
-  }
-
-  pub front-done : n ≤ i → Front n a r
-  front-done h = let e : i ≡ n = omega (arith, L.upto) in subst (λ (m : ℕ). Front m a r) e L.front
+pub front_is : (a : List ℕ) (n : ℕ) (x : List ℕ) → FrontArgs a n → x ≡ take n a → Front n a (x ++ drop n (replicate 256 0))
+front_is a n x A e =
+    let l : length x ≡ n = ap length e ∙ length-take-le n a (omega (arith, A.long, A.few)) in
+    record {
+      long = simp (length-append, length-drop) (omega (arith, A.few));
+      copied = λ i h. get_or-append x (drop n (replicate 256 0)) 0 i (omega arith) ∙ ap (λ (y : List ℕ). get_or y i 0) e
+          ∙ get_or-take n a i 0 h;
+      zero = λ i h. get_or-append_right x (drop n (replicate 256 0)) n i 0 l h ∙ get_or-drop n (replicate 256 0) (i - n) 0
+          ∙ zeros-at 256 (n + (i - n));
+    }
 
 -- ---- a refusal
 

@@ -78,7 +78,7 @@ differing-most f g s2 t (suc n) i = go (eqb (get_or f (get_or t.codes i 0 / s2) 
     go true h = omega arith
     go false h = omega arith
 
-module _ (first second : List ℕ) (s1 s2 k : ℕ) (A : AnswerArgs first second s1 s2 k) where
+module _ {first second : List ℕ} {s1 s2 k : ℕ} (A : AnswerArgs first second s1 s2 k) where
   P : RulesPass first
   P = rules-pass first A.first_passes
 

@@ -1,6 +1,7 @@
 -- The promise of merge at each of its ends.
 --     first-no, second-no, labels-no, states-no, room-no    where each check refuses
 --     refused-done                                          a refusal meets the promise
+--     Counted, counted                                      what is known past the first four checks
 --     table-args, merged-done                               past the checks the table can be written, and then the promise is met
 use Prim.Native.Nat.{ℕ, ◌+◌, ◌*◌, ◌≤◌, ◌<◌}
 use mathlib.Core.Path.{◌≡◌, refl, sym, ap₂, ◌∙◌, subst}
@@ -126,3 +127,23 @@ module _ (first second out : List ℕ) where
               merged = λ _. e ∙ written_all (merged_bytes first second) out;
               refused = λ z. absurd (z refl);
             }
+
+-- past the first four checks: what they and the four numbers read say
+pub record Counted (f g : List ℕ) (s1 s2 k : ℕ) : Type 0 where
+  pub one : first_no (rule_checks f) ≡ 0
+  pub two : first_no (rule_checks g) ≡ 0
+  pub same : label_count f ≡ label_count g
+  pub of_one : s1 ≡ state_count f
+  pub of_two : s2 ≡ state_count g
+  pub labels : k ≡ label_count f
+
+pub counted : {f g : List ℕ} {m n k j s1 s2 : ℕ} → m ≡ first_no (rule_checks f) → m ≡ 0 → n ≡ first_no (rule_checks g)
+    → n ≡ 0 → k ≡ label_count f → j ≡ label_count g → j ≡ k → s1 ≡ state_count f → s2 ≡ state_count g → Counted f g s1 s2 k
+counted em zm en zn ek ej z e1 e2 = record {
+  one = sym em ∙ zm;
+  two = sym en ∙ zn;
+  same = sym ek ∙ sym z ∙ ej;
+  of_one = e1;
+  of_two = e2;
+  labels = ek;
+}

@@ -1,10 +1,9 @@
 -- One iteration of each loop of merge: what its part asks is there, and what it writes is the table's next stretch.
---     row-call, row_next           a row, stretch by stretch
+--     row_next                     a row, stretch by stretch
 --     nth-parts, nth-row, nth-is   row r of the inner run, from a row of each table
 --     inner-call, inner-next       the inner run, row by row
---     mark-places                  where a mark is read
 --     word-written, head-written   the header, byte by byte and number by number
-use Prim.Native.Nat.{ℕ, zero, suc, ◌+◌, ◌*◌, ◌/◌, ◌%◌, ◌-◌, ◌≤◌, ◌<◌}
+use Prim.Native.Nat.{ℕ, ◌+◌, ◌*◌, ◌/◌, ◌%◌, ◌-◌, ◌≤◌, ◌<◌}
 use mathlib.Core.Path.{◌≡◌, refl, sym, ap, ap₂, ◌∙◌, subst}
 use mathlib.Core.List.{List, [], ◌∷◌, ◌++◌}
 use native.Mathlib.Omega.{arith}
@@ -16,11 +15,10 @@ use Rattle.list_laws.specs.Rows.{tabulate}
 use Rattle.list_laws.proofs.RowLaws.{stride, tabulate-ext}
 use Rattle.formats.specs.Bytes.{le32_bytes}
 use Rattle.list_laws.proofs.SliceLaws.{length_part}
-use Rattle.formats.proofs.PlanLaws.{product-most}
 use Rattle.products.specs.merging.Merged.{rule_head}
-use Rattle.products.specs.merging.Writes.{written, row_cell, row_at, inner_cell, first_row, second_row, Room, RunArgs}
-use Rattle.products.specs.merging.Writes.{RowArgs, Inner, NthRowArgs, InnerArgs, MarksArgs, HeadArgs}
-use Rattle.products.proofs.merging.WriteLaws.{Fill, fill_start, fill-block, written_none, written_one, written_next}
+use Rattle.products.specs.merging.Writes.{written, row_cell, row_at, inner_cell, first_row, second_row, Room}
+use Rattle.products.specs.merging.Writes.{RowArgs, Inner, NthRowArgs, InnerArgs, HeadArgs}
+use Rattle.products.proofs.merging.WriteLaws.{Fill, fill-block, written_none, written_one, written_next}
 
 -- ---- a row
 
@@ -28,22 +26,6 @@ module _ (f g : List ℕ) (s2 at : ℕ) (l₀ l : List ℕ) (p : ℕ) (A : RowAr
     (F : Fill at (length f * s2) (row_cell f g s2) l₀ l (p * s2)) (h : p < length f) where
   next-in : p * s2 + s2 ≤ length f * s2
   next-in = stride s2 p (length f) h
-
-  pub row-call : RunArgs g (get_or f p 0 * s2) (at + p * s2) l
-  row-call = record {
-    room = record {
-      inside = omega (arith, next-in, A.room.inside, A.width, F.long);
-      small = omega (arith, next-in, A.room.small, A.width);
-    };
-    small = λ i m. A.small p i h m;
-  }
-
-  pub row-places : (get_or f p 0 * s2 < 256) × (p * s2 < 65536) × (at + p * s2 < 65536)
-  row-places = (
-    omega (arith, A.small p 0 h (omega (arith, A.least, A.width))),
-    omega (arith, next-in, A.room.small, A.least),
-    omega (arith, next-in, A.room.small, A.least),
-  )
 
   same-cell : (q : ℕ) → q < length g → get_or f p 0 * s2 + get_or g q 0 ≡ row_cell f g s2 (p * s2 + q)
   same-cell q m =
@@ -78,20 +60,6 @@ module _ (f g : List ℕ) (s1 s2 k r : ℕ) (I : Inner f g s1 s2 k) (inside : r 
 
   pub second-end : second_row s2 k r + s2 ≤ length g
   second-end = omega (arith, stride s2 (r / k % s2 * k + r % k) (s2 * k) (digits_lt second_in label_in), I.second_length)
-
-  pub runs-small : (length f ≤ 16384) × (length g ≤ 16384)
-  runs-small =
-      let x : s1 * k ≤ 1024 = product-most s1 k 16 64 I.first_most I.labels_most in
-      let y : s2 * k ≤ 1024 = product-most s2 k 16 64 I.second_most I.labels_most in (
-        omega (arith, product-most (s1 * k) s1 1024 16 x I.first_most, I.first_length),
-        omega (arith, product-most (s2 * k) s2 1024 16 y I.second_most, I.second_length),
-      )
-
-  pub rows-small : (r / k / s2 * k + r % k < 1024) × (r / k % s2 * k + r % k < 1024)
-  rows-small = (
-    omega (arith, digits_lt first_in label_in, product-most s1 k 16 64 I.first_most I.labels_most),
-    omega (arith, digits_lt second_in label_in, product-most s2 k 16 64 I.second_most I.labels_most),
-  )
 
   abbrev f_row : List ℕ
   f_row = take (first_row s1 s2 k r + s1 - first_row s1 s2 k r) (drop (first_row s1 s2 k r) f)
@@ -150,105 +118,34 @@ module _ (f g : List ℕ) (s1 s2 k r : ℕ) (I : Inner f g s1 s2 k) (inside : r 
 
 -- ---- the inner run
 
-pub record InnerLoop (f g : List ℕ) (s1 s2 k at s rows : ℕ) (l₀ l : List ℕ) (r : ℕ) : Type 0 where
-  pub args : InnerArgs f g s1 s2 k at l₀
-  pub states : s ≡ s1 * s2
-  pub count : rows ≡ s1 * s2 * k
-  pub fill : Fill at (s1 * s2 * k * (s1 * s2)) (inner_cell f g s1 s2 k) l₀ l (r * (s1 * s2))
-  pub upto : r ≤ rows
-
-module _ (f g : List ℕ) (s1 s2 k at s rows : ℕ) (l₀ l : List ℕ) (r : ℕ) (L : InnerLoop f g s1 s2 k at s rows l₀ l r) where
+module _ (f g : List ℕ) (s1 s2 k at : ℕ) (l₀ l : List ℕ) (r : ℕ) (A : InnerArgs f g s1 s2 k at l₀)
+    (F : Fill at (s1 * s2 * k * (s1 * s2)) (inner_cell f g s1 s2 k) l₀ l (r * (s1 * s2))) (h : r < s1 * s2 * k) where
   abbrev S : ℕ
   S = s1 * s2
 
-  some-states : 1 ≤ S
-  some-states = omega (arith, stride s2 0 s1 L.args.inner.first_least, L.args.inner.second_least)
+  row_ends : r * S + S ≤ S * k * S
+  row_ends = stride S r (S * k) h
 
-  module _ (h : r < rows) where
-    row_in : r < S * k
-    row_in = omega (arith, L.count)
+  pub inner-call : NthRowArgs f g s1 s2 k r (at + r * S) l
+  inner-call = record {
+    inner = A.inner;
+    inside = h;
+    room = record {
+      inside = omega (arith, row_ends, A.room.inside, F.long);
+      small = omega (arith, row_ends, A.room.small);
+    };
+  }
 
-    row_ends : r * S + S ≤ S * k * S
-    row_ends = stride S r (S * k) row_in
+  inner-same : (q : ℕ) → q < S → row_at f g s1 s2 k r q ≡ inner_cell f g s1 s2 k (r * S + q)
+  inner-same q m =
+      let e : (r * S + q) / S ≡ r = digits_div r m in
+      let d : (r * S + q) % S ≡ q = digits_mod r m in
+      sym (ap₂ (λ (x y : ℕ). row_at f g s1 s2 k x y) e d)
 
-    pub inner-places : (r * s < 65536) × (at + r * s < 65536)
-    inner-places =
-        let e : r * s ≡ r * S = ap (λ (x : ℕ). r * x) L.states in (
-          omega (arith, row_ends, L.args.room.small, some-states),
-          omega
-              (arith, row_ends, L.args.room.small, some-states),
-        )
-
-    pub inner-call : NthRowArgs f g s1 s2 k r (at + r * s) l
-    inner-call =
-        let e : r * s ≡ r * S = ap (λ (x : ℕ). r * x) L.states in
-        record {
-          inner = L.args.inner;
-          inside = row_in;
-          room = record {
-            inside = omega (arith, row_ends, L.args.room.inside, L.fill.long);
-            small = omega (arith, row_ends, L.args.room.small);
-          };
-        }
-
-    inner-same : (q : ℕ) → q < S → row_at f g s1 s2 k r q ≡ inner_cell f g s1 s2 k (r * S + q)
-    inner-same q m =
-        let e : (r * S + q) / S ≡ r = digits_div r m in
-        let d : (r * S + q) % S ≡ q = digits_mod r m in
-        sym (ap₂ (λ (x y : ℕ). row_at f g s1 s2 k x y) e d)
-
-    pub inner-next : (z : List ℕ) → z ≡ written (at + r * s) (tabulate S (row_at f g s1 s2 k r)) l
-        → InnerLoop f g s1 s2 k at s rows l₀ z (r + 1)
-    inner-next z e = record {
-      args = L.args;
-      states = L.states;
-      count = L.count;
-      fill = fill-block L.fill S ((r + 1) * S) (omega arith) (omega
-          (arith, row_ends))
-          (row_at f g s1 s2 k r) inner-same z (e ∙ ap (λ (x : ℕ). written (at + r * x) (tabulate S (row_at f g s1 s2 k r)) l)
-          L.states);
-      upto = omega arith;
-    }
-
-  pub inner-done : rows ≤ r → l ≡ written at (tabulate (S * k * S) (inner_cell f g s1 s2 k)) l₀
-  inner-done h =
-      let e : r ≡ S * k = omega (arith, L.upto, L.count) in
-      L.fill.is ∙ ap (λ (x : ℕ). written at (tabulate (x * S) (inner_cell f g s1 s2 k)) l₀) e
-
-pub inner_start : (f g : List ℕ) (s1 s2 k at : ℕ) (l : List ℕ) → InnerArgs f g s1 s2 k at l
-    → InnerLoop f g s1 s2 k at (s1 * s2) (s1 * s2 * k) l l 0
-unfolding tabulate
-inner_start f g s1 s2 k at l A = record {
-  args = A;
-  states = refl;
-  count = refl;
-  fill = (let e : 0 * (s1 * s2) ≡ 0 = omega arith in record {
-    room = A.room;
-    upto = omega arith;
-    long = refl;
-    is = sym (ap (λ (n : ℕ). written at (tabulate n (inner_cell f g s1 s2 k)) l) e ∙ written_none at l);
-  });
-  upto = omega arith;
-}
-
-pub inner-products : (f g : List ℕ) (s1 s2 k at : ℕ) (l : List ℕ) → InnerArgs f g s1 s2 k at l
-    → (s1 * s2 ≤ 16) × (s1 * s2 * k ≤ 1024)
-inner-products f g s1 s2 k at l A =
-    (A.inner.product, product-most (s1 * s2) k 16 64 A.inner.product A.inner.labels_most)
-
--- ---- marks
-
-module _ (f g : List ℕ) (s2 n at : ℕ) (l : List ℕ) (A : MarksArgs f g s2 n at l) (c : ℕ) (h : c < n) where
-  pub mark-places : (c / s2 < length f) × (c % s2 < length g)
-  mark-places = (
-    (div-lt_iff_lt-mul A.least).1 (subst (λ (x : ℕ). c < x) A.states h),
-    omega (arith, mod-lt c {m = s2} A.least, A.width),
-  )
-
-pub bits-product : (x y : ℕ) → x < 2 → y < 2 → x * y < 2
-bits-product zero y h i = omega arith
-bits-product (suc zero) y h i = omega arith
-bits-product (suc (suc x)) y h i = absurd (omega arith)
+  pub inner-next : (z : List ℕ) → z ≡ written (at + r * S) (tabulate S (row_at f g s1 s2 k r)) l
+      → Fill at (S * k * S) (inner_cell f g s1 s2 k) l₀ z ((r + 1) * S)
+  inner-next z e =
+      fill-block F S ((r + 1) * S) (omega arith) (omega (arith, row_ends)) (row_at f g s1 s2 k r) inner-same z e
 
 -- ---- the header
 
@@ -289,18 +186,3 @@ module _ (s k m : ℕ) (l l1 l2 l3 l4 l5 : List ℕ) (A : HeadArgs s k l) (marks
       ∙ written_next 0 16 (le32_bytes s ++ (le32_bytes k ++ (le32_bytes 20 ++ le32_bytes (20 + k)))) (le32_bytes
       (20 + k + s * k * s)) l refl
       (omega (arith, long))
-
--- ---- where the row's loop starts and ends
-
-pub row-start : (f g : List ℕ) (s2 at : ℕ) (l : List ℕ) → RowArgs f g s2 at l
-    → Fill at (length f * s2) (row_cell f g s2) l l (0 * s2)
-row-start f g s2 at l A =
-    let e : 0 * s2 ≡ 0 = omega arith in
-    subst (Fill at (length f * s2) (row_cell f g s2) l l) (sym e) (fill_start at (length f * s2) (row_cell f g s2) l A.room)
-
-pub row_done : (f g : List ℕ) (s2 at : ℕ) (l₀ l : List ℕ) (p : ℕ) → Fill at (length f * s2) (row_cell f g s2) l₀ l (p * s2)
-    → p ≤ length f
-    → length f ≤ p → l ≡ written at (tabulate (length f * s2) (row_cell f g s2)) l₀
-row_done f g s2 at l₀ l p F h i =
-    let e : p ≡ length f = omega arith in
-    F.is ∙ ap (λ (n : ℕ). written at (tabulate (n * s2) (row_cell f g s2)) l₀) e

@@ -1,6 +1,6 @@
 -- The parts of the merged table, put together.
---     head-args, leaves-args, inner-args, marks-args    what each part asks is there
---     table-written                                     the four parts, one behind the other, are the merged table
+--     leaves-args, inner-args, marks-args    what each part asks is there
+--     table-written                          the four parts, one behind the other, are the merged table
 use Prim.Native.Nat.{ℕ, zero, suc, ◌+◌, ◌*◌, ◌/◌, ◌%◌, ◌-◌, ◌≤◌, ◌<◌}
 use mathlib.Core.Path.{◌≡◌, refl, sym, ap, ap₂, ◌∙◌, subst}
 use mathlib.Core.Bool.{◌&&◌}
@@ -19,7 +19,7 @@ use Rattle.formats.proofs.RuleLaws.{marks-part}
 use Rattle.products.proofs.RulePairs.{pair-most}
 use Rattle.products.specs.merging.Merged.{rule_head, rule_bytes, merged_states, bit, merged_leaf, merged_inner, merged_mark}
 use Rattle.products.specs.merging.Merged.{merged_bytes}
-use Rattle.products.specs.merging.Writes.{written, leaf_cell, inner_cell, mark_cell, HeadArgs, LeavesArgs, Inner}
+use Rattle.products.specs.merging.Writes.{written, leaf_cell, inner_cell, mark_cell, LeavesArgs, Inner}
 use Rattle.products.specs.merging.Writes.{InnerArgs, MarksArgs, TableArgs}
 use Rattle.products.proofs.merging.WriteLaws.{length-written, written_behind}
 
@@ -36,7 +36,7 @@ head-length : (s k : ℕ) → length (rule_head s k) ≡ 20
 unfolding rule_head
 head-length s k = refl
 
-module _ (first second : List ℕ) (s1 s2 k : ℕ) (l : List ℕ) (A : TableArgs first second s1 s2 k l) where
+module _ {first second : List ℕ} {s1 s2 k : ℕ} {l : List ℕ} (A : TableArgs first second s1 s2 k l) where
   P : RulesPass first
   P = rules-pass first A.first_passes
 
@@ -52,21 +52,14 @@ module _ (first second : List ℕ) (s1 s2 k : ℕ) (l : List ℕ) (A : TableArgs
   pair_is : s1 * s2 ≤ 256
   pair_is = subst (λ (x : ℕ). x ≤ 256) (sym product_is) (pair-most first second P Q)
 
-  pub inner-size : S * k * S ≤ 16384
+  inner-size : S * k * S ≤ 16384
   inner-size = (product-inner S k A.product A.labels_most).1
-
-  pub head-args : HeadArgs S k l
-  head-args = record {
-    room = record { inside = omega (arith, A.room); small = omega arith };
-    states = A.product;
-    labels = A.labels_most;
-  }
 
   -- ---- the parts of the two tables, as they are handed on
 
-  pub leaves-args : (x y : List ℕ) (z : List ℕ) → x ≡ leaf_states first → y ≡ leaf_states second → length z ≡ length l
+  pub leaves-args : {x y z : List ℕ} → x ≡ leaf_states first → y ≡ leaf_states second → length z ≡ length l
       → LeavesArgs x y s2 20 z
-  leaves-args x y z p q e =
+  leaves-args p q e =
       let m : length (leaf_states first) ≡ k = length-leaf_states first P ∙ sym A.first_labels in
       let n : length (leaf_states second) ≡ k = length-leaf_states second Q ∙ sym A.second_labels in
       rw (p, q) (record {
@@ -98,17 +91,17 @@ module _ (first second : List ℕ) (s1 s2 k : ℕ) (l : List ℕ) (A : TableArgs
         omega (arith, pair_is);
   }
 
-  pub inner-args : (x y : List ℕ) (z : List ℕ) → x ≡ inner_states first → y ≡ inner_states second → length z ≡ length l
+  pub inner-args : {x y z : List ℕ} → x ≡ inner_states first → y ≡ inner_states second → length z ≡ length l
       → InnerArgs x y s1 s2 k (20 + k) z
-  inner-args x y z p q e = rw (p, q) (record {
+  inner-args p q e = rw (p, q) (record {
     inner = inner-runs;
     room = record { inside = omega (arith, A.room); small = omega (arith, inner-size, A.labels_most) };
   })
 
-  pub marks-args : (x y : List ℕ) (m : ℕ) (z : List ℕ) → x ≡ rule_marks first → y ≡ rule_marks second → m ≡ S * k * S
+  pub marks-args : {x y z : List ℕ} {m : ℕ} → x ≡ rule_marks first → y ≡ rule_marks second → m ≡ S * k * S
       → length z ≡ length l
       → MarksArgs x y s2 S (20 + k + m) z
-  marks-args x y m z p q f e = rw (p, q) (record {
+  marks-args p q f e = rw (p, q) (record {
     room = record { inside = omega (arith, A.room); small = omega (arith, inner-size, A.labels_most, A.product) };
     least = omega (arith, Q.states-least, A.second_states);
     states = (let n : length (rule_marks first) ≡ s1 = length-rule_marks first P ∙ sym A.first_states in ap
@@ -124,18 +117,18 @@ module _ (first second : List ℕ) (s1 s2 k : ℕ) (l : List ℕ) (A : TableArgs
   pub leaves-second : take (20 + k - 20) (drop 20 second) ≡ leaf_states second
   leaves-second = leaves-part second k A.second_labels
 
-  pub inner_first : (m : ℕ) → m ≡ s1 * k * s1 → take (20 + k + m - (20 + k)) (drop (20 + k) first) ≡ inner_states first
-  inner_first m e = rw e (inner-part first s1 k A.first_states A.first_labels)
+  pub inner_first : {m : ℕ} → m ≡ s1 * k * s1 → take (20 + k + m - (20 + k)) (drop (20 + k) first) ≡ inner_states first
+  inner_first e = rw e (inner-part first s1 k A.first_states A.first_labels)
 
-  pub inner-second : (m : ℕ) → m ≡ s2 * k * s2 → take (20 + k + m - (20 + k)) (drop (20 + k) second) ≡ inner_states second
-  inner-second m e = rw e (inner-part second s2 k A.second_states A.second_labels)
+  pub inner-second : {m : ℕ} → m ≡ s2 * k * s2 → take (20 + k + m - (20 + k)) (drop (20 + k) second) ≡ inner_states second
+  inner-second e = rw e (inner-part second s2 k A.second_states A.second_labels)
 
-  pub marks-first : (m : ℕ) → m ≡ s1 * k * s1 → take (length first - (20 + k + m)) (drop (20 + k + m) first) ≡ rule_marks first
-  marks-first m e = rw e (marks-part first s1 k P A.first_states A.first_labels)
+  pub marks-first : {m : ℕ} → m ≡ s1 * k * s1 → take (length first - (20 + k + m)) (drop (20 + k + m) first) ≡ rule_marks first
+  marks-first e = rw e (marks-part first s1 k P A.first_states A.first_labels)
 
-  pub marks-second : (m : ℕ) → m ≡ s2 * k * s2
+  pub marks-second : {m : ℕ} → m ≡ s2 * k * s2
       → take (length second - (20 + k + m)) (drop (20 + k + m) second) ≡ rule_marks second
-  marks-second m e = rw e (marks-part second s2 k Q A.second_states A.second_labels)
+  marks-second e = rw e (marks-part second s2 k Q A.second_states A.second_labels)
 
   -- ---- what is written is the merged table
 
@@ -183,11 +176,11 @@ module _ (first second : List ℕ) (s1 s2 k : ℕ) (l : List ℕ) (A : TableArgs
       ++ (tabulate (merged_states first second * label_count first * merged_states first second)
       (merged_inner first second) ++ x))) mark-cells
 
-  module _ (l1 l2 l3 l4 : List ℕ) (m : ℕ) (e1 : l1 ≡ written 0 (rule_head S k) l) where
+  module _ {l1 : List ℕ} (e1 : l1 ≡ written 0 (rule_head S k) l) where
     pub length-1 : length l1 ≡ length l
     length-1 = ap length e1 ∙ length-written 0 (rule_head S k) l (omega (arith, head-length S k, A.room))
 
-    module _ (x y : List ℕ) (px : x ≡ leaf_states first) (py : y ≡ leaf_states second)
+    module _ {l2 x y : List ℕ} (px : x ≡ leaf_states first) (py : y ≡ leaf_states second)
         (e2 : l2 ≡ written 20 (tabulate (length x) (leaf_cell x y s2)) l1) where
       length-front-2 : length (rule_head S k ++ lv) ≡ 20 + k
       length-front-2 = length-append (rule_head S k) lv ∙ omega (
@@ -203,7 +196,7 @@ module _ (first second : List ℕ) (s1 s2 k : ℕ) (l : List ℕ) (A : TableArgs
           ∙ ap (λ (n : ℕ). tabulate n (leaf_cell (leaf_states first) (leaf_states second) s2)) (length-leaf_states first P ∙ sym
           A.first_labels)
 
-      pub written_2 : l2 ≡ written 0 (rule_head S k ++ lv) l
+      written_2 : l2 ≡ written 0 (rule_head S k ++ lv) l
       written_2 =
           e2
           ∙ ap₂ (λ (u v : List ℕ). written 20 u v) leaves-are e1
@@ -212,7 +205,7 @@ module _ (first second : List ℕ) (s1 s2 k : ℕ) (l : List ℕ) (A : TableArgs
       pub length-2 : length l2 ≡ length l
       length-2 = ap length written_2 ∙ length-written 0 (rule_head S k ++ lv) l (omega (arith, length-front-2, A.room))
 
-      module _ (f g : List ℕ) (pf : f ≡ inner_states first) (pg : g ≡ inner_states second)
+      module _ {l3 f g : List ℕ} (pf : f ≡ inner_states first) (pg : g ≡ inner_states second)
           (e3 : l3 ≡ written (20 + k) (tabulate (S * k * S) (inner_cell f g s1 s2 k)) l2) where
         length-front-3 : length ((rule_head S k ++ lv) ++ inn) ≡ 20 + k + S * k * S
         length-front-3 =
@@ -224,7 +217,7 @@ module _ (first second : List ℕ) (s1 s2 k : ℕ) (l : List ℕ) (A : TableArgs
                   (inner_states second) s1 s2 k),
             )
 
-        pub written-3 : l3 ≡ written 0 ((rule_head S k ++ lv) ++ inn) l
+        written-3 : l3 ≡ written 0 ((rule_head S k ++ lv) ++ inn) l
         written-3 =
             e3
             ∙ ap₂ (λ (u v : List ℕ). written (20 + k) (tabulate (S * k * S) (inner_cell u v s1 s2 k)) l2) pf pg
@@ -235,9 +228,9 @@ module _ (first second : List ℕ) (s1 s2 k : ℕ) (l : List ℕ) (A : TableArgs
         length-3 = ap length written-3 ∙ length-written 0 ((rule_head S k ++ lv) ++ inn) l (omega
             (arith, length-front-3, A.room))
 
-        pub table-written : (u v : List ℕ) → u ≡ rule_marks first → v ≡ rule_marks second → m ≡ S * k * S
+        pub table-written : {l4 u v : List ℕ} {m : ℕ} → u ≡ rule_marks first → v ≡ rule_marks second → m ≡ S * k * S
             → l4 ≡ written (20 + k + m) (tabulate S (mark_cell u v s2)) l3 → l4 ≡ written 0 (merged_bytes first second) l
-        table-written u v pu pv em e4 =
+        table-written {l4} {u} {v} {m} pu pv em e4 =
             e4
             ∙ ap (λ (n : ℕ). written (20 + k + n) (tabulate S (mark_cell u v s2)) l3) em
             ∙ ap₂ (λ (x y : List ℕ). written (20 + k + S * k * S) (tabulate S (mark_cell x y s2)) l3) pu pv

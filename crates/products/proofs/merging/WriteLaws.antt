@@ -4,8 +4,8 @@
 --     length-written, written_all              the length stays; from place 0 on
 --     tabulate-add                             a table in two parts
 --     Fill                                     the invariant of every loop here: i entries of the table are written
---     fill_start, fill-next, fill-block, fill_done    its start, one entry more, a stretch of entries more, its end
-use Prim.Native.Nat.{ℕ, zero, suc, ◌+◌, ◌≤◌, ◌<◌}
+--     fill_start, fill_none, fill-next, fill-block    its start, twice, one entry more, a stretch of entries more
+use Prim.Native.Nat.{ℕ, zero, suc, ◌+◌, ◌*◌, ◌≤◌, ◌<◌}
 use mathlib.Core.Path.{◌≡◌, refl, sym, ap, ap₂, ◌∙◌, subst}
 use mathlib.Core.List.{List, [], ◌∷◌, ◌++◌, append_assoc, append-nil}
 use native.Mathlib.Omega.{arith}
@@ -110,10 +110,12 @@ pub fill_start : (at n : ℕ) (c : ℕ → ℕ) (l : List ℕ) → Room at n l �
 unfolding tabulate
 fill_start at n c l R = record { room = R; upto = omega arith; long = refl; is = sym (written_none at l) }
 
-module _ {at n : ℕ} {c : ℕ → ℕ} {l₀ l : List ℕ} {i : ℕ} (F : Fill at n c l₀ l i) where
-  pub fill-place : i < n → (at + i < length l) × (at + i < 65536)
-  fill-place h = (omega (arith, F.room.inside, F.long), omega (arith, F.room.small))
+-- where the entries come s at a time
+pub fill_none : (at n s : ℕ) (c : ℕ → ℕ) (l : List ℕ) → Room at n l → Fill at n c l l (0 * s)
+fill_none at n s c l R =
+    let e : 0 * s ≡ 0 = omega arith in subst (Fill at n c l l) (sym e) (fill_start at n c l R)
 
+module _ {at n : ℕ} {c : ℕ → ℕ} {l₀ l : List ℕ} {i : ℕ} (F : Fill at n c l₀ l i) where
   pub fill-next : i < n → (x : ℕ) → x ≡ c i → Fill at n c l₀ (set l (at + i) x) (i + 1)
   unfolding tabulate
   fill-next h x e =
@@ -147,6 +149,3 @@ module _ {at n : ℕ} {c : ℕ → ℕ} {l₀ l : List ℕ} {i : ℕ} (F : Fill 
         long = ap length w ∙ length-written at (tabulate j c) l₀ (omega (arith, length-tabulate j c, F.room.inside));
         is = w;
       }
-
-  pub fill_done : n ≤ i → l ≡ written at (tabulate n c) l₀
-  fill_done h = let e : i ≡ n = omega (arith, F.upto) in F.is ∙ ap (λ (m : ℕ). written at (tabulate m c) l₀) e

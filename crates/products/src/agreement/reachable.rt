@@ -104,14 +104,12 @@ fn over_labels(
     let q1 = q / s2;
     let q2 = q % s2;
     let mut t = s;
-    let mut a = 0;
-    while a < k {
+    for a in 0..k {
         let c = pair_step(first, second, s1, s2, k, p1, p2, a, q1, q2);
         let at = c as usize;
         if t.seen[at] == 0 {
             with_line(&mut t, 1, a as u8, i as u8, j as u8, c);
         }
-        a += 1;
     }
     t
 }
@@ -121,13 +119,11 @@ pub fn first_differing(first: &[u8], second: &[u8], s2: usize, s: Search, start:
     requires { MarksArgs first.now second.now s2 s }
     ensures { result ≡ differing_from first.now second.now s2 s start (s.count - start) }
 {
-    let mut i = start;
-    while i < s.count {
+    for i in start..s.count {
         let c = s.codes[i] as usize;
         if first[c / s2] != second[c % s2] {
             return i + 1;
         }
-        i += 1;
     }
     0
 }
@@ -148,8 +144,7 @@ fn over_lines(
     ensures { LinesDone first.now second.now marks1.now marks2.now s1 s2 k s n result }
 {
     let mut t = s;
-    let mut j = 0;
-    while j <= n {
+    for j in 0..n + 1 {
         let p = t.codes[n] as usize;
         let q = t.codes[j] as usize;
         let start = t.count;
@@ -158,7 +153,6 @@ fn over_lines(
         if first_differing(marks1, marks2, s2, t, start) != 0 {
             return t;
         }
-        j += 1;
     }
     t
 }
@@ -199,15 +193,13 @@ pub fn over_leaves(first: &[u8], second: &[u8], s1: usize, s2: usize, k: usize, 
     ensures { LeavesDone first.now second.now s1 s2 k s result }
 {
     let mut t = s;
-    let mut label = 0;
-    while label < k {
+    for label in 0..k {
         let x = first[label] as usize;
         let y = second[label] as usize;
         let c = x * s2 + y;
         if t.seen[c] == 0 {
             with_line(&mut t, 0, label as u8, 0, 0, c as u8);
         }
-        label += 1;
     }
     t
 }

@@ -34,13 +34,10 @@ fn is_busy(s: Session) -> bool
 fn any_busy(all: [Session; SCREENS]) -> bool
     ensures { result ≡ any_runs 8 (busy all) }
 {
-    let mut left = SCREENS;
-    while left > 0 {
-        let s = all[left - 1];
-        if is_busy(s) {
+    for i in (0..SCREENS).rev() {
+        if is_busy(all[i]) {
             return true;
         }
-        left = left - 1;
     }
     false
 }

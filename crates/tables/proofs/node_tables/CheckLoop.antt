@@ -199,15 +199,6 @@ module _ (n v : ℕ) (b : List ℕ) (h : v + 1 < n) where
     no = λ z c. false-true (sym m ∙ down-right t v b (omega (arith, ps.count)) (ps.are v (omega arith)) c);
   }
 
-pub downs-yes : (n v : ℕ) (b : List ℕ) → v ≤ 0 → DownsFrom n v b → DownTells true n b
-downs-yes n v b h all t ps = record {
-  yes = λ z. record {
-    depths = λ u l q. (all t ps).depths u (omega arith) q;
-    jumps = λ u l q. (all t ps).jumps u (omega arith) q;
-  };
-  no = λ z c. false-true (sym z);
-}
-
 -- the root
 module _ (n m : ℕ) (b : List ℕ) (z : m + 1 ≡ n) where
   pub root-from : jump_cell b m ≡ m → depth_cell b m ≡ 0 → DownsFrom n m b

@@ -2,22 +2,18 @@
 --     entry-by-rule      each entry follows the two-distances rule from earlier entries: one computed test over all 1,024
 --     entry-is-jump      each entry is the length of the jump as the node tables define it
 --     length-choice      so a length of 1 is the parent's, and any other that of the parent's jump
---     by-table, past-table   what child_jump returns below the table's end and past it
 --     sums-equal, sums-differ   the two distances by sums: d - e is e - f where d + f is e + e
 use Prim.Native.Nat.{ℕ, zero, suc, ◌+◌, ◌-◌, ◌≤◌, ◌<◌}
 use mathlib.Core.Path.{◌≡◌, refl, sym, ap, ap₂, ◌∙◌}
 use mathlib.Core.Bool.{Bool, true, false, cond}
-use mathlib.Core.List.{List}
 use native.Mathlib.Decide.{ℕ_discrete}
 use native.Mathlib.Omega.{arith}
 use lib.Dec.{eqb}
 use lib.ListN.{length, get_or}
-use borrow.Author.Tests.{eqb-true, eq-eqb, ne_eqb, lt-ltb, le-ltb}
+use borrow.Author.Tests.{eqb-true, eq-eqb, ne_eqb}
 use Rattle.trees.specs.Jumps.{jump_depth, two_distances}
 use Rattle.trees.proofs.JumpLaws.{jump_depth-zero, jump_depth-suc, jump_depth-le}
 use Rattle.trees.proofs.SkewBinary.{jump_depth-lt}
-use Rattle.tables.specs.node_tables.Cells.{jump_cell, depth_cell}
-use Rattle.tables.specs.node_tables.inner.DownPass.{by_distances, child_jump}
 use Rattle.tables.specs.node_tables.JumpLengths.{jump_lengths, length_rule, length_at}
 use Rattle.tables.proofs.node_tables.TableRule.{every, at_every}
 
@@ -102,20 +98,6 @@ length-choice d far near h root =
         go true false = refl
         go false true = refl
         go false false = refl
-
--- ---- the two ways out of child_jump
-
-module _ (b : List ℕ) (p r : ℕ) where
-  pub by-table : (l : ℕ) → depth_cell b p < 1023 → l ≡ get_or jump_lengths (depth_cell b p + 1) 0
-      → r ≡ cond (eqb l 1) p (jump_cell b (jump_cell b p)) → r ≡ child_jump b p
-  by-table l h e f =
-      let q : depth_cell b p + 1 < 1024 = omega arith in
-      f ∙ ap (λ (i : ℕ). cond (eqb i 1) p (jump_cell b (jump_cell b p))) e ∙ sym (rw (lt-ltb (depth_cell b p + 1) 1024 q))
-
-  pub past-table : 1023 ≤ depth_cell b p → r ≡ by_distances b p → r ≡ child_jump b p
-  past-table h e =
-      let q : 1024 ≤ depth_cell b p + 1 = omega arith in
-      e ∙ sym (rw (le-ltb (depth_cell b p + 1) 1024 q))
 
 -- ---- the two distances, compared without a subtraction
 

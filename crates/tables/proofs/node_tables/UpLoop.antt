@@ -6,7 +6,7 @@
 --     none_yet, all_up                before the first and after the last
 --     turns .. turn-room              the same of every tree with these kinds, as the loop has it
 use Prim.Native.Nat.{ℕ, ◌+◌, ◌-◌, ◌*◌, ◌≤◌, ◌<◌}
-use mathlib.Core.Path.{◌≡◌, refl, sym, ap, ◌∙◌, subst}
+use mathlib.Core.Path.{◌≡◌, sym, ap, ◌∙◌, subst}
 use mathlib.Core.List.{List}
 use mathlib.Core.Logic.{◌⊎◌, inl, inr}
 use native.Mathlib.Decide.{ℕ_discrete}
@@ -248,9 +248,6 @@ all_up t b₀ b p room m e = record {
 
 abbrev pub UpsWritten : List ℕ → ℕ → List ℕ → List ℕ → Type 0
 UpsWritten ks i b₀ b = (t : Tree) → kinds_of t ≡ ks → UpWritten t i b₀ b
-
-pub nothing_written : (ks b : List ℕ) → UpsWritten ks 0 b b
-nothing_written ks b t e = record { cells = none_yet t b; kept = λ j a. refl }
 
 module _ (ks : List ℕ) (i : ℕ) (b₀ b : List ℕ) (all : UpsWritten ks i b₀ b) where
   pub turns : i < length ks → length ks * 4 ≤ length b → (c : ℕ) → c ≡ get_or ks i 0 → UpsWritten ks (i + 1) b₀

@@ -12,7 +12,7 @@ pub fn block_end(b: usize, n: usize) -> usize
     requires { (b < n) × (n ≤ node_limit) }
     ensures { (b < result) × (result ≤ n) × (result ≤ b + block_length) }
 {
-    if b + BLOCK < n { b + BLOCK } else { n }
+    (b + BLOCK).min(n)
 }
 
 // Lists the inner nodes of b, .. e - 1 in rising order, and returns their number. A leaf is written too, and the next
@@ -22,11 +22,9 @@ pub fn list_inner(kinds: &[u8], b: usize, e: usize, list: &mut [u16]) -> usize
     ensures { Listed kinds.now b e result list.new }
 {
     let mut c = 0;
-    let mut v = b;
-    while v < e {
+    for v in b..e {
         list[c] = v as u16;
         c += kinds[v] as usize;
-        v += 1;
     }
     c
 }

@@ -51,12 +51,10 @@ fn check_up(kinds: &[u8], node_table: &[u16]) -> bool
         → Tells result (UpCells t node_table.now) (NodeCells t node_table.now) }
 {
     let n = kinds.len();
-    let mut v = 0;
-    while v < n {
+    for v in 0..n {
         if !up_matches(kinds, node_table, v) {
             return false;
         }
-        v += 1;
     }
     let root = n - 1;
     node_table[root * NODE_COLUMNS] as usize == root
@@ -87,9 +85,7 @@ fn check_down(node_table: &[u16], lengths: &[u16; LENGTH_COUNT], n: usize) -> bo
     if node_table[root * NODE_COLUMNS + DEPTH] != 0 {
         return false;
     }
-    let mut v = root;
-    while 0 < v {
-        v -= 1;
+    for v in (0..root).rev() {
         if !down_matches(node_table, lengths, v) {
             return false;
         }

@@ -57,9 +57,7 @@ pub fn write_down(node_table: &mut [u16], lengths: &[u16; LENGTH_COUNT], n: usiz
     let root = n - 1;
     node_table[root * NODE_COLUMNS + JUMP] = root as u16;
     node_table[root * NODE_COLUMNS + DEPTH] = 0;
-    let mut v = root;
-    while 0 < v {
-        v -= 1;
+    for v in (0..root).rev() {
         write_node(node_table, lengths, v);
     }
 }

@@ -16,19 +16,12 @@ pub enum NextMove {
     Stuck,
 }
 
-// A cell as a wider number.
-fn wide(x: u16) -> usize
-    ensures { (result ≡ x) × (result < 65536) }
-{
-    x as usize
-}
-
 // The parent of node v.
 pub fn parent_at(node_table: &[u16], v: usize) -> usize
     requires { v * node_columns + node_columns ≤ length node_table.now }
     ensures { result ≡ parent_cell node_table.now v }
 {
-    wide(node_table[v * NODE_COLUMNS])
+    usize::from(node_table[v * NODE_COLUMNS])
 }
 
 // The jump of node v.
@@ -36,7 +29,7 @@ pub fn jump_at(node_table: &[u16], v: usize) -> usize
     requires { v * node_columns + node_columns ≤ length node_table.now }
     ensures { result ≡ jump_cell node_table.now v }
 {
-    wide(node_table[v * NODE_COLUMNS + JUMP])
+    usize::from(node_table[v * NODE_COLUMNS + JUMP])
 }
 
 // The depth of node v.
@@ -44,7 +37,7 @@ pub fn depth_at(node_table: &[u16], v: usize) -> usize
     requires { v * node_columns + node_columns ≤ length node_table.now }
     ensures { result ≡ depth_cell node_table.now v }
 {
-    wide(node_table[v * NODE_COLUMNS + DEPTH])
+    usize::from(node_table[v * NODE_COLUMNS + DEPTH])
 }
 
 // The size of node v's subtree.
@@ -52,7 +45,7 @@ pub fn size_at(node_table: &[u16], v: usize) -> usize
     requires { v * node_columns + node_columns ≤ length node_table.now }
     ensures { result ≡ size_cell node_table.now v }
 {
-    wide(node_table[v * NODE_COLUMNS + SIZE])
+    usize::from(node_table[v * NODE_COLUMNS + SIZE])
 }
 
 // Whether node v is node c or below it: in the run of numbers that ends at c and is as long as c's size.

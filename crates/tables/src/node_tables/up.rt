@@ -49,12 +49,9 @@ pub fn write_up(kinds: &[u8], node_table: &mut [u16])
     ensures { (t : Tree) → kinds_of t ≡ kinds.now
         → AllUpWritten t node_table.old node_table.new }
 {
-    let n = kinds.len();
-    let mut v = 0;
-    while v < n {
-        write_up_node(node_table, v, kinds[v] as usize);
-        v += 1;
+    for (v, c) in kinds.iter().enumerate() {
+        write_up_node(node_table, v, *c as usize);
     }
-    let root = n - 1;
+    let root = kinds.len() - 1;
     node_table[root * NODE_COLUMNS] = root as u16;
 }

@@ -3,7 +3,7 @@
 --     step_args                  the cells that one step reads are there
 --     LabelsLoop                 the invariant: what is left to do of the definition's work gives the whole
 use Prim.Native.Nat.{ℕ, suc, ◌+◌, ◌*◌, ◌/◌, ◌%◌, ◌-◌, ◌≤◌, ◌<◌}
-use mathlib.Core.Path.{◌≡◌, refl, sym, ap, ◌∙◌}
+use mathlib.Core.Path.{◌≡◌, sym, ap, ◌∙◌}
 use mathlib.Core.List.{List}
 use native.Mathlib.Omega.{arith}
 use native.Mathlib.Nat.{div-lt_iff_lt-mul, mod-lt}
@@ -66,108 +66,71 @@ module _ (f g : List ℕ) (s1 s2 k : ℕ) (P : Pair f g s1 s2 k) (p1 p2 a q1 q2 
 
 -- ---- the loop
 
-pub record LabelsLoop (f g : List ℕ) (s1 s2 k i j p q p1 p2 q1 q2 : ℕ) (t₀ t : Search) (a : ℕ) : Type 0 where
+pub record LabelsLoop (f g : List ℕ) (s1 s2 k i j p q : ℕ) (t₀ t : Search) (a : ℕ) : Type 0 where
   pub args : LabelsArgs f g s1 s2 k t₀ i j p q
-  pub left-first : p1 ≡ p / s2
-  pub left-second : p2 ≡ p % s2
-  pub right-first : q1 ≡ q / s2
-  pub right-second : q2 ≡ q % s2
-  pub upto : a ≤ k
   pub fits : Fits s1 s2 t
   pub longer : t₀.count ≤ t.count
   pub found : over_labels (step_of f g s1 s2 k) i j p q a (k - a) (found_in t) ≡ over_labels (step_of f g s1 s2 k) i j p q 0 k
       (found_in t₀)
 
-pub labels-loop-start : (f g : List ℕ) (s1 s2 k i j p q : ℕ) (t : Search) → LabelsArgs f g s1 s2 k t i j p q
-    → LabelsLoop f g s1 s2 k i j p q (p / s2) (p % s2) (q / s2) (q % s2) t t 0
-labels-loop-start f g s1 s2 k i j p q t A = record {
-  args = A;
-  left-first = refl;
-  left-second = refl;
-  right-first = refl;
-  right-second = refl;
-  upto = omega arith;
-  fits = A.fits;
-  longer = omega arith;
-  found = let e : k - 0 ≡ k = omega arith in ap (λ (n : ℕ). over_labels (step_of f g s1 s2 k) i j p q 0 n (found_in t)) e;
-}
+module _ {f g : List ℕ} {s1 s2 k i j p q : ℕ} {t₀ t : Search} {a : ℕ}
+    (L : LabelsLoop f g s1 s2 k i j p q t₀ t a) where
+  module _ (h : a < k) where
+    P : Pair f g s1 s2 k
+    P = L.args.pair
 
-module _ (f g : List ℕ) (s1 s2 k i j p q p1 p2 q1 q2 : ℕ) (t₀ t : Search) (a : ℕ)
-    (L : LabelsLoop f g s1 s2 k i j p q p1 p2 q1 q2 t₀ t a) (h : a < k) where
-  P : Pair f g s1 s2 k
-  P = L.args.pair
+    ps : (p / s2 < s1) × (p % s2 < s2)
+    ps = quotient-in p s1 s2 L.args.left_below P.second_least
 
-  ps : (p / s2 < s1) × (p % s2 < s2)
-  ps = quotient-in p s1 s2 L.args.left_below P.second_least
+    qs : (q / s2 < s1) × (q % s2 < s2)
+    qs = quotient-in q s1 s2 L.args.right_below P.second_least
 
-  qs : (q / s2 < s1) × (q % s2 < s2)
-  qs = quotient-in q s1 s2 L.args.right_below P.second_least
+    pub labels-loop-step : StepArgs f g s1 s2 k (p / s2) (p % s2) a (q / s2) (q % s2)
+    labels-loop-step = step_args f g s1 s2 k P (p / s2) (p % s2) a (q / s2) (q % s2) ps.0 ps.1 h qs.0 qs.1
 
-  hp1 : p1 < s1
-  hp1 = omega (arith, ps.0, L.left-first)
+    module _ {c : ℕ} (is : c ≡ pair_step f g s1 s2 k (p / s2) (p % s2) a (q / s2) (q % s2)) where
+      code_in : c < s1 * s2
+      code_in = omega (arith, is, step_below f g s1 s2 k P (p / s2) (p % s2) a (q / s2) (q % s2) ps.0 ps.1 h qs.0 qs.1)
 
-  hp2 : p2 < s2
-  hp2 = omega (arith, ps.1, L.left-second)
+      code-small : c < 256
+      code-small = omega (arith, code_in, product-most s1 s2 16 16 P.first_most P.second_most)
 
-  hq1 : q1 < s1
-  hq1 = omega (arith, qs.0, L.right-first)
+      step_is : step_of f g s1 s2 k p a q ≡ c
+      unfolding step_of
+      step_is = sym is
 
-  hq2 : q2 < s2
-  hq2 = omega (arith, qs.1, L.right-second)
+      rest : over_labels (step_of f g s1 s2 k) i j p q (a + 1) (k - (a + 1)) (added (inner_line a i j) c (found_in t))
+          ≡ over_labels (step_of f g s1 s2 k) i j p q 0 k (found_in t₀)
+      rest =
+          ap (λ (d : ℕ). over_labels (step_of f g s1 s2 k) i j p q (a + 1) (k - (a + 1)) (added (inner_line a i j) d
+          (found_in t))) (sym step_is)
+          ∙ sym (labels_next (step_of f g s1 s2 k) i j p q a k (found_in t) h)
+          ∙ L.found
 
-  pub labels-loop-step : StepArgs f g s1 s2 k p1 p2 a q1 q2
-  labels-loop-step = step_args f g s1 s2 k P p1 p2 a q1 q2 hp1 hp2 h hq1 hq2
+      next : (u : Search) → Fits s1 s2 u → t.count ≤ u.count → found_in u ≡ added (inner_line a i j) c (found_in t)
+          → LabelsLoop f g s1 s2 k i j p q t₀ u (a + 1)
+      next u F l e = record {
+        args = L.args;
+        fits = F;
+        longer = omega (arith, L.longer);
+        found = ap (over_labels (step_of f g s1 s2 k) i j p q (a + 1) (k - (a + 1))) e ∙ rest;
+      }
 
-  module _ (c : ℕ) (is : c ≡ pair_step f g s1 s2 k p1 p2 a q1 q2) where
-    code_in : c < s1 * s2
-    code_in = omega (arith, is, step_below f g s1 s2 k P p1 p2 a q1 q2 hp1 hp2 h hq1 hq2)
+      pub labels-loop-room : get_or t.seen c 0 ≡ 0 → t.count < 256
+      labels-loop-room n = room s1 s2 t L.fits 1 a i j c code-small n
 
-    pub code-small : c < 256
-    code-small = omega (arith, code_in, product-most s1 s2 16 16 P.first_most P.second_most)
+      pub labels-loop-new : get_or t.seen c 0 ≡ 0 → LabelsLoop f g s1 s2 k i j p q t₀ (line_added t 1 a i j c) (a + 1)
+      labels-loop-new n =
+          next (line_added t 1 a i j c) (fits_more s1 s2 t L.fits 1 a i j c code-small n code_in (omega arith) (λ z. absurd
+          (omega arith))) (omega arith)
+          (found-more s1 s2 t L.fits 1 a i j c code-small n ∙ sym (added_new s1 s2 t L.fits (inner_line a i j) c n))
 
-    step_is : step_of f g s1 s2 k p a q ≡ c
-    unfolding step_of
-    step_is = sym (is ∙ cc (L.left-first, L.left-second, L.right-first, L.right-second))
+      pub labels-loop-old : (get_or t.seen c 0 ≡ 0 → ⊥) → LabelsLoop f g s1 s2 k i j p q t₀ t (a + 1)
+      labels-loop-old n = next t L.fits (omega arith) (sym (added-not s1 s2 t L.fits (inner_line a i j) c n))
 
-    rest : over_labels (step_of f g s1 s2 k) i j p q (a + 1) (k - (a + 1)) (added (inner_line a i j) c (found_in t))
-        ≡ over_labels (step_of f g s1 s2 k) i j p q 0 k (found_in t₀)
-    rest =
-        ap (λ (d : ℕ). over_labels (step_of f g s1 s2 k) i j p q (a + 1) (k - (a + 1)) (added (inner_line a i j) d
-        (found_in t))) (sym step_is)
-        ∙ sym (labels_next (step_of f g s1 s2 k) i j p q a k (found_in t) h)
-        ∙ L.found
-
-    next : (u : Search) → Fits s1 s2 u → t.count ≤ u.count → found_in u ≡ added (inner_line a i j) c (found_in t)
-        → LabelsLoop f g s1 s2 k i j p q p1 p2 q1 q2 t₀ u (a + 1)
-    next u F l e = record {
-      args = L.args;
-      left-first = L.left-first;
-      left-second = L.left-second;
-      right-first = L.right-first;
-      right-second = L.right-second;
-      upto = omega arith;
-      fits = F;
-      longer = omega (arith, L.longer);
-      found = ap (over_labels (step_of f g s1 s2 k) i j p q (a + 1) (k - (a + 1))) e ∙ rest;
-    }
-
-    pub labels-loop-room : get_or t.seen c 0 ≡ 0 → t.count < 256
-    labels-loop-room n = room s1 s2 t L.fits 1 a i j c code-small n
-
-    pub labels-loop-new : get_or t.seen c 0 ≡ 0
-        → LabelsLoop f g s1 s2 k i j p q p1 p2 q1 q2 t₀ (line_added t 1 a i j c) (a + 1)
-    labels-loop-new n =
-        next (line_added t 1 a i j c) (fits_more s1 s2 t L.fits 1 a i j c code-small n code_in (omega arith) (λ z. absurd
-        (omega arith))) (omega arith)
-        (found-more s1 s2 t L.fits 1 a i j c code-small n ∙ sym (added_new s1 s2 t L.fits (inner_line a i j) c n))
-
-    pub labels-loop-old : (get_or t.seen c 0 ≡ 0 → ⊥) → LabelsLoop f g s1 s2 k i j p q p1 p2 q1 q2 t₀ t (a + 1)
-    labels-loop-old n = next t L.fits (omega arith) (sym (added-not s1 s2 t L.fits (inner_line a i j) c n))
-
-pub labels-loop-done : (f g : List ℕ) (s1 s2 k i j p q p1 p2 q1 q2 : ℕ) (t₀ t : Search) (a : ℕ)
-    → LabelsLoop f g s1 s2 k i j p q p1 p2 q1 q2 t₀ t a → k ≤ a → LabelsDone f g s1 s2 k t₀ i j p q t
-labels-loop-done f g s1 s2 k i j p q p1 p2 q1 q2 t₀ t a L h = record {
-  fits = L.fits;
-  longer = L.longer;
-  found = sym (labels-end (step_of f g s1 s2 k) i j p q a k (found_in t) h) ∙ L.found;
-}
+  pub labels-loop-done : k ≤ a → LabelsDone f g s1 s2 k t₀ i j p q t
+  labels-loop-done h = record {
+    fits = L.fits;
+    longer = L.longer;
+    found = sym (labels-end (step_of f g s1 s2 k) i j p q a k (found_in t) h) ∙ L.found;
+  }

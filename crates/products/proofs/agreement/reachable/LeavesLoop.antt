@@ -28,32 +28,14 @@ leaves-end ι a k F h = let e : k - a ≡ 0 = omega arith in ap (λ (n : ℕ). o
 
 pub record LeavesLoop (f g : List ℕ) (s1 s2 k : ℕ) (t₀ t : Search) (a : ℕ) : Type 0 where
   pub args : LeavesArgs f g s1 s2 k t₀
-  pub upto : a ≤ k
   pub fits : Fits s1 s2 t
   pub found : over_leaves (pair_leaf f g s2) a (k - a) (found_in t) ≡ over_leaves (pair_leaf f g s2) 0 k (found_in t₀)
 
-pub leaves-loop-start : (f g : List ℕ) (s1 s2 k : ℕ) (t : Search) → LeavesArgs f g s1 s2 k t → LeavesLoop f g s1 s2 k t t 0
-leaves-loop-start f g s1 s2 k t A = record {
-  args = A;
-  upto = omega arith;
-  fits = A.fits;
-  found = let e : k - 0 ≡ k = omega arith in ap (λ (n : ℕ). over_leaves (pair_leaf f g s2) 0 n (found_in t)) e;
-}
-
-module _ (f g : List ℕ) (s1 s2 k : ℕ) (t₀ t : Search) (a : ℕ) (L : LeavesLoop f g s1 s2 k t₀ t a) where
-  pub leaves-loop-first : get_or f a 0 < 16
-  leaves-loop-first = omega (arith, L.args.first_below a, L.args.first_most)
-
-  pub leaves-loop-second : get_or g a 0 < 16
-  leaves-loop-second = omega (arith, L.args.second_below a, L.args.second_most)
-
-  pub leaves-loop-product : get_or f a 0 * s2 ≤ 256
-  leaves-loop-product = product-most (get_or f a 0) s2 16 16 (omega (arith, leaves-loop-first)) L.args.second_most
-
+module _ {f g : List ℕ} {s1 s2 k : ℕ} {t₀ t : Search} {a : ℕ} (L : LeavesLoop f g s1 s2 k t₀ t a) where
   code_in : pair_leaf f g s2 a < s1 * s2
   code_in = digits_lt (L.args.first_below a) (L.args.second_below a)
 
-  pub leaves-loop-code : pair_leaf f g s2 a < 256
+  leaves-loop-code : pair_leaf f g s2 a < 256
   leaves-loop-code = omega (arith, code_in, product-most s1 s2 16 16 L.args.first_most L.args.second_most)
 
   module _ (h : a < k) where
@@ -61,7 +43,6 @@ module _ (f g : List ℕ) (s1 s2 k : ℕ) (t₀ t : Search) (a : ℕ) (L : Leave
         → LeavesLoop f g s1 s2 k t₀ u (a + 1)
     next u F e = record {
       args = L.args;
-      upto = omega arith;
       fits = F;
       found =
           ap (over_leaves (pair_leaf f g s2) (a + 1) (k - (a + 1))) e

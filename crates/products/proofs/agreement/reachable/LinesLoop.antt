@@ -7,7 +7,6 @@ use mathlib.Core.Path.{◌≡◌, sym, ap, ap₂, ◌∙◌, subst}
 use mathlib.Core.List.{List}
 use native.Mathlib.Omega.{arith}
 use lib.ListN.{get_or}
-use Rattle.formats.proofs.PlanLaws.{product-most}
 use Rattle.products.specs.agreement.Search.{Found, state_at, over_labels, both_orders, over_found}
 use Rattle.products.specs.declared.agreement.reachable.Search.{Search}
 use Rattle.products.specs.agreement.reachable.SearchRecord.{found_in, step_of, Fits, Front, MarksArgs}
@@ -30,28 +29,14 @@ found-end δ k n j F h = let e : n + 1 - j ≡ 0 = omega arith in ap (λ (m : �
 
 pub record LinesLoop (f g x y : List ℕ) (s1 s2 k n : ℕ) (t₀ t : Search) (j : ℕ) : Type 0 where
   pub args : LinesArgs f g x y s1 s2 k t₀ n
-  pub upto : j ≤ n + 1
   pub fits : Fits s1 s2 t
   pub longer : t₀.count ≤ t.count
   pub found : over_found (step_of f g s1 s2 k) k n j (n + 1 - j) (found_in t) ≡ over_found (step_of f g s1 s2 k) k n 0 (n + 1)
       (found_in t₀)
 
-pub lines-loop-start : (f g x y : List ℕ) (s1 s2 k n : ℕ) (t : Search) → LinesArgs f g x y s1 s2 k t n → LinesLoop f g x y s1 s2 k n t t 0
-lines-loop-start f g x y s1 s2 k n t A = record {
-  args = A;
-  upto = omega arith;
-  fits = A.fits;
-  longer = omega arith;
-  found = let e : n + 1 - 0 ≡ n + 1 = omega arith in ap (λ (m : ℕ). over_found (step_of f g s1 s2 k) k n 0 m (found_in t)) e;
-}
-
-module _ (f g x y : List ℕ) (s1 s2 k n : ℕ) (t₀ t : Search) (j : ℕ) (L : LinesLoop f g x y s1 s2 k n t₀ t j) where
+module _ {f g x y : List ℕ} {s1 s2 k n : ℕ} {t₀ t : Search} {j : ℕ} (L : LinesLoop f g x y s1 s2 k n t₀ t j) where
   pub lines-loop-in : n < 256
   lines-loop-in = omega (arith, L.args.inside, L.longer, count_most s1 s2 t L.fits)
-
-  pub lines-loop-code : (i : ℕ) → get_or t.codes i 0 < 256
-  lines-loop-code i =
-      omega (arith, L.fits.below i, product-most s1 s2 16 16 L.args.pair.first_most L.args.pair.second_most)
 
   module _ (h : j ≤ n) where
     -- the two calls may be made
@@ -65,7 +50,7 @@ module _ (f g x y : List ℕ) (s1 s2 k n : ℕ) (t₀ t : Search) (j : ℕ) (L :
       right_below = L.fits.below j;
     }
 
-    module _ (u : Search) (U : LabelsDone f g s1 s2 k t n j (get_or t.codes n 0) (get_or t.codes j 0) u) where
+    module _ {u : Search} (U : LabelsDone f g s1 s2 k t n j (get_or t.codes n 0) (get_or t.codes j 0) u) where
       pub lines-loop-second : LabelsArgs f g s1 s2 k u j n (get_or t.codes j 0) (get_or t.codes n 0)
       lines-loop-second = record {
         pair = L.args.pair;
@@ -76,7 +61,7 @@ module _ (f g x y : List ℕ) (s1 s2 k n : ℕ) (t₀ t : Search) (j : ℕ) (L :
         right_below = L.fits.below n;
       }
 
-      module _ (r : Search) (R : LabelsDone f g s1 s2 k u j n (get_or t.codes j 0) (get_or t.codes n 0) r) where
+      module _ {r : Search} (R : LabelsDone f g s1 s2 k u j n (get_or t.codes j 0) (get_or t.codes n 0) r) where
         both : found_in r ≡ both_orders (step_of f g s1 s2 k) k n j (found_in t)
         unfolding both_orders
         both =
@@ -92,7 +77,6 @@ module _ (f g x y : List ℕ) (s1 s2 k n : ℕ) (t₀ t : Search) (j : ℕ) (L :
         pub lines-loop-next : LinesLoop f g x y s1 s2 k n t₀ r (j + 1)
         lines-loop-next = record {
           args = L.args;
-          upto = omega arith;
           fits = R.fits;
           longer = omega (arith, L.longer, U.longer, R.longer);
           found =

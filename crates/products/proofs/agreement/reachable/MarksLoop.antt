@@ -7,7 +7,6 @@ use mathlib.Core.Path.{◌≡◌, sym, ap, ◌∙◌, subst}
 use mathlib.Core.List.{List}
 use native.Mathlib.Omega.{arith}
 use mathlib.Core.Bool.{Bool, true, false, cond}
-use native.Mathlib.Nat.{div-lt_iff_lt-mul, mod-lt}
 use lib.Dec.{eqb}
 use lib.ListN.{length, get_or}
 use borrow.Author.Tests.{eq-eqb, ne_eqb}
@@ -62,13 +61,6 @@ module _ (f g : List ℕ) (s2 : ℕ) (s : Search) where
   none-later i j h l e =
       let z : i + (j - i) ≡ j = omega arith in
       subst (λ (m : ℕ). differs m ≡ 0) z (none-on (j - i) i (omega arith) e)
-
-  module _ (A : MarksArgs f g s2 s) (i : ℕ) where
-    pub mark-first : get_or s.codes i 0 / s2 < length f
-    mark-first = (div-lt_iff_lt-mul A.second_least).1 (A.below i)
-
-    pub mark-second : get_or s.codes i 0 % s2 < length g
-    mark-second = omega (arith, mod-lt (get_or s.codes i 0) {m = s2} A.second_least, A.second_length)
 
 pub marks-args : (f g x y : List ℕ) (s1 s2 k : ℕ) → Pair f g s1 s2 k → length x ≡ s1 → length y ≡ s2 → (t : Search)
     → Fits s1 s2 t → MarksArgs x y s2 t

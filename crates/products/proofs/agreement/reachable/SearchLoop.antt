@@ -12,7 +12,7 @@ use borrow.Author.Tests.{lt-ltb, le-ltb}
 use Rattle.products.specs.agreement.Search.{Found, over_found, searched}
 use Rattle.products.specs.declared.agreement.reachable.Search.{Search}
 use Rattle.products.specs.agreement.reachable.SearchRecord.{found_in, step_of, Fits, Front, MarksArgs}
-use Rattle.products.specs.agreement.reachable.SearchRecord.{LinesArgs, LinesDone, SearchArgs, SearchDone}
+use Rattle.products.specs.agreement.reachable.SearchRecord.{LinesDone, SearchArgs, SearchDone}
 use Rattle.products.proofs.agreement.reachable.RecordLaws.{count_most, length_found}
 use Rattle.products.proofs.agreement.reachable.FrontLaws.{front_same, front-on, front-searched}
 use Rattle.products.proofs.agreement.reachable.MarksLoop.{differs, none-later, marks-args}
@@ -33,27 +33,14 @@ whole-end δ k (suc m) n F h = rw (le-ltb n (length F.lines) h)
 
 pub record SearchLoop (f g x y : List ℕ) (s1 s2 k : ℕ) (t₀ t : Search) (n : ℕ) : Type 0 where
   pub args : SearchArgs f g x y s1 s2 k t₀
-  pub upto : n ≤ 256
   pub fits : Fits s1 s2 t
   pub found : searched (step_of f g s1 s2 k) k (256 - n) n (found_in t) ≡ searched (step_of f g s1 s2 k) k 256 0 (found_in t₀)
 
-pub search-loop-start : (f g x y : List ℕ) (s1 s2 k : ℕ) (t : Search) → SearchArgs f g x y s1 s2 k t → SearchLoop f g x y s1 s2 k t t 0
-search-loop-start f g x y s1 s2 k t A = record { args = A; upto = omega arith; fits = A.fits; found = refl }
-
-module _ (f g x y : List ℕ) (s1 s2 k : ℕ) (t₀ t : Search) (n : ℕ) (L : SearchLoop f g x y s1 s2 k t₀ t n) where
+module _ {f g x y : List ℕ} {s1 s2 k : ℕ} {t₀ t : Search} {n : ℕ} (L : SearchLoop f g x y s1 s2 k t₀ t n) where
   pub search-loop-small : n < t.count → n < 256
   search-loop-small h = omega (arith, count_most s1 s2 t L.fits)
 
-  pub search-loop-args : n < t.count → LinesArgs f g x y s1 s2 k t n
-  search-loop-args h = record {
-    pair = L.args.pair;
-    first_marks = L.args.first_marks;
-    second_marks = L.args.second_marks;
-    fits = L.fits;
-    inside = h;
-  }
-
-  module _ (h : n < t.count) (r : Search) (R : LinesDone f g x y s1 s2 k t n r) where
+  module _ (h : n < t.count) {r : Search} (R : LinesDone f g x y s1 s2 k t n r) where
     step : searched (step_of f g s1 s2 k) k (256 - (n + 1)) (n + 1) (over_found (step_of f g s1 s2 k) k n 0 (n + 1) (found_in t))
         ≡ searched (step_of f g s1 s2 k) k 256 0 (found_in t₀)
     step =
@@ -75,7 +62,6 @@ module _ (f g x y : List ℕ) (s1 s2 k : ℕ) (t₀ t : Search) (n : ℕ) (L : S
     pub search-loop-next : differs x y s2 r t.count ≡ 0 → SearchLoop f g x y s1 s2 k t₀ r (n + 1)
     search-loop-next e = record {
       args = L.args;
-      upto = omega (arith, search-loop-small h);
       fits = R.fits;
       found = ap (searched (step_of f g s1 s2 k) k (256 - (n + 1)) (n + 1)) (R.found e) ∙ step;
     }
@@ -92,7 +78,7 @@ module _ (f g x y : List ℕ) (s1 s2 k : ℕ) (t₀ t : Search) (n : ℕ) (L : S
 
 -- ---- before the loop: the marks of a leaf may differ
 
-module _ (f g x y : List ℕ) (s1 s2 k : ℕ) (s : Search) (A : SearchArgs f g x y s1 s2 k s) where
+module _ {f g x y : List ℕ} {s1 s2 k : ℕ} {s : Search} (A : SearchArgs f g x y s1 s2 k s) where
   pub search-marks : MarksArgs x y s2 s
   search-marks = marks-args f g x y s1 s2 k A.pair A.first_marks A.second_marks s A.fits
 

@@ -1,4 +1,5 @@
 -- `session::advance::next_step` meets its contract. Each return cites the law of its answer.
+use Rattle.std.proofs.Common.{ap, not}
 use mathlib.Core.Path.{◌≡◌}
 use mathlib.Core.Bool.{◌&&◌}
 use Rattle.formats.specs.Inputs.{Inputs}
@@ -27,37 +28,37 @@ may a = allowed-by is_running (of a) _ _ a.may_advance-may.ensures a.allowed.ens
 returns : tie.Need-returns-then-not-allowed
 returns c =
     refused-found (of c.before.before) (advance (lent c.before.before)) 1 _ c.refused_step.ensures
-    (advance-1 (of c.before.before) c.requires (lent c.before.before) _ (may c.before.before) c.if-not-allowed.true-raw)
+    (advance-1 (of c.before.before) c.requires (lent c.before.before) _ (may c.before.before) (ap not c.if-not-allowed.true))
 
 rule-buffers-fit-requires : tie.Need-rule_buffers_fit-requires
 rule-buffers-fit-requires c κs =
-    advance-limits (of c.before.before.before.before) c.requires (lent c.before.before.before.before) _ (may c.before.before.before.before) c.if-not-allowed.false-raw
+    advance-limits (of c.before.before.before.before) c.requires (lent c.before.before.before.before) _ (may c.before.before.before.before) (ap not c.if-not-allowed.false)
 
 returns-2 : tie.Need-returns-then-not-rule_buffers_fit
 returns-2 c =
     refused-found (of c.before.before.before.before.before.before.before) (advance (lent c.before.before.before.before.before.before.before)) 17 _ c.refused_step-then-not-rule_buffers_fit.ensures
-    (advance-17 (of c.before.before.before.before.before.before.before) c.requires (lent c.before.before.before.before.before.before.before) _ (may c.before.before.before.before.before.before.before) c.if-not-allowed.false-raw _ c.rule_buffers_fit.ensures c.if-not-rule_buffers_fit.true-raw)
+    (advance-17 (of c.before.before.before.before.before.before.before) c.requires (lent c.before.before.before.before.before.before.before) _ (may c.before.before.before.before.before.before.before) (ap not c.if-not-allowed.false) _ c.rule_buffers_fit.ensures (ap not c.if-not-rule_buffers_fit.true))
 
 next-part-requires : tie.Need-next_part-requires
 next-part-requires c κs =
-    next-args (of c.before.before.before.before.before.before.before.before.before.before) c.requires (lent c.before.before.before.before.before.before.before.before.before.before) _ (may c.before.before.before.before.before.before.before.before.before.before) c.if-not-allowed.false-raw
+    next-args (of c.before.before.before.before.before.before.before.before.before.before) c.requires (lent c.before.before.before.before.before.before.before.before.before.before) _ (may c.before.before.before.before.before.before.before.before.before.before) (ap not c.if-not-allowed.false)
 
 handled-requires : tie.Need-handled-requires
 handled-requires c κs =
-    handle-args (of c.before.before.before.before.before.before.before.before.before.before.before.before) c.requires (lent c.before.before.before.before.before.before.before.before.before.before.before.before) _ (may c.before.before.before.before.before.before.before.before.before.before.before.before) c.if-not-allowed.false-raw _ c.rule_buffers_fit.ensures c.if-not-rule_buffers_fit.false-raw _
+    handle-args (of c.before.before.before.before.before.before.before.before.before.before.before.before) c.requires (lent c.before.before.before.before.before.before.before.before.before.before.before.before) _ (may c.before.before.before.before.before.before.before.before.before.before.before.before) (ap not c.if-not-allowed.false) _ c.rule_buffers_fit.ensures (ap not c.if-not-rule_buffers_fit.false) _
     c.next_part.ensures.0 c.next_part.ensures.1 c.in-Reached.found.state c.in-Reached.found.links
     c.in-Reached.found.passed c.in-Reached.is
 
 returns-3 : tie.Need-returns-in-Reached
 returns-3 c =
-    step-found (of c.before.before.before.before.before.before.before.before.before.before.before.before.before) c.requires (lent c.before.before.before.before.before.before.before.before.before.before.before.before.before) _ (may c.before.before.before.before.before.before.before.before.before.before.before.before.before) c.if-not-allowed.false-raw _ c.rule_buffers_fit.ensures c.if-not-rule_buffers_fit.false-raw _
+    step-found (of c.before.before.before.before.before.before.before.before.before.before.before.before.before) c.requires (lent c.before.before.before.before.before.before.before.before.before.before.before.before.before) _ (may c.before.before.before.before.before.before.before.before.before.before.before.before.before) (ap not c.if-not-allowed.false) _ c.rule_buffers_fit.ensures (ap not c.if-not-rule_buffers_fit.false) _
     c.next_part.ensures.0 c.next_part.ensures.1 c.in-Reached.found.state c.in-Reached.found.links
     c.in-Reached.found.passed c.in-Reached.is _ c.handled.ensures
 
 returns-4 : tie.Need-returns-in-OutOfRange
 returns-4 c =
     refused-found (of c.before.before.before.before.before.before.before.before.before.before.before.before.before) (advance (lent c.before.before.before.before.before.before.before.before.before.before.before.before.before)) 18 _ c.refused_step-in-OutOfRange.ensures
-    (advance-18 (of c.before.before.before.before.before.before.before.before.before.before.before.before.before) c.requires (lent c.before.before.before.before.before.before.before.before.before.before.before.before.before) _ (may c.before.before.before.before.before.before.before.before.before.before.before.before.before) c.if-not-allowed.false-raw _ c.rule_buffers_fit.ensures c.if-not-rule_buffers_fit.false-raw _
+    (advance-18 (of c.before.before.before.before.before.before.before.before.before.before.before.before.before) c.requires (lent c.before.before.before.before.before.before.before.before.before.before.before.before.before) _ (may c.before.before.before.before.before.before.before.before.before.before.before.before.before) (ap not c.if-not-allowed.false) _ c.rule_buffers_fit.ensures (ap not c.if-not-rule_buffers_fit.false) _
     c.next_part.ensures.0 c.next_part.ensures.1 c.in-OutOfRange.is)
 
 pub next_step_spec : {M : Type 1} → statement M

@@ -1,4 +1,5 @@
 -- `session::valid::question_fits` meets its contract. Each test is one of the definition's.
+use Rattle.std.proofs.Common.{ap, not}
 use Rattle.session.specs.declared.state.Session.{Session}
 use Rattle.session.specs.Records.{whole}
 use Rattle.session.proofs.ValidLaws.{parted, question-sizes, question-counts, question-fits}
@@ -12,7 +13,7 @@ of a = whole a.args.h a.args.nodes.now a.args.labels.now a.args.roots.now a.args
 
 returns : tie.Need-returns-then-not-sizes_fit
 returns c =
-    question-sizes (of c.before.before.before) _ c.sizes_fit.ensures c.if-not-sizes_fit.true-raw
+    question-sizes (of c.before.before.before) _ c.sizes_fit.ensures (ap not c.if-not-sizes_fit.true)
 
 returns-2 : tie.Need-returns-then-h
 returns-2 c = question-counts (of c.before.before.before.before.before) c.if-h.true
@@ -20,11 +21,11 @@ returns-2 c = question-counts (of c.before.before.before.before.before) c.if-h.t
 parts-fit-requires : tie.Need-parts_fit-requires
 parts-fit-requires c κs =
     parted (of c.before.before.before.before.before.before.before.before.before.before) _ c.sizes_fit.ensures c.parts_fit-arg-1.given c.parts_fit-arg-2-1.given
-    c.if-not-sizes_fit.false-raw (omega arith)
+    (ap not c.if-not-sizes_fit.false) (omega arith)
 
 returns-3 : tie.Need-returns
 returns-3 c =
-    question-fits (of c.before.before.before.before.before.before.before.before.before.before.before) _ c.sizes_fit.ensures c.if-not-sizes_fit.false-raw _ _ (c.list_fits.ensures _ _)
+    question-fits (of c.before.before.before.before.before.before.before.before.before.before.before) _ c.sizes_fit.ensures (ap not c.if-not-sizes_fit.false) _ _ (c.list_fits.ensures _ _)
     (c.parts_fit.ensures _ _) (omega arith)
 
 pub question_fits_spec : {M : Type 1} → statement M

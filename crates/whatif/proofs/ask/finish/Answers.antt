@@ -4,14 +4,13 @@ use Rattle.whatif.specs.Asked.{finished_in}
 use Rattle.whatif.proofs.AskLaws.{more-iteration, finished-iteration, refused-iteration}
 use Rattle.whatif.proofs.ask.finish.Goals as goal
 
-pub loop-iterations-preserved : goal.loop-iterations-preserved
-loop-iterations-preserved c =
-    let l = c.loop-iterations in
+pub loop-parts-preserved : goal.loop-parts-preserved
+loop-parts-preserved c =
+    let l = c.loop-parts in
     let x = inputs_of c.args.plan.now c.args.rules.now c.args.node_table.now c.args.state_table.now in
     let d = c.advance-next.result in
-    let f = 254 - (l.iterations + 1) in
-    let e : suc f ≡ 254 - l.iterations = omega arith in record {
-      within = omega arith;
+    let f = 254 - (l._parts + 1) in
+    let e : suc f ≡ 254 - l._parts = omega arith in record {
       same =
           sym (more-iteration f l.rec d.session x d.answer c.advance-next.ensures c.in-More.is)
           ∙ (ap (λ (n : ℕ). finished_in n l.rec x) e ∙ l.invariant.same);
@@ -19,29 +18,29 @@ loop-iterations-preserved c =
 
 pub returns-in-Finished : goal.returns-in-Finished
 returns-in-Finished c =
-    let l = c.loop-iterations in
+    let l = c.loop-parts in
     let x = inputs_of c.args.plan.now c.args.rules.now c.args.node_table.now c.args.state_table.now in
     let d = c.advance-next.result in
-    let f = 254 - (l.iterations + 1) in
-    let e : suc f ≡ 254 - l.iterations = omega arith in
+    let f = 254 - (l._parts + 1) in
+    let e : suc f ≡ 254 - l._parts = omega arith in
     c.read.ensures
     ∙ (sym (finished-iteration f l.rec d.session x d.answer c.advance-next.ensures c.in-Finished.is)
     ∙ (ap (λ (n : ℕ). finished_in n l.rec x) e ∙ l.invariant.same))
 
 pub returns-in-Refused : goal.returns-in-Refused
 returns-in-Refused c =
-    let l = c.loop-iterations in
+    let l = c.loop-parts in
     let x = inputs_of c.args.plan.now c.args.rules.now c.args.node_table.now c.args.state_table.now in
     let d = c.advance-next.result in
-    let f = 254 - (l.iterations + 1) in
-    let e : suc f ≡ 254 - l.iterations = omega arith in
+    let f = 254 - (l._parts + 1) in
+    let e : suc f ≡ 254 - l._parts = omega arith in
     sym (refused-iteration f l.rec d.session x d.answer c.advance-next.ensures _ c.in-Refused.is)
     ∙ (ap (λ (n : ℕ). finished_in n l.rec x) e ∙ l.invariant.same)
 
 pub returns : goal.returns
 unfolding finished_in
 returns c =
-    let l = c.loop-iterations in
+    let l = c.loop-parts in
     let x = inputs_of c.args.plan.now c.args.rules.now c.args.node_table.now c.args.state_table.now in
-    let e : 0 ≡ 254 - l.iterations = omega arith in
+    let e : 0 ≡ 254 - l._parts = omega arith in
     c.read-2.ensures ∙ (ap (λ (n : ℕ). finished_in n l.rec x) e ∙ l.invariant.same)

@@ -4,12 +4,8 @@ use Rattle.whatif.specs.Asked.{finished_in, most_parts}
 use Rattle.whatif.proofs.ask.finish.Given as goal
 
 -- what is left to do comes to the answer
-abbrev pub invariant-loop-iterations : goal.invariant-loop-iterations
-invariant-loop-iterations l = record {
-  within : l.iterations ≤ 254;
-  same : finished_in (254 - l.iterations) l.rec (inputs_of l.plan l.rules l.node_table l.state_table)
+abbrev pub invariant-loop-parts : goal.invariant-loop-parts
+invariant-loop-parts l = record {
+  same : finished_in (254 - l._parts) l.rec (inputs_of l.plan l.rules l.node_table l.state_table)
       ≡ finished_in most_parts l.fn.started (inputs_of l.plan l.rules l.node_table l.state_table);
 }
-
-abbrev pub decreases-loop-iterations : goal.decreases-loop-iterations
-decreases-loop-iterations l = 254 - l.iterations

@@ -4,26 +4,25 @@ use Rattle.whatif.specs.Stream.{question_line, open_by}
 use Rattle.whatif.proofs.StreamLaws.{advances-none, advances-then}
 use Rattle.whatif.proofs.chunk.take_in.Goals as goal
 
-pub loop-i-init : goal.loop-i-init
-loop-i-init c = record { within = omega arith; end_most = omega arith; part_most = omega arith; advances = advances-none _ _ _ _ _ }
+pub loop-b-init : goal.loop-b-init
+loop-b-init c = record { end_most = omega arith; part_most = omega arith; advances = advances-none _ _ _ _ _ }
 
 pub take_byte-next-requires-clause-keeps : goal.take_byte-next-requires-clause-keeps
 take_byte-next-requires-clause-keeps c =
     let k = c.requires.keeps in
-    (open_by k.0 (take c.loop-i.i c.args.chunk.now), c.loop-i.invariant.advances.held k.0 k.1)
+    (open_by k.0 (take c.loop-b.b-index c.args.chunk.now), c.loop-b.invariant.advances.held k.0 k.1)
 
-pub loop-i-preserved : goal.loop-i-preserved
-loop-i-preserved c =
+pub loop-b-preserved : goal.loop-b-preserved
+loop-b-preserved c =
     let a = c.args in
-    let l = c.loop-i in
+    let l = c.loop-b in
     let b = c.take_byte-next in
     let f = question_line a.plan.now a.rules.now in
-    let e : take l.i a.chunk.now ++ (get_or a.chunk.now l.i 0 ∷ []) ≡ take (l.i + 1) a.chunk.now =
-    sym (ap (λ (n : ℕ). take n a.chunk.now) (add-one l.i) ∙ take-suc a.chunk.now l.i 0 (omega arith)) in record {
-      within = omega arith;
+    let e : take l.b-index a.chunk.now ++ (get_or a.chunk.now l.b-index 0 ∷ []) ≡ take (l.b-index + 1) a.chunk.now =
+    sym (ap (λ (n : ℕ). take n a.chunk.now) (add-one l.b-index) ∙ take-suc a.chunk.now l.b-index 0 (omega arith)) in record {
       end_most = omega (arith, b.ensures.end_bound.0);
       part_most = omega (arith, b.ensures.end_bound.1);
       advances =
-          advances-then f (take l.i a.chunk.now) (get_or a.chunk.now l.i 0) _ a.asked.now a.have l.asked l.part _ _ a.out.now 0 l.out
+          advances-then f (take l.b-index a.chunk.now) (get_or a.chunk.now l.b-index 0) _ a.asked.now a.have l.asked l.part _ _ a.out.now 0 l.out
           l.end _ _ e l.invariant.advances b.ensures.advances;
     }

@@ -6,7 +6,6 @@ use Rattle.whatif.proofs.question.labels_in.Goals as goal
 pub loop-i-preserved : goal.loop-i-preserved
 loop-i-preserved c =
     let l = c.loop-i in record {
-      within = omega arith;
       room = simp length-set (omega arith);
       whole =
           taken-iteration labels_within label_of labels-by-three c.args.list.now l.labels l.i _ (omega arith) (omega arith) refl
@@ -16,4 +15,4 @@ loop-i-preserved c =
 pub returns-clause-result_value : goal.returns-clause-result_value
 returns-clause-result_value c =
     let l = c.loop-i in
-    taken-end labels_within label_of labels-by-three c.args.list.now l.labels l.i (omega arith) l.invariant.within l.invariant.whole
+    taken-end labels_within label_of labels-by-three c.args.list.now l.labels l.i (omega arith) (omega arith) l.invariant.whole

@@ -5,10 +5,6 @@ use Rattle.whatif.proofs.question.labels_in.Given as goal
 -- what is done and what is left to do make the whole
 abbrev pub invariant-loop-i : goal.invariant-loop-i
 invariant-loop-i l = record {
-  within : 3 * l.i ≤ length l.list;
   room : length l.labels ≡ 65;
   whole : take l.i l.labels ++ labels_within (drop (3 * l.i) l.list) ≡ labels_within l.list;
 }
-
-abbrev pub decreases-loop-i : goal.decreases-loop-i
-decreases-loop-i l = length l.list - l.i

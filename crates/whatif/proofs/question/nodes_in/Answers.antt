@@ -6,7 +6,6 @@ use Rattle.whatif.proofs.question.nodes_in.Goals as goal
 pub loop-i-preserved : goal.loop-i-preserved
 loop-i-preserved c =
     let l = c.loop-i in record {
-      within = omega arith;
       room = simp length-set (omega arith);
       whole =
           taken-iteration nodes_in node_of nodes-by-three c.args.list.now l.nodes l.i c.number16.result (omega arith) (omega arith)
@@ -16,4 +15,4 @@ loop-i-preserved c =
 pub returns-clause-result_value : goal.returns-clause-result_value
 returns-clause-result_value c =
     let l = c.loop-i in
-    taken-end nodes_in node_of nodes-by-three c.args.list.now l.nodes l.i (omega arith) l.invariant.within l.invariant.whole
+    taken-end nodes_in node_of nodes-by-three c.args.list.now l.nodes l.i (omega arith) (omega arith) l.invariant.whole

@@ -8,13 +8,8 @@ use Rattle.planner.specs.File.{file_length, comes_from_file}
 use Rattle.planner.proofs.CheckAnswers.{home-19, home-21, home-good}
 use Rattle.planner.proofs.home.HomeLaws.{home-plan, home-room}
 use native.Mathlib.Omega.{arith}
-use borrow.Author.Rules.{rules}
 use Rattle.planner.proofs.home.check.check_home.Statement.{statement}
 use Rattle.planner.proofs.home.check.check_home.Tie as tie
-use Rattle.planner.proofs.home.check.check_home.Reads as reads
-use Rattle.planner.proofs.home.check.check_home.Lts as lts
-use Rattle.formats.proofs.bytes.read32.Reads as read32-reads
-use Rattle.planner.proofs.home.check.comes_from_file.Reads as comes-from-file-reads
 
 -- check 19 passes
 came : (c : tie.Else-not-comes_from_file) → comes_from_file c.before.before.before.args.plan.now ≡ true

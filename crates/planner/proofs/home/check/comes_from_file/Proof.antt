@@ -11,16 +11,8 @@ use Rattle.planner.specs.inner.ImageTests.{labels_fit, all_runs_fit, one_top}
 use Rattle.planner.proofs.home.CheckLoop.{labels-cut, kinds-cut, parts_same, comes-no-plan, comes-no-labels}
 use Rattle.planner.proofs.home.CheckLoop.{comes-no-top, comes-runs}
 use native.Mathlib.Omega.{arith}
-use borrow.Author.Rules.{rules}
 use Rattle.planner.proofs.home.check.comes_from_file.Statement.{statement}
 use Rattle.planner.proofs.home.check.comes_from_file.Tie as tie
-use Rattle.planner.proofs.home.check.comes_from_file.Reads as reads
-use Rattle.planner.proofs.home.check.comes_from_file.Lts as lts
-use Rattle.formats.proofs.bytes.read32.Reads as read32-reads
-use Rattle.formats.proofs.plan.check_plan.Reads as check-plan-reads
-use Rattle.planner.proofs.home.check.labels_fit.Reads as labels-fit-reads
-use Rattle.planner.proofs.home.check.one_top.Reads as one-top-reads
-use Rattle.planner.proofs.home.check.runs_fit.Reads as runs-fit-reads
 
 -- the plan passes 2 to 5
 passed : (c : tie.Else-check_plan-ne0) → first_no (plan_checks c.before.before.before.args.plan.now) ≡ 0

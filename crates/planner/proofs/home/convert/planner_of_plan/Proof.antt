@@ -10,11 +10,6 @@ use native.Mathlib.Omega.{arith}
 use borrow.Author.Rules.{rules}
 use Rattle.planner.proofs.home.convert.planner_of_plan.Statement.{statement}
 use Rattle.planner.proofs.home.convert.planner_of_plan.Tie as tie
-use Rattle.planner.proofs.home.convert.planner_of_plan.Reads as reads
-use Rattle.planner.proofs.home.convert.planner_of_plan.Lts as lts
-use Rattle.formats.proofs.bytes.read32.Reads as read32-reads
-use Rattle.planner.proofs.home.check.check_home.Reads as check-home-reads
-use Rattle.planner.proofs.home.convert.write_home.Reads as write-home-reads
 
 -- nothing fails
 passes : (c : tie.Else-refused-ne0)

@@ -6,10 +6,6 @@ use native.Mathlib.Omega.{arith}
 use borrow.Author.Rules.{rules}
 use Rattle.planner.proofs.home.convert.write_home.Statement.{statement}
 use Rattle.planner.proofs.home.convert.write_home.Tie as tie
-use Rattle.planner.proofs.home.convert.write_home.Reads as reads
-use Rattle.planner.proofs.home.convert.write_home.Lts as lts
-use Rattle.planner.proofs.home.read.read_nodes.Reads as read-nodes-reads
-use Rattle.planner.proofs.out.lay.write_header.Reads as write-header-reads
 
 mul-size : tie.Need-overflow_mul-size
 mul-size c = let z = home-size _ _ _ c.before.before.requires in omega arith

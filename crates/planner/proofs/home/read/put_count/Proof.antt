@@ -4,8 +4,6 @@ use native.Mathlib.Omega.{arith}
 use borrow.Author.Rules.{rules}
 use Rattle.planner.proofs.home.read.put_count.Statement.{statement}
 use Rattle.planner.proofs.home.read.put_count.Tie as tie
-use Rattle.planner.proofs.home.read.put_count.Reads as reads
-use Rattle.planner.proofs.home.read.put_count.Lts as lts
 
 returns : tie.Need-returns-then-w
 returns c = let s = c.before.before.before.before.before in count-some _ _ _ _ _ s.requires (omega arith)

@@ -5,11 +5,6 @@ use native.Mathlib.Omega.{arith}
 use borrow.Author.Rules.{rules}
 use Rattle.planner.proofs.home.read.read_node.Statement.{statement}
 use Rattle.planner.proofs.home.read.read_node.Tie as tie
-use Rattle.planner.proofs.home.read.read_node.Reads as reads
-use Rattle.planner.proofs.home.read.read_node.Lts as lts
-use Rattle.planner.proofs.home.read.push.Reads as push-reads
-use Rattle.planner.proofs.home.read.put_count.Reads as put-count-reads
-use Rattle.planner.proofs.home.read.release.Reads as release-reads
 
 push-requires : tie.Need-push-requires
 push-requires c κs = let s = c.before.before.before in

@@ -14,12 +14,6 @@ use native.Mathlib.Omega.{arith}
 use borrow.Author.Rules.{rules}
 use Rattle.planner.proofs.out.check.check_out.Statement.{statement}
 use Rattle.planner.proofs.out.check.check_out.Tie as tie
-use Rattle.planner.proofs.out.check.check_out.Reads as reads
-use Rattle.planner.proofs.out.check.check_out.Lts as lts
-use Rattle.formats.proofs.bytes.read32.Reads as read32-reads
-use Rattle.formats.proofs.rules.all_below.Reads as all-below-reads
-use Rattle.planner.proofs.out.check.room_fits.Reads as room-fits-reads
-use Rattle.planner.proofs.out.check.well_formed.Reads as well-formed-reads
 
 -- the file of the call, and what each test says of it
 is-formed : (c : tie.Else-not-well_formed) → well_formed c.before.before.before.args.file.now ≡ true

@@ -6,10 +6,6 @@ use native.Mathlib.Omega.{arith}
 use borrow.Author.Rules.{rules}
 use Rattle.planner.proofs.out.check.well_formed.Statement.{statement}
 use Rattle.planner.proofs.out.check.well_formed.Tie as tie
-use Rattle.planner.proofs.out.check.well_formed.Reads as reads
-use Rattle.planner.proofs.out.check.well_formed.Lts as lts
-use Rattle.formats.proofs.bytes.read32.Reads as read32-reads
-use Rattle.planner.proofs.out.check.is_preorder.Reads as is-preorder-reads
 
 returns : tie.Need-returns-then-file-lt-PLAN_HEAD
 returns c = sym (file-not _ (λ W. omega (arith, W.long)))

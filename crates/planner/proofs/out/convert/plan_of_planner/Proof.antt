@@ -9,11 +9,6 @@ use native.Mathlib.Omega.{arith}
 use borrow.Author.Rules.{rules}
 use Rattle.planner.proofs.out.convert.plan_of_planner.Statement.{statement}
 use Rattle.planner.proofs.out.convert.plan_of_planner.Tie as tie
-use Rattle.planner.proofs.out.convert.plan_of_planner.Reads as reads
-use Rattle.planner.proofs.out.convert.plan_of_planner.Lts as lts
-use Rattle.formats.proofs.bytes.read32.Reads as read32-reads
-use Rattle.planner.proofs.out.check.check_out.Reads as check-out-reads
-use Rattle.planner.proofs.out.convert.write_out.Reads as write-out-reads
 
 -- nothing fails
 passes : (c : tie.Else-refused-ne0)

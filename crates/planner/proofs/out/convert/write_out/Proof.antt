@@ -8,10 +8,6 @@ use native.Mathlib.Omega.{arith}
 use borrow.Author.Rules.{rules}
 use Rattle.planner.proofs.out.convert.write_out.Statement.{statement}
 use Rattle.planner.proofs.out.convert.write_out.Tie as tie
-use Rattle.planner.proofs.out.convert.write_out.Reads as reads
-use Rattle.planner.proofs.out.convert.write_out.Lts as lts
-use Rattle.planner.proofs.out.lay.write_plan.Reads as write-plan-reads
-use Rattle.planner.proofs.out.places.place_nodes.Reads as place-nodes-reads
 
 -- how many nodes, and how long the file is
 abbrev sized : (s : tie.Start) → (s.args.n ≤ 32767) × (length s.args.file.now ≡ 12 + 2 * s.args.n)

@@ -2,7 +2,7 @@
 -- CloseLoop and StackLaws.
 use Rattle.planner.proofs.out.CloseLoop.{Closing, closing-start, closing-iteration, closing_end, closing-fits}
 use Rattle.planner.proofs.out.CloseLoop.{closing-fits-next}
-use mathlib.Core.Path.{◌≡◌, sym, ap, ◌∙◌}
+use mathlib.Core.Path.{◌≡◌, sym, ◌∙◌}
 use mathlib.Core.Bool.{true}
 use Prim.Native.Nat.{◌+◌, ◌≤◌, ◌<◌}
 use Rattle.planner.specs.out.inner.Stack.{goes_further, after_leaf}
@@ -11,13 +11,6 @@ use native.Mathlib.Omega.{arith}
 use borrow.Author.Rules.{rules}
 use Rattle.planner.proofs.out.places.close_lists.Statement.{statement}
 use Rattle.planner.proofs.out.places.close_lists.Tie as tie
-use Rattle.planner.proofs.out.places.close_lists.Reads as reads
-use Rattle.planner.proofs.out.places.close_lists.Lts as lts
-use Rattle.planner.proofs.out.places.after_leaf.Reads as after-leaf-reads
-use Rattle.planner.proofs.out.places.goes_on.Reads as goes-on-reads
-use Rattle.planner.proofs.out.places.is_later.Reads as is-later-reads
-use Rattle.planner.proofs.out.places.node_on_top.Reads as node-on-top-reads
-use Rattle.planner.proofs.out.places.put.Reads as put_reads
 
 abbrev invariant-loop : tie.invariant-loop-top
 invariant-loop plan places₀ depth next top₀ at₀ closing₀ places top at closing =

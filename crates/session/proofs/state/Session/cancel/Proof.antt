@@ -1,4 +1,5 @@
 -- `session::state::Session::cancel` meets its contract. Each return cites the law of its answer.
+use Rattle.std.proofs.Common.{ap, not}
 use mathlib.Core.Path.{◌≡◌}
 use mathlib.Core.Bool.{◌&&◌}
 use Rattle.model.specs.Calls.{is_running}
@@ -16,11 +17,11 @@ may m = allowed-by is_running m.args.self _ _ m.may_advance-may.ensures m.allowe
 
 returns : tie.Need-returns-then-not-allowed
 returns c =
-    cancel-no c.args.self (shaped c.args.self c.well_formed.0) _ (may c.before) c.if-not-allowed.true-raw
+    cancel-no c.args.self (shaped c.args.self c.well_formed.0) _ (may c.before) (ap not c.if-not-allowed.true)
 
 returns-2 : tie.Need-returns
 returns-2 c =
-    cancel-yes c.args.self (shaped c.args.self c.well_formed.0) _ (may c.before.before.before.before) c.if-not-allowed.false-raw _ c.loaded-session.ensures
+    cancel-yes c.args.self (shaped c.args.self c.well_formed.0) _ (may c.before.before.before.before) (ap not c.if-not-allowed.false) _ c.loaded-session.ensures
 
 pub cancel_spec : {M : Type 1} → statement M
 cancel_spec = tie.close (tie.spec (λ c κs. search rules) (λ c κs. search rules) returns (λ c κs. search rules)

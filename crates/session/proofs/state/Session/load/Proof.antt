@@ -1,4 +1,5 @@
 -- `session::state::Session::load` meets its contract. Each return cites the law of its answer.
+use Rattle.std.proofs.Common.{ap, not}
 use Rattle.formats.specs.Inputs.{Inputs, inputs_of}
 use mathlib.Core.Path.{◌≡◌}
 use mathlib.Core.Bool.{◌&&◌}
@@ -21,21 +22,21 @@ may m = allowed-by may_load m.args.self _ _ m.may_load-may.ensures m.allowed.ens
 
 returns : tie.Need-returns-then-not-allowed
 returns c =
-    load-1 c.args.self (shaped c.args.self c.well_formed.0) (lent c.before) _ (may c.before) c.if-not-allowed.true-raw
+    load-1 c.args.self (shaped c.args.self c.well_formed.0) (lent c.before) _ (may c.before) (ap not c.if-not-allowed.true)
 
 loaded-from-requires : tie.Need-loaded_from-session-requires
 loaded-from-requires c κs =
-    load-headers c.args.self (shaped c.args.self c.well_formed.0) (lent c.before.before.before.before.before.before.before.before.before) _ (may c.before.before.before.before.before.before.before.before.before) c.if-not-allowed.false-raw _ _ _
+    load-headers c.args.self (shaped c.args.self c.well_formed.0) (lent c.before.before.before.before.before.before.before.before.before) _ (may c.before.before.before.before.before.before.before.before.before) (ap not c.if-not-allowed.false) _ _ _
     c.build_tables.ensures c.in-Built.is
 
 returns-2 : tie.Need-returns-in-Built
 returns-2 c =
-    load-built c.args.self (shaped c.args.self c.well_formed.0) (lent c.before.before.before.before.before.before.before.before.before.before) _ (may c.before.before.before.before.before.before.before.before.before.before) c.if-not-allowed.false-raw _ _ _
+    load-built c.args.self (shaped c.args.self c.well_formed.0) (lent c.before.before.before.before.before.before.before.before.before.before) _ (may c.before.before.before.before.before.before.before.before.before.before) (ap not c.if-not-allowed.false) _ _ _
     c.build_tables.ensures c.in-Built.is _ c.loaded_from-session.ensures
 
 returns-3 : tie.Need-returns-in-Refused
 returns-3 c =
-    load-refused c.args.self (shaped c.args.self c.well_formed.0) (lent c.before.before.before.before.before.before.before.before.before) _ (may c.before.before.before.before.before.before.before.before.before) c.if-not-allowed.false-raw _ _ _
+    load-refused c.args.self (shaped c.args.self c.well_formed.0) (lent c.before.before.before.before.before.before.before.before.before) _ (may c.before.before.before.before.before.before.before.before.before) (ap not c.if-not-allowed.false) _ _ _
     c.build_tables.ensures _ c.in-Refused.is
 
 pub load_spec : {M : Type 1} → statement M

@@ -1,0 +1,11 @@
+-- `left_set` meets its contract.
+use Prim.Native.Nat.{◌+◌, ◌*◌}
+use Rattle.state_sets.proofs.BitLaws.{gathered-below}
+use native.Mathlib.Omega.{arith}
+use borrow.Author.Rules.{rules}
+use Rattle.allowed.proofs.sets.left_set.Goals as goal
+
+pub returns : goal.returns
+returns c =
+    let g = c.args in
+    (c.gathered.ensures, omega (arith, c.gathered.ensures, gathered-below g.inner.now (g.a * g.s + g.q) (g.k * g.s) g.c g.s c.requires.few))

@@ -1,0 +1,6 @@
+-- The state bytes from v on are the automaton's, and no other byte is changed since the function's entry.
+use Rattle.branches.specs.inner.BranchGiven.{Stepped}
+use Rattle.branches.proofs.steps.fill_steps.Given as goal
+
+abbrev pub invariant-loop-v : goal.invariant-loop-v
+invariant-loop-v l = Stepped l.labels l.node_table l.steps l.s l.k l.n l.v l.fn.state_table l.state_table

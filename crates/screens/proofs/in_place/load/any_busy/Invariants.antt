@@ -1,0 +1,8 @@
+-- Whether any of the eight is busy depends on those still to come.
+use Rattle.std.proofs.Common.{◌≡◌}
+use Rattle.screens.specs.ScreenCalls.{any_runs}
+use Rattle.screens.specs.in_place.OnStructs.{busy}
+use Rattle.screens.proofs.in_place.load.any_busy.Given as goal
+
+abbrev pub invariant-loop-i : goal.invariant-loop-i
+invariant-loop-i l = any_runs 8 (busy l.all) ≡ any_runs l.i (busy l.all)

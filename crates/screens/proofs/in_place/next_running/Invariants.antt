@@ -1,0 +1,9 @@
+-- What the screens still to come find from here on is what all eight find from the first on.
+use Rattle.std.proofs.Common.{◌≡◌, ◌<◌, ◌-◌}
+use Rattle.screens.specs.ScreenCalls.{next_running_in}
+use Rattle.screens.specs.in_place.OnStructs.{runs_in}
+use Rattle.screens.proofs.in_place.next_running.Given as goal
+
+abbrev pub invariant-loop : goal.invariant-loop
+invariant-loop l =
+    (l.at < 8) × (next_running_in (8 - l.counter) (runs_in l.phases) l.at ≡ next_running_in 8 (runs_in l.phases) l.first)
