@@ -2,7 +2,7 @@
 --     pass-args, marks-given, call-args   what the checks give
 --     kinds_part .. marks_part, parts-given the parts that are handed on, and what the passes need of them
 --     kinds-is .. marks-is                each part is the plan's, or the rule table's
---     first-no, no_room, all_yes          the number of the first check that fails
+--     no_room, all_yes                    the number of the first check that fails
 --     table-yes, room-yes                 what follows where none does
 --     written-list                        a buffer whose first n numbers are known, as a list
 use Prim.Native.Nat.{ℕ, ◌+◌, ◌-◌, ◌*◌, ◌≤◌, ◌<◌}
@@ -21,7 +21,7 @@ use Rattle.list_laws.proofs.AppendLaws.{get_d_past}
 use Rattle.formats.specs.Plan.{node_count, labels_within, kinds_in}
 use Rattle.formats.specs.Rules.{state_count, label_count, leaf_states, inner_states, rule_marks}
 use Rattle.formats.specs.Checks.{check, first_no, rule_table_checks}
-use Rattle.formats.proofs.CheckLaws.{first_no-yes, first_no-no, first_no-none, first_no-append-zero, first_no-append-no}
+use Rattle.formats.proofs.CheckLaws.{first_no-yes, first_no-no, first_no-none, first_no-append-zero}
 use Rattle.formats.proofs.CheckLaws.{first_no-append-left, first_no-append-right, first_no-head}
 use Rattle.formats.proofs.PlanLaws.{length-kinds_in, labels-as-kinds, labels-part, kinds-part}
 use Rattle.formats.proofs.RuleLaws.{length-leaf_states, length-inner_states, length-rule_marks, leaf-state-below}
@@ -118,10 +118,6 @@ module _ {p r : List ℕ} {n s k m : ℕ} (a : CallArgs p r n s k m) (c : ℕ) (
 -- ---- the checks
 
 module _ (p r : List ℕ) (m : ℕ) where
-  pub first-no : (x : ℕ) → x ≡ first_no (rule_table_checks p r) → (x ≡ 0 → ⊥) → x ≡ first_no (node_room_checks p r m)
-  unfolding node_room_checks
-  first-no x e h = e ∙ sym (first_no-append-no (rule_table_checks p r) (check 11 (leb (node_count p) m) ∷ []) (λ z. h (e ∙ z)))
-
   pub no_room : first_no (rule_table_checks p r) ≡ 0 → m < node_count p → 11 ≡ first_no (node_room_checks p r m)
   unfolding node_room_checks
   no_room e h = sym (first_no-append-zero (rule_table_checks p r) (check 11 (leb (node_count p) m) ∷ []) (rule-table-numbered p r) e

@@ -14,12 +14,13 @@ use mathlib.Core.Path.{subst}
 use Rattle.trees.specs.Climb.{and_then}
 use Rattle.formats.specs.Plan.{node_count}
 use Rattle.formats.specs.Rules.{state_count, label_count}
+use Rattle.std.specs.Prelude.{Result, Err}
 use Rattle.formats.specs.Buffers.{branch_tables}
+use Rattle.formats.specs.declared.refusals.Refusal.{Refusal}
+use Rattle.formats.specs.declared.refusals.Refusal.TheVariants.{LentValue}
 use Rattle.list_laws.proofs.SliceLaws.{length_part}
 use Rattle.formats.proofs.BufferLaws.{Headed, headed-are}
 use Rattle.branches.specs.declared.answers.Reading.{Reading}
-use Rattle.branches.specs.declared.answers.Branching.{Branching}
-use Rattle.branches.specs.declared.answers.Branching.TheVariants.{Refused}
 use Rattle.branches.specs.declared.answers.Branched.{Branched}
 use Rattle.branches.specs.Question.{branched, branch_on, branch_answer}
 use Rattle.formats.specs.Plan.{labels_within}
@@ -95,13 +96,13 @@ module _ (reading : Reading) (p r node_table state_table : List ℕ) (u l n s k 
   told o = and_then o (λ q. and_then (replays q) (λ x. some (branched (branch_automaton r) x.state x.links x.passed)))
 
   module _ (q : ℕ) (f : first_of reading s k ls st u ≡ numbered s q) where
-    pub answer-first : s ≤ q → Refused 18 ≡ branch_answer 0 (branch_on reading p r node_table state_table u l)
+    pub answer-first : s ≤ q → Err LentValue ≡ branch_answer 0 (branch_on reading p r node_table state_table u l)
     unfolding branch_on branch_answer
     answer-first h =
         ap (λ (o : Option ℕ). branch_answer 0 (told o))
         (ap (λ (b : Bool). cond b (some q) none) (sym (le-ltb q s h)) ∙ sym f ∙ first-is reading p r node_table state_table u l n s k to ls st mk H)
 
-    pub answer-told : q < s → (x : Climbed) → x ≡ climbed_of (replay_on n s k ls st node_table state_table l to q) → (y : Branching)
+    pub answer-told : q < s → (x : Climbed) → x ≡ climbed_of (replay_on n s k ls st node_table state_table l to q) → (y : Result Branched Refusal)
         → y ≡ told_of mk x → y ≡ branch_answer 0 (branch_on reading p r node_table state_table u l)
     unfolding branch_on branch_answer climbed_of
     answer-told h x e y d =

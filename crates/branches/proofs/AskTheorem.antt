@@ -27,7 +27,11 @@ use Rattle.trees.proofs.ClimbLaws.{climb-done}
 use Rattle.trees.proofs.TreeClimbs.{Climbed, climb-tree}
 use Rattle.formats.specs.Plan.{node_count, labels_within, plan_tree}
 use Rattle.formats.specs.Rules.{state_count, label_count, branch_steps, branch_automaton}
+use Rattle.std.specs.Prelude.{Result, Ok, Err}
 use Rattle.formats.specs.Built.{BranchBuilt}
+use Rattle.formats.specs.Refusals.{answer_number}
+use Rattle.formats.specs.declared.refusals.Refusal.{Refusal}
+use Rattle.formats.specs.declared.refusals.Refusal.TheVariants.{NotBelow}
 use Rattle.formats.specs.Buffers.{headed_buffers_fit, branch_tables}
 use Rattle.tables.specs.node_tables.Cells.{depth_cell, cell_forest}
 use Rattle.tables.specs.node_tables.Cells.{is_in_subtree_on}
@@ -36,11 +40,9 @@ use Rattle.tables.specs.Climbs.{reached}
 use Rattle.tables.specs.Replays.{state_move, carry_down, replay_on}
 use Rattle.branches.specs.declared.answers.Reading.{Reading}
 use Rattle.branches.specs.declared.answers.Reading.TheVariants.{WithUpper, BelowUpper}
-use Rattle.branches.specs.declared.answers.Branching.{Branching}
-use Rattle.branches.specs.declared.answers.Branching.TheVariants.{Answered, Refused}
 use Rattle.branches.specs.declared.answers.Branched.{Branched}
 use Rattle.branches.specs.Question.{first_state, branched, branch_on}
-use Rattle.branches.specs.Question.{branch_answer, ask_number, ask_answer, branch_number}
+use Rattle.branches.specs.Question.{branch_answer, ask_number, ask_answer}
 use Rattle.branches.specs.OutOfRange.{BranchOutOfRange}
 use Rattle.branches.specs.Promise.{word_of, word_answer, AnswerKept, links_told, passed_told, AskDone}
 use Rattle.branches.proofs.FinishLaws.{in-subtree-is, is-in-subtree}
@@ -171,7 +173,7 @@ module _ (reading : Reading) (p r node_table state_table : List ℕ) (D : Branch
       let i : u < l + size (sub t u) = rw (← (built-links p r node_table state_table D).sizes u upper_in) w.1 in
       interval-ancestor t u l upper_in lower_in (w.0, i)
 
-  pub ask-apart : (AtOrBelow (plan_tree p) u l → ⊥) → ask_answer reading p r node_table state_table u l ≡ Refused 16
+  pub ask-apart : (AtOrBelow (plan_tree p) u l → ⊥) → ask_answer reading p r node_table state_table u l ≡ Err NotBelow
   ask-apart never = sym (ask-16 reading p r node_table state_table u l (fits-built p r node_table state_table D) hu hl (go (is_in_subtree_on node_table u l) refl))
     where
       go : (b : Bool) → is_in_subtree_on node_table u l ≡ b → b ≡ false
@@ -220,12 +222,12 @@ module _ (reading : Reading) (p r node_table state_table : List ℕ) (u l : ℕ)
       (λ h. rw (← ask-13-lower reading p r node_table state_table u l f h) (omega arith))
       (λ hl. below-passed reading p r node_table state_table D u l hu hl (is_in_subtree_on node_table u l) refl))
 
-  pub ask-done : (answer : Branching) → answer ≡ ask_answer reading p r node_table state_table u l
+  pub ask-done : (answer : Result Branched Refusal) → answer ≡ ask_answer reading p r node_table state_table u l
       → AskDone reading p r node_table state_table u l answer
   ask-done answer e =
-      let number : branch_number answer ≡ ask_number reading p r node_table state_table u l =
-      ap branch_number e ∙ ask-number reading p r node_table state_table u l in
-      let cause : branch_number answer ≡ 18 → BranchOutOfRange p r node_table state_table =
+      let number : answer_number answer ≡ ask_number reading p r node_table state_table u l =
+      ap answer_number e ∙ ask-number reading p r node_table state_table u l in
+      let cause : answer_number answer ≡ 18 → BranchOutOfRange p r node_table state_table =
       λ i. ask-out-of-range p r node_table state_table reading u l (sym number ∙ i) in
       record {
         result = e;
@@ -236,8 +238,8 @@ module _ (reading : Reading) (p r node_table state_table : List ℕ) (u l : ℕ)
         usable = λ U i. usable-in-range p r node_table state_table U (cause i);
         built = λ D hu hl A. e ∙ ask-built reading p r node_table state_table D u l hu hl A;
         apart = λ D hu hl never. e ∙ ask-apart reading p r node_table state_table D u l hu hl never;
-        few = λ D. subst (λ (a : Branching). links_told a ≤ 3 * digits (height (plan_tree p))) (sym e) (ask-few D);
-        passed_most = λ D. subst (λ (a : Branching). passed_told a ≤ height (plan_tree p)) (sym e) (ask-passed D);
+        few = λ D. subst (λ (a : Result Branched Refusal). links_told a ≤ 3 * digits (height (plan_tree p))) (sym e) (ask-few D);
+        passed_most = λ D. subst (λ (a : Result Branched Refusal). passed_told a ≤ height (plan_tree p)) (sym e) (ask-passed D);
       }
 
 -- ---- the empty word
@@ -246,7 +248,7 @@ module _ (reading : Reading) (p r node_table state_table : List ℕ) (u l : ℕ)
 pub empty-word-lent : (p r node_table state_table : List ℕ) (u : ℕ)
     → headed_buffers_fit branch_tables p r (length node_table) (length state_table) ≡ true → u < node_count p
     → is_in_subtree_on node_table u u ≡ true
-    → ask_answer BelowUpper p r node_table state_table u u ≡ Answered (branched (branch_automaton r) 0 0 0)
+    → ask_answer BelowUpper p r node_table state_table u u ≡ Ok (branched (branch_automaton r) 0 0 0)
 unfolding branch_on first_state branch_answer replay_on
 empty-word-lent p r node_table state_table u f h i =
     ask-on BelowUpper p r node_table state_table u u f h h i
@@ -260,7 +262,7 @@ empty-word-lent p r node_table state_table u f h i =
     ap (λ (d : ℕ). some (branched (branch_automaton r) 0 0 d)) e))
 
 pub empty-word : (p r node_table state_table : List ℕ) → BranchBuilt p r node_table state_table → (u : ℕ) → u < node_count p
-    → ask_answer BelowUpper p r node_table state_table u u ≡ Answered (branched (branch_automaton r) 0 0 0)
+    → ask_answer BelowUpper p r node_table state_table u u ≡ Ok (branched (branch_automaton r) 0 0 0)
 unfolding ancestor
 empty-word p r node_table state_table D u h =
     empty-word-lent p r node_table state_table u (fits-built p r node_table state_table D) h

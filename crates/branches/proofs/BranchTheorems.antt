@@ -7,6 +7,7 @@
 use Prim.Native.Nat.{ℕ}
 use mathlib.Core.Path.{◌≡◌, sym, ap, ◌∙◌}
 use mathlib.Core.List.{List, ◌++◌}
+use Rattle.std.specs.Prelude.{Bool, true, false, Result, Ok}
 use lib.ListN.{length, take, drop}
 use lib.Seq.{take_at}
 use Rattle.formats.specs.Plan.{node_count}
@@ -14,10 +15,9 @@ use Rattle.formats.specs.Rules.{state_count}
 use Rattle.formats.specs.Checks.{first_no, branch_table_checks, branch_build_checks, node_table_length, state_table_length}
 use Rattle.formats.specs.Built.{built_node_table, built_branch_table, BranchBuilt}
 use Rattle.formats.proofs.InputLaws.{branch-table-passes, branch-build-table, passes-branch-build}
-use Rattle.tables.specs.declared.answers.Building.{Building}
-use Rattle.tables.specs.declared.answers.Checking.{Checking}
-use Rattle.tables.specs.declared.answers.Checking.TheVariants.{Yes, No}
-use Rattle.tables.specs.Answers.{building_number, BuildDone, CheckDone}
+use Rattle.formats.specs.Refusals.{answer_number}
+use Rattle.formats.specs.declared.refusals.Refusal.{Refusal}
+use Rattle.tables.specs.Answers.{BuildDone, CheckDone}
 use Rattle.tables.proofs.BuildLaws.{length-built_node_table, built-lists}
 use Rattle.tables.proofs.CheckAnswers.{Begins, begins-room, done-yes, yes-done, done-no, no-done}
 use Rattle.branches.proofs.BranchInputs.{length-built_steps}
@@ -42,9 +42,9 @@ module _ (p r : List ℕ) (pass : first_no (branch_table_checks p r) ≡ 0) wher
   }
 
 -- for any buffers, an accepted build leaves them as built
-pub built-branch-built : (p r node_table state_table node_table' state_table' : List ℕ) (answer : Building)
+pub built-branch-built : (p r node_table state_table node_table' state_table' : List ℕ) (answer : Result Unit Refusal)
     → BuildDone (branch_build_number p r node_table state_table) (built_node_table p) (built_branch_table p r) node_table state_table answer node_table' state_table'
-    → building_number answer ≡ 0 → BranchBuilt p r node_table' state_table'
+    → answer_number answer ≡ 0 → BranchBuilt p r node_table' state_table'
 built-branch-built p r node_table state_table node_table' state_table' answer D e =
     let q = built-lists _ (built_node_table p) (built_branch_table p r) node_table state_table answer node_table' state_table' D e in
     rw (q.1, q.2) (written-branch-built p r (branch-build-table p r (length node_table) (length state_table) q.0)
@@ -75,34 +75,34 @@ module _ (p r node_table state_table : List ℕ) where
       (begins-room (state_table_length (node_count p) (state_count r)) state_table (built_branch_table p r) B.states
       (steps-length p r B.accepted))
 
-  module _ (answer : Checking)
+  module _ (answer : Result Bool Refusal)
       (done : CheckDone (branch_build_number p r node_table state_table) (built_node_table p) (built_branch_table p r) node_table state_table answer) where
-    pub check-yes : answer ≡ Yes → BranchBuilt p r node_table state_table
+    pub check-yes : answer ≡ Ok true → BranchBuilt p r node_table state_table
     check-yes e =
         let q = done-yes (branch_build_number p r node_table state_table) (built_node_table p) (built_branch_table p r) node_table state_table answer done e in
         begins-built (branch-build-table p r (length node_table) (length state_table) q.0) q.1
 
-    pub yes-check : BranchBuilt p r node_table state_table → answer ≡ Yes
+    pub yes-check : BranchBuilt p r node_table state_table → answer ≡ Ok true
     yes-check B =
         yes-done (branch_build_number p r node_table state_table) (built_node_table p) (built_branch_table p r) node_table state_table answer done
         (branch-built-passes B)
         (built-begins B)
 
-    pub check-no : answer ≡ No → (branch_build_number p r node_table state_table ≡ 0) × (BranchBuilt p r node_table state_table → ⊥)
+    pub check-no : answer ≡ Ok false → (branch_build_number p r node_table state_table ≡ 0) × (BranchBuilt p r node_table state_table → ⊥)
     check-no e =
         let q = done-no (branch_build_number p r node_table state_table) (built_node_table p) (built_branch_table p r) node_table state_table answer done e in
         (q.0, λ B. q.1 (built-begins B))
 
-    pub no-check : branch_build_number p r node_table state_table ≡ 0 → (BranchBuilt p r node_table state_table → ⊥) → answer ≡ No
+    pub no-check : branch_build_number p r node_table state_table ≡ 0 → (BranchBuilt p r node_table state_table → ⊥) → answer ≡ Ok false
     no-check pass not-built =
         no-done (branch_build_number p r node_table state_table) (built_node_table p) (built_branch_table p r) node_table state_table answer done pass
         (λ b. not-built (begins-built (branch-build-table p r (length node_table) (length state_table) pass) b))
 
 -- node_table and bytes before an accepted build, node_table' and bytes' after it
-pub build-then-check : (p r node_table state_table node_table' state_table' : List ℕ) (built : Building) (checked : Checking)
+pub build-then-check : (p r node_table state_table node_table' state_table' : List ℕ) (built : Result Unit Refusal) (checked : Result Bool Refusal)
     → BuildDone (branch_build_number p r node_table state_table) (built_node_table p) (built_branch_table p r) node_table state_table built node_table' state_table'
-    → building_number built ≡ 0
+    → answer_number built ≡ 0
     → CheckDone (branch_build_number p r node_table' state_table') (built_node_table p) (built_branch_table p r) node_table' state_table' checked
-    → checked ≡ Yes
+    → checked ≡ Ok true
 build-then-check p r node_table state_table node_table' state_table' built checked B e C =
     yes-check p r node_table' state_table' checked C (built-branch-built p r node_table state_table node_table' state_table' built B e)

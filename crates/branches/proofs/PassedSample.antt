@@ -4,6 +4,7 @@
 use Prim.Native.Nat.{ℕ}
 use mathlib.Core.Path.{◌≡◌, refl}
 use mathlib.Core.List.{List, [], ◌∷◌}
+use Rattle.std.specs.Prelude.{Ok}
 use Rattle.list_laws.specs.Rows.{tabulate, rows}
 use Rattle.list_laws.specs.Tests.{all_below}
 use Rattle.trees.specs.Numbering.{split, sub, parent, depth, ancestor, labels_down, word, is_in_subtree}
@@ -18,7 +19,6 @@ use Rattle.formats.specs.Buffers.{limits_fit, buffers_fit, headers_fit, headed_b
 use Rattle.tables.specs.Climbs.{below}
 use Rattle.tables.specs.Replays.{state_move, replay_on}
 use Rattle.branches.specs.declared.answers.Reading.TheVariants.{WithUpper, BelowUpper}
-use Rattle.branches.specs.declared.answers.Branching.TheVariants.{Answered}
 use Rattle.branches.specs.Question.{first_state, branched, branch_on, ask_checks, ask_number, branch_answer}
 use Rattle.branches.specs.Question.{ask_answer}
 
@@ -34,9 +34,9 @@ gap_table = 2 ∷ 0 ∷ 0 ∷ 0 ∷ 2 ∷ 0 ∷ 0 ∷ 0 ∷ 16 ∷ 0 ∷ 0 ∷ 0
 
 pub gap-branch :
     (ask_answer BelowUpper gap_plan gap_table (built_node_table gap_plan) (built_branch_table gap_plan gap_table) 12 3
-    ≡ Answered (branched (branch_automaton gap_table) 1 2 6))
+    ≡ Ok (branched (branch_automaton gap_table) 1 2 6))
     × (ask_answer WithUpper gap_plan gap_table (built_node_table gap_plan) (built_branch_table gap_plan gap_table) 12 3
-    ≡ Answered (branched (branch_automaton gap_table) 1 2 6))
+    ≡ Ok (branched (branch_automaton gap_table) 1 2 6))
 unfolding gap_plan gap_table split sub parent depth ancestor labels_down word is_in_subtree tree_of jump_within jump next_move
     climb_in climb tabulate rows all_below node_table_of branch_state branch_map branch_table_of first_no limits_fit buffers_fit
     headers_fit headed_buffers_fit below state_move replay_on first_state branch_on ask_checks ask_number branch_answer ask_answer

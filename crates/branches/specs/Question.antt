@@ -7,13 +7,13 @@
 -- branch_on .. == the answer on these tables: none where a value read leads outside the plan, the states or the labels, or a climb
 --   does not rise (check 18)
 -- ask_checks .. == 17, 13, 16 and 18, in this order; ask_number .. == the first that fails, 0 where none does
+-- refused_by n == the refusal where n, one of these four numbers, is that of the first failing check
 -- ask_answer .. == the answer
--- branch_told a == document 01's number and values of an answer; branch_number a == its number
 --
 -- "It tells state, yes or no, and the links of the climb from the lower node to the upper's depth", and the nodes that this climb passed
 -- over (02, S-7). The word runs downward while the climb goes up, so the first state goes through the climb's moves from the last to
 -- the first (replay_on, crate tables): of each map one entry is read. Both readings ask the same checks and make the same climb.
-use Rattle.std.specs.Prelude.{ℕ, zero, suc, Bool, true, false, cond, ◌&&◌, List, [], ◌∷◌, ltb, length, get_or}
+use Rattle.std.specs.Prelude.{ℕ, zero, suc, Bool, true, false, cond, ◌&&◌, List, [], ◌∷◌, ltb, eqb, length, get_or, Result, Ok, Err}
 use Rattle.std.proofs.Math.Option.{Option, none, some}
 use Rattle.trees.specs.Automaton.{WordAutomaton}
 use Rattle.trees.specs.Climb.{and_then}
@@ -21,13 +21,13 @@ use Rattle.formats.specs.Plan.{node_count, labels_within}
 use Rattle.formats.specs.Rules.{state_count, label_count, branch_steps, branch_automaton}
 use Rattle.formats.specs.Checks.{Check, check, first_no}
 use Rattle.formats.specs.Buffers.{headed_buffers_fit, branch_tables}
+use Rattle.formats.specs.declared.refusals.Refusal.{Refusal}
+use Rattle.formats.specs.declared.refusals.Refusal.TheVariants.{Node, NotBelow, LentLength, LentValue}
 use Rattle.tables.specs.node_tables.Cells.{depth_cell, is_in_subtree_on}
 use Rattle.tables.specs.Replays.{replay_on}
 use Rattle.branches.specs.declared.answers.Reading.{Reading}
 use Rattle.branches.specs.declared.answers.Reading.TheVariants.{WithUpper, BelowUpper}
 use Rattle.branches.specs.declared.answers.Branched.{Branched}
-use Rattle.branches.specs.declared.answers.Branching.{Branching}
-use Rattle.branches.specs.declared.answers.Branching.TheVariants.{Answered, Refused}
 
 unfoldable pub first_state : Reading → List ℕ → List ℕ → ℕ → Option ℕ
 first_state WithUpper p r u =
@@ -63,19 +63,15 @@ ask_checks reading p r node_table state_table u l =
 unfoldable pub ask_number : Reading → List ℕ → List ℕ → List ℕ → List ℕ → ℕ → ℕ → ℕ
 ask_number reading p r node_table state_table u l = first_no (ask_checks reading p r node_table state_table u l)
 
--- document 01's number and values for each case: 0 with what is answered, or the refusal's number alone
-abbrev pub branch_told : Branching → ℕ × Option Branched
-branch_told (Answered b) = (0, some b)
-branch_told (Refused n) = (n, none)
+abbrev pub refused_by : ℕ → Refusal
+refused_by n = cond (eqb n 17) LentLength (cond (eqb n 13) Node (cond (eqb n 16) NotBelow LentValue))
 
-unfoldable pub branch_number : Branching → ℕ
-branch_number a = (branch_told a).0
+-- document 01's answer for each case: what is answered, or the refusal alone
+unfoldable pub branch_answer : ℕ → Option Branched → Result Branched Refusal
+branch_answer zero none = Err LentValue
+branch_answer zero (some b) = Ok b
+branch_answer (suc n) b = Err (refused_by (suc n))
 
-unfoldable pub branch_answer : ℕ → Option Branched → Branching
-branch_answer zero none = Refused 18
-branch_answer zero (some b) = Answered b
-branch_answer (suc n) b = Refused (suc n)
-
-unfoldable pub ask_answer : Reading → List ℕ → List ℕ → List ℕ → List ℕ → ℕ → ℕ → Branching
+unfoldable pub ask_answer : Reading → List ℕ → List ℕ → List ℕ → List ℕ → ℕ → ℕ → Result Branched Refusal
 ask_answer reading p r node_table state_table u l =
     branch_answer (ask_number reading p r node_table state_table u l) (branch_on reading p r node_table state_table u l)

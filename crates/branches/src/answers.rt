@@ -13,10 +13,3 @@ pub struct Branched {
     pub links: u32,
     pub passed: u32,
 }
-
-// The answer of a branch question, or a refusal's number.
-#[derive(Clone, Copy)]
-pub enum Branching {
-    Answered(Branched),
-    Refused(u8),
-}

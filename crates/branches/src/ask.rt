@@ -7,10 +7,11 @@ ghost use Rattle.branches.specs.Question.{branch_on, branch_answer};
 ghost use Rattle.branches.specs.Promise.{AskDone};
 ghost use Rattle.branches.specs.inner.Finish.{first_of, numbered, told_of, StateIn, FirstArgs, AnswerArgs};
 
-use crate::answers::{Branched, Branching, Reading};
+use crate::answers::{Branched, Reading};
 use formats::buffers::branch_buffers_fit;
 use formats::bytes::read32;
 use formats::layout::{BRANCH_HEAD, LABEL_COUNT_AT, PLAN_HEAD};
+use formats::refusals::Refusal;
 use tables::answers::Climbed;
 use tables::node_tables::moves::{depth_at, is_below};
 use tables::replays::replay_climb;
@@ -39,21 +40,21 @@ fn first_state(reading: Reading, labels: &[u8], steps: &[u8], s: usize, k: usize
 }
 
 // The answer for the end of a climb, with the mark of its state.
-fn finish_answer(end: Climbed, marks: &[u8]) -> Branching
+fn finish_answer(end: Climbed, marks: &[u8]) -> Result<Branched, Refusal>
     requires { StateIn (length marks.now) end }
     ensures { result ≡ told_of marks.now end }
 {
     match end {
         Climbed::Reached(x) => {
             let mark = marks[x.state as usize];
-            Branching::Answered(Branched {
+            Ok(Branched {
                 state: x.state,
                 marked: mark == 1,
                 links: x.links,
                 passed: x.passed,
             })
         }
-        Climbed::OutOfRange => Branching::Refused(18),
+        Climbed::OutOfRange => Err(Refusal::LentValue),
     }
 }
 
@@ -66,7 +67,7 @@ fn answer_branch(
     state_table: &[u8],
     u: usize,
     l: usize,
-) -> Branching
+) -> Result<Branched, Refusal>
     requires { AnswerArgs plan.now branch.now node_table.now state_table.now u l }
     ensures { result ≡ branch_answer 0 (branch_on reading plan.now branch.now node_table.now
         state_table.now u l) }
@@ -79,7 +80,7 @@ fn answer_branch(
     let to = depth_at(node_table, u);
     let q = first_state(reading, labels, steps, s, k, u);
     if s <= q {
-        return Branching::Refused(18);
+        return Err(Refusal::LentValue);
     }
     let end = replay_climb(labels, steps, node_table, state_table, n, s, k, l, to, q);
     finish_answer(end, &branch[BRANCH_HEAD + s * k..])
@@ -95,24 +96,24 @@ fn ask(
     state_table: &[u8],
     upper: u32,
     lower: u32,
-) -> Branching
+) -> Result<Branched, Refusal>
     ensures { AskDone reading plan.now branch.now node_table.now state_table.now
         upper lower result }
 {
     if !branch_buffers_fit(plan, branch, node_table, state_table) {
-        return Branching::Refused(17);
+        return Err(Refusal::LentLength);
     }
     let n = read32(plan, 0);
     let u = upper as usize;
     if n <= u {
-        return Branching::Refused(13);
+        return Err(Refusal::Node);
     }
     let l = lower as usize;
     if n <= l {
-        return Branching::Refused(13);
+        return Err(Refusal::Node);
     }
     if !is_below(node_table, u, l) {
-        return Branching::Refused(16);
+        return Err(Refusal::NotBelow);
     }
     answer_branch(reading, plan, branch, node_table, state_table, u, l)
 }
@@ -126,7 +127,7 @@ pub fn ask_branch(
     state_table: &[u8],
     upper: u32,
     lower: u32,
-) -> Branching
+) -> Result<Branched, Refusal>
     ensures { AskDone BelowUpper plan.now branch.now node_table.now state_table.now
         upper lower result }
 {
@@ -149,7 +150,7 @@ pub fn ask_branch_with_upper(
     state_table: &[u8],
     upper: u32,
     lower: u32,
-) -> Branching
+) -> Result<Branched, Refusal>
     ensures { AskDone WithUpper plan.now branch.now node_table.now state_table.now
         upper lower result }
 {

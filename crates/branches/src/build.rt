@@ -10,7 +10,7 @@ use crate::steps::fill_steps;
 use formats::bytes::read32;
 use formats::inputs::check_branch_build;
 use formats::layout::{BRANCH_HEAD, LABEL_COUNT_AT, PLAN_HEAD};
-use tables::answers::Building;
+use formats::refusals::Refusal;
 use tables::node_tables::build::build_node_table;
 
 // Writes both tables, once all checks have passed. The excess of a longer buffer is untouched.
@@ -60,26 +60,24 @@ fn write_branch(
     );
 }
 
-// Writes the tables of a plan and a branch table, or returns the first check of 2 to 11 that fails and alters nothing.
+// Writes the tables of a plan and a branch table, or refuses, by the first check of 2 to 11 that fails, and alters
+// nothing.
 pub fn build_branch_tables(
     plan: &[u8],
     branch: &[u8],
     node_table: &mut [u16],
     state_table: &mut [u8],
-) -> Building
+) -> Result<(), Refusal>
     ensures { BuildDone
         (first_no (branch_build_checks plan.now branch.now (length node_table.old)
         (length state_table.old)))
         (built_node_table plan.now) (built_branch_table plan.now branch.now)
         node_table.old state_table.old result node_table.new state_table.new }
 {
-    let no = check_branch_build(plan, branch, node_table.len(), state_table.len());
-    if no != 0 {
-        return Building::Refused(no);
-    }
+    check_branch_build(plan, branch, node_table.len(), state_table.len())?;
     let n = read32(plan, 0);
     let s = read32(branch, 0);
     let k = read32(branch, LABEL_COUNT_AT);
     write_branch(plan, branch, n, s, k, node_table, state_table);
-    Building::Built
+    Ok(())
 }

@@ -11,7 +11,7 @@ use crate::check_steps::check_steps;
 use formats::bytes::read32;
 use formats::inputs::check_branch_build;
 use formats::layout::{BRANCH_HEAD, LABEL_COUNT_AT, PLAN_HEAD};
-use tables::answers::Checking;
+use formats::refusals::Refusal;
 use tables::node_tables::check::check_node_table;
 
 // Whether both buffers begin with the tables of the tree with these labels and kinds: the links first, since the rest
@@ -66,28 +66,22 @@ fn branch_matches(
     )
 }
 
-// Whether the caller's tables are what the build writes, or the first check of 2 to 11 that fails.
+// Whether the caller's tables are what the build writes, or the refusal of the first check of 2 to 11 that fails.
 pub fn check_branch_tables(
     plan: &[u8],
     branch: &[u8],
     node_table: &[u16],
     state_table: &[u8],
-) -> Checking
+) -> Result<bool, Refusal>
     ensures { CheckDone
         (first_no (branch_build_checks plan.now branch.now (length node_table.now)
         (length state_table.now)))
         (built_node_table plan.now) (built_branch_table plan.now branch.now)
         node_table.now state_table.now result }
 {
-    let no = check_branch_build(plan, branch, node_table.len(), state_table.len());
-    if no != 0 {
-        return Checking::Refused(no);
-    }
+    check_branch_build(plan, branch, node_table.len(), state_table.len())?;
     let n = read32(plan, 0);
     let s = read32(branch, 0);
     let k = read32(branch, LABEL_COUNT_AT);
-    if branch_matches(plan, branch, n, s, k, node_table, state_table) {
-        return Checking::Yes;
-    }
-    Checking::No
+    Ok(branch_matches(plan, branch, n, s, k, node_table, state_table))
 }

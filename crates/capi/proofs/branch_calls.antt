@@ -1,3 +1,2 @@
-pub mod BranchNumberLaws
 pub mod Theorems
 pub mod Ties

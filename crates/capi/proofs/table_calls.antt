@@ -1,3 +1,2 @@
-pub mod RunNumberLaws
 pub mod Theorems
 pub mod Ties

@@ -1,3 +1,4 @@
+pub mod allowed_calls
 pub mod branch_calls
 pub mod choice_calls
 pub mod list_calls

@@ -7,11 +7,12 @@ ghost use Rattle.branches.specs.declared.answers.Reading.TheVariants.{BelowUpper
 ghost use Rattle.capi.specs.numbers.Numbers.{BuildExported, CheckExported};
 ghost use Rattle.capi.specs.branch_calls.BranchExported.{AskNumber, AskExported};
 
-use crate::numbers::{bit, build_number, check_number};
-use branches::answers::Branching;
+use crate::numbers::{bit, check_number, number};
+use branches::answers::Branched;
 use branches::ask::ask_branch;
 use branches::build::build_branch_tables;
 use branches::check::check_branch_tables;
+use formats::refusals::Refusal;
 
 // Builds the tables of a plan for a branch table.
 pub fn whatif_branch_build(
@@ -26,7 +27,7 @@ pub fn whatif_branch_build(
         node_table.old state_table.old result node_table.new state_table.new }
 {
     let answer = build_branch_tables(plan, branch, node_table, state_table);
-    build_number(answer)
+    number(answer)
 }
 
 // Whether the tables are what the build writes for the plan and the branch table.
@@ -49,7 +50,7 @@ pub fn whatif_branch_check(
 // The number of a branch question's answer; its state, whether it is marked, its links and the nodes passed over go to
 // `state`, `yes`, `links` and `passed`.
 pub fn ask_number(
-    answer: Branching,
+    answer: Result<Branched, Refusal>,
     state: &mut u32,
     yes: &mut u32,
     links: &mut u32,
@@ -59,14 +60,14 @@ pub fn ask_number(
         result state.new yes.new links.new passed.new }
 {
     match answer {
-        Branching::Answered(b) => {
+        Ok(b) => {
             *state = b.state as u32;
             *yes = bit(b.marked);
             *links = b.links;
             *passed = b.passed;
             0
         }
-        Branching::Refused(n) => n as u32,
+        Err(refusal) => refusal.number() as u32,
     }
 }
 

@@ -6,6 +6,7 @@ ghost use Rattle.capi.specs.choice_calls.CountExported.{CountExported};
 
 use choices::count::count;
 use formats::bytes::read32;
+use formats::refusals::Refusal;
 
 // How many choices of labels for the nodes end in each state: the counts go to the front of `counts`, parts and links
 // to their output parameters.
@@ -23,14 +24,13 @@ pub fn whatif_count(
         nodes.now counts.old parts.old links.old result counts.new
         parts.new links.new }
 {
-    let reply = count(plan, rules, node_table, state_table, nodes);
-    let answer = reply.answer as u32;
-    if answer != 0 {
-        return answer;
-    }
+    let reply = match count(plan, rules, node_table, state_table, nodes) {
+        Ok(reply) => reply,
+        Err(refusal) => return refusal.number() as u32,
+    };
     let s = read32(rules, 0);
     if counts.len() < s {
-        return 11;
+        return Refusal::BufferShort.number() as u32;
     }
     counts[..s].copy_from_slice(&reply.counts[..s]);
     *parts = reply.parts;

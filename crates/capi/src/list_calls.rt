@@ -1,21 +1,10 @@
 // The exported call on lists of changes (document 02, S-4), thin over the call of crate changes: its result is the
 // reply's number, 0 where it is accepted. The entries go to the caller's buffers. Outputs are written only on success.
 //     whatif_lay_over   one list laid over another
-ghost use Rattle.std.specs.Prelude.{◌≡◌};
-ghost use Rattle.changes.specs.LayOver.{laying_number};
 ghost use Rattle.capi.specs.list_calls.ListsExported.{LayExported};
 
-use changes::{Laying, lay_over};
-
-// The number of a reply.
-fn laying_number(answer: Laying) -> u32
-    ensures { result ≡ laying_number answer }
-{
-    match answer {
-        Laying::Laid => 0,
-        Laying::Refused(n) => n as u32,
-    }
-}
+use changes::lay_over;
+use formats::refusals::Refusal;
 
 // The upper list laid over the lower: its nodes and labels go to the front of `nodes` and `labels`, and their number to
 // `count`.
@@ -31,21 +20,19 @@ pub fn whatif_lay_over(
     ensures { LayExported lower_nodes.now lower_labels.now upper_nodes.now upper_labels.now
         nodes.old labels.old count.old result nodes.new labels.new count.new }
 {
-    let reply = lay_over(lower_nodes, lower_labels, upper_nodes, upper_labels);
-    let answer = reply.answer;
-    let number = laying_number(answer);
-    if number != 0 {
-        return number;
-    }
-    let n = reply.count;
+    let list = match lay_over(lower_nodes, lower_labels, upper_nodes, upper_labels) {
+        Ok(list) => list,
+        Err(refusal) => return refusal.number() as u32,
+    };
+    let n = list.count;
     if nodes.len() < n {
-        return 11;
+        return Refusal::BufferShort.number() as u32;
     }
     if labels.len() < n {
-        return 11;
+        return Refusal::BufferShort.number() as u32;
     }
-    nodes[..n].copy_from_slice(&reply.nodes[..n]);
-    labels[..n].copy_from_slice(&reply.labels[..n]);
+    nodes[..n].copy_from_slice(&list.nodes[..n]);
+    labels[..n].copy_from_slice(&list.labels[..n]);
     *count = n as u32;
     0
 }

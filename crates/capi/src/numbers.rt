@@ -1,8 +1,9 @@
-// Answers as numbers, for the crates that export calls: a yes or no, a build's answer, a full check's.
+// Answers as numbers, for the crates that export calls: a yes or no, any answer's number, and a full check's.
 ghost use Rattle.std.specs.Prelude.{◌≡◌};
-ghost use Rattle.capi.specs.numbers.Numbers.{bit_of, BuildNumber, CheckNumber};
+ghost use Rattle.formats.specs.Refusals.{answer_number};
+ghost use Rattle.capi.specs.numbers.Numbers.{bit_of, CheckNumber};
 
-use tables::answers::{Building, Checking};
+use formats::refusals::Refusal;
 
 // 1 for yes, 0 for no.
 pub fn bit(b: bool) -> u32
@@ -11,29 +12,25 @@ pub fn bit(b: bool) -> u32
     u32::from(b)
 }
 
-// The number of a build's answer.
-pub fn build_number(answer: Building) -> u32
-    ensures { BuildNumber answer result }
+// The number of an answer: 0 where the call is accepted, else its refusal's.
+pub fn number<T: Copy>(answer: Result<T, Refusal>) -> u32
+    ensures { result ≡ answer_number answer }
 {
     match answer {
-        Building::Built => 0,
-        Building::Refused(n) => n as u32,
+        Ok(_) => 0,
+        Err(refusal) => refusal.number() as u32,
     }
 }
 
 // The number of a full check's answer; whether it is yes goes to `yes`.
-pub fn check_number(answer: Checking, yes: &mut u32) -> u32
+pub fn check_number(answer: Result<bool, Refusal>, yes: &mut u32) -> u32
     ensures { CheckNumber answer yes.old result yes.new }
 {
     match answer {
-        Checking::Yes => {
-            *yes = 1;
+        Ok(same) => {
+            *yes = bit(same);
             0
         }
-        Checking::No => {
-            *yes = 0;
-            0
-        }
-        Checking::Refused(n) => n as u32,
+        Err(refused) => refused.number() as u32,
     }
 }

@@ -3,6 +3,7 @@
 ghost use Rattle.planner.specs.home.Home.{HomeDone};
 ghost use Rattle.planner.specs.out.Out.{OutDone};
 
+use crate::numbers::number;
 use planner::home::convert::planner_of_plan;
 use planner::out::convert::plan_of_planner;
 
@@ -11,12 +12,12 @@ pub fn whatif_plan_of_planner(file: &[u8], plan: &mut [u8], places: &mut [u16]) 
     ensures { OutDone file.now plan.old places.old result
         plan.new places.new }
 {
-    plan_of_planner(file, plan, places) as u32
+    number(plan_of_planner(file, plan, places))
 }
 
 // The planner's file of our plan.
 pub fn whatif_planner_of_plan(plan: &[u8], file: &mut [u8]) -> u32
     ensures { HomeDone plan.now file.old result file.new }
 {
-    planner_of_plan(plan, file) as u32
+    number(planner_of_plan(plan, file))
 }

@@ -3,30 +3,21 @@
 //     whatif_merge   one table that clears exactly the plans that both clear
 //     whatif_agree   whether the tables agree, or else a separating plan as lines
 ghost use Rattle.std.specs.Prelude.{◌≡◌, [], ◌∷◌, cond, eqb};
-ghost use Rattle.products.specs.merging.Answer.{merge_number};
 ghost use Rattle.products.specs.merging.Writes.{written};
 ghost use Rattle.capi.specs.product_calls.Exported.{MergeExported, AgreeExported, LineArgs, LinesArgs, line_numbers};
 
+use crate::numbers::number;
+use formats::refusals::Refusal;
+use products::agreement::agree;
 use products::agreement::reachable::PAIR_LIMIT;
-use products::agreement::{Agreement, agree};
-use products::merging::{MergeAnswer, merge};
-
-// The number of a merge's answer.
-fn merge_number(answer: MergeAnswer) -> u32
-    ensures { result ≡ merge_number answer }
-{
-    match answer {
-        MergeAnswer::Merged => 0,
-        MergeAnswer::Refused(n) => n as u32,
-    }
-}
+use products::merging::merge;
 
 // Writes the merged table to `merged`.
 pub fn whatif_merge(first: &[u8], second: &[u8], merged: &mut [u8]) -> u32
     ensures { MergeExported first.now second.now merged.old result merged.new }
 {
     let answer = merge(first, second, merged);
-    merge_number(answer)
+    number(answer)
 }
 
 // The four numbers of a line, from number `at` on.
@@ -76,20 +67,22 @@ pub fn whatif_agree(
     ensures { AgreeExported first.now second.now lines.old agreed.old count.old result
         lines.new agreed.new count.new }
 {
-    let reply = agree(first, second);
-    let number = reply.number;
-    if number != 0 {
-        return number as u32;
-    }
+    let reply = match agree(first, second) {
+        Ok(reply) => reply,
+        Err(refusal) => return refusal.number() as u32,
+    };
     let n = reply.count;
     if lines.len() < n * 4 {
-        return 11;
+        return Refusal::BufferShort.number() as u32;
     }
-    let kinds = reply.kinds;
-    let labels = reply.labels;
-    let lefts = reply.lefts;
-    let rights = reply.rights;
-    put_lines(kinds, labels, lefts, rights, n, lines);
+    put_lines(
+        reply.kinds,
+        reply.labels,
+        reply.lefts,
+        reply.rights,
+        n,
+        lines,
+    );
     *agreed = none_shown(n);
     *count = n as u32;
     0

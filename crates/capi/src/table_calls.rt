@@ -5,8 +5,9 @@ ghost use Rattle.formats.specs.Built.{built_node_table, built_state_table};
 ghost use Rattle.capi.specs.numbers.Numbers.{BuildExported, CheckExported};
 ghost use Rattle.capi.specs.table_calls.RunExported.{RunNumber, RunExported};
 
-use crate::numbers::{bit, build_number, check_number};
-use runs::answer::Running;
+use crate::numbers::{bit, check_number, number};
+use formats::refusals::Refusal;
+use runs::answer::Verdict;
 use runs::fresh::fresh_run;
 use table_checks::check::check_tables;
 use tables::build::build_tables;
@@ -24,7 +25,7 @@ pub fn whatif_build(
         node_table.old state_table.old result node_table.new state_table.new }
 {
     let answer = build_tables(plan, rules, node_table, state_table);
-    build_number(answer)
+    number(answer)
 }
 
 // Whether the tables are what the build writes for the plan and the rule table.
@@ -45,16 +46,16 @@ pub fn whatif_check(
 }
 
 // The number of a fresh run's answer; its state and whether it is marked go to `state` and `yes`.
-fn run_number(answer: Running, state: &mut u32, yes: &mut u32) -> u32
+fn run_number(answer: Result<Verdict, Refusal>, state: &mut u32, yes: &mut u32) -> u32
     ensures { RunNumber answer state.old yes.old result state.new yes.new }
 {
     match answer {
-        Running::Ended(q, marked) => {
-            *state = q as u32;
-            *yes = bit(marked);
+        Ok(verdict) => {
+            *state = verdict.state as u32;
+            *yes = bit(verdict.accepted);
             0
         }
-        Running::Refused(n) => n as u32,
+        Err(refusal) => refusal.number() as u32,
     }
 }
 

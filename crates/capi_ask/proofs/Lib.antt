@@ -1,3 +1,2 @@
-pub mod AskNumberLaws
 pub mod Theorems
 pub mod Ties

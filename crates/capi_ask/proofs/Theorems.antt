@@ -10,13 +10,14 @@ use mathlib.Core.Path.{◌≡◌, refl, sym, ap, ◌∙◌}
 use mathlib.Core.Bool.{Bool, true, false}
 use mathlib.Core.List.{List, [], ◌∷◌}
 use native.Mathlib.Omega.{arith}
+use Rattle.std.specs.Prelude.{Result, Ok, Err}
 use Rattle.formats.specs.Plan.{node_count}
 use Rattle.formats.specs.Rules.{label_count, rule_automaton}
 use Rattle.formats.specs.Checks.{check, first_no, list_checks}
 use Rattle.formats.specs.Built.{AsBuilt}
-use Rattle.whole_questions.specs.declared.answers.Asking.{Asking}
-use Rattle.whole_questions.specs.declared.answers.Asking.TheVariants.{Answered, Refused}
-use Rattle.whole_questions.specs.Question.{asking_number}
+use Rattle.formats.specs.Refusals.{answer_number}
+use Rattle.formats.specs.declared.refusals.Refusal.{Refusal}
+use Rattle.whole_questions.specs.declared.answers.Asked.{Asked}
 use Rattle.whole_questions.specs.Promise.{AskUsable}
 use Rattle.whole_questions.proofs.Theorems.{ask-number}
 use Rattle.capi.specs.numbers.Numbers.{bit_of}
@@ -36,21 +37,20 @@ module _ (p r node_table state_table vs bs : List ℕ)
     (E : WholeExported p r node_table state_table vs bs n state₀ yes₀ parts₀ links₀ passed₀ state₁ yes₁ parts₁ links₁
     passed₁) where
   -- the number and the outputs of an answer that is known
-  pub whole_of : (a : Asking) → E.answer ≡ a
-      → (n ≡ asking_number a) × (state₁ ≡ end_of a state₀) × (yes₁ ≡ accepted_of a yes₀) × (parts₁ ≡ parts_of a parts₀)
+  pub whole_of : (a : Result Asked Refusal) → E.answer ≡ a
+      → (n ≡ answer_number a) × (state₁ ≡ end_of a state₀) × (yes₁ ≡ accepted_of a yes₀) × (parts₁ ≡ parts_of a parts₀)
       × (links₁ ≡ links_of a links₀) × (passed₁ ≡ passed_of a passed₀)
   whole_of a i = (
-    E.number.result ∙ ap asking_number i,
-    E.number.state_answer ∙ ap (λ (x : Asking). end_of x state₀) i,
-    E.number.yes_answer ∙ ap (λ (x : Asking). accepted_of x yes₀) i,
-    E.number.parts_answer ∙ ap (λ (x : Asking). parts_of x parts₀) i,
-    E.number.links_answer ∙ ap (λ (x : Asking). links_of x links₀) i,
-    E.number.passed_answer ∙ ap (λ (x : Asking). passed_of x passed₀) i,
+    E.number.result ∙ ap answer_number i,
+    E.number.state_answer ∙ ap (λ (x : Result Asked Refusal). end_of x state₀) i,
+    E.number.yes_answer ∙ ap (λ (x : Result Asked Refusal). accepted_of x yes₀) i,
+    E.number.parts_answer ∙ ap (λ (x : Result Asked Refusal). parts_of x parts₀) i,
+    E.number.links_answer ∙ ap (λ (x : Result Asked Refusal). links_of x links₀) i,
+    E.number.passed_answer ∙ ap (λ (x : Result Asked Refusal). passed_of x passed₀) i,
   )
 
   pub whole-answers : AsBuilt p r node_table state_table → first_no (list_checks (node_count p) (label_count r) vs bs) ≡ 0
       → AskAnswered p r vs bs n state₁ yes₁ parts₁ links₁ passed₁
-  unfolding asking_number
   whole-answers B ok =
       let w = whole_of _ (E.done.built B ok) in
       record {
@@ -64,7 +64,6 @@ module _ (p r node_table state_table vs bs : List ℕ)
 
   pub whole-ruled : AskUsable p r node_table state_table → first_no (list_checks (node_count p) (label_count r) vs bs) ≡ 0
       → AskRuled p r node_table state_table vs bs n state₁ yes₁ parts₁ links₁ passed₁
-  unfolding asking_number
   whole-ruled U ok =
       let w = whole_of _ (E.done.usable U ok) in
       record {
@@ -83,7 +82,6 @@ module _ (p r node_table state_table vs bs : List ℕ)
 
   pub whole-kept : (n ≡ 0 → ⊥)
       → (state₁ ≡ state₀) × (yes₁ ≡ yes₀) × (parts₁ ≡ parts₀) × (links₁ ≡ links₀) × (passed₁ ≡ passed₀)
-  unfolding asking_number
   whole-kept h =
       let N = E.number in
       let w = not-answered E.answer (λ e. h (N.result ∙ e)) in (
@@ -94,8 +92,8 @@ module _ (p r node_table state_table vs bs : List ℕ)
         N.passed_answer ∙ w.4,
       )
     where
-      not-answered : (a : Asking) → (asking_number a ≡ 0 → ⊥)
+      not-answered : (a : Result Asked Refusal) → (answer_number a ≡ 0 → ⊥)
           → (end_of a state₀ ≡ state₀) × (accepted_of a yes₀ ≡ yes₀) × (parts_of a parts₀ ≡ parts₀)
           × (links_of a links₀ ≡ links₀) × (passed_of a passed₀ ≡ passed₀)
-      not-answered (Answered q marked m k d) z = absurd (z refl)
-      not-answered (Refused m) z = (refl, refl, refl, refl, refl)
+      not-answered (Ok x) z = absurd (z refl)
+      not-answered (Err r) z = (refl, refl, refl, refl, refl)

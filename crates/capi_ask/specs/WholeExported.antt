@@ -5,36 +5,31 @@
 --   value, or `old` where it is refused
 -- WholeNumber == an answer as a number and values
 -- WholeExported .. == the promise of the exported function
-use Rattle.std.specs.Prelude.{ℕ, ◌≡◌, List}
-use Rattle.whole_questions.specs.declared.answers.Asking.{Asking}
-use Rattle.whole_questions.specs.declared.answers.Asking.TheVariants.{Answered, Refused as NotAnswered}
-use Rattle.whole_questions.specs.Question.{asking_number}
+use Rattle.std.specs.Prelude.{ℕ, ◌≡◌, List, Result}
+use Rattle.formats.specs.Refusals.{answer_number, told}
+use Rattle.formats.specs.declared.refusals.Refusal.{Refusal}
+use Rattle.whole_questions.specs.declared.answers.Asked.{Asked}
 use Rattle.whole_questions.specs.Promise.{AskDone}
-use Rattle.capi.specs.numbers.Numbers.{bit_of}
+use Rattle.capi.specs.numbers.Numbers.{bit_of, on_answer}
 
-abbrev pub end_of : Asking → ℕ → ℕ
-end_of (Answered q marked parts links passed) old = q
-end_of (NotAnswered n) old = old
+abbrev pub end_of : Result Asked Refusal → ℕ → ℕ
+end_of a old = on_answer (told a).1 (λ x. x.state) old
 
-abbrev pub accepted_of : Asking → ℕ → ℕ
-accepted_of (Answered q marked parts links passed) old = bit_of marked
-accepted_of (NotAnswered n) old = old
+abbrev pub accepted_of : Result Asked Refusal → ℕ → ℕ
+accepted_of a old = on_answer (told a).1 (λ x. bit_of x.marked) old
 
-abbrev pub parts_of : Asking → ℕ → ℕ
-parts_of (Answered q marked parts links passed) old = parts
-parts_of (NotAnswered n) old = old
+abbrev pub parts_of : Result Asked Refusal → ℕ → ℕ
+parts_of a old = on_answer (told a).1 (λ x. x.parts) old
 
-abbrev pub links_of : Asking → ℕ → ℕ
-links_of (Answered q marked parts links passed) old = links
-links_of (NotAnswered n) old = old
+abbrev pub links_of : Result Asked Refusal → ℕ → ℕ
+links_of a old = on_answer (told a).1 (λ x. x.links) old
 
-abbrev pub passed_of : Asking → ℕ → ℕ
-passed_of (Answered q marked parts links passed) old = passed
-passed_of (NotAnswered n) old = old
+abbrev pub passed_of : Result Asked Refusal → ℕ → ℕ
+passed_of a old = on_answer (told a).1 (λ x. x.passed) old
 
-pub record WholeNumber (a : Asking) (state₀ yes₀ parts₀ links₀ passed₀ r state₁ yes₁ parts₁ links₁ passed₁ : ℕ)
-    : Type 0 where
-  pub result : r ≡ asking_number a
+pub record WholeNumber (a : Result Asked Refusal)
+    (state₀ yes₀ parts₀ links₀ passed₀ r state₁ yes₁ parts₁ links₁ passed₁ : ℕ) : Type 0 where
+  pub result : r ≡ answer_number a
   pub state_answer : state₁ ≡ end_of a state₀
   pub yes_answer : yes₁ ≡ accepted_of a yes₀
   pub parts_answer : parts₁ ≡ parts_of a parts₀
@@ -43,6 +38,6 @@ pub record WholeNumber (a : Asking) (state₀ yes₀ parts₀ links₀ passed₀
 
 pub record WholeExported (p r node_table state_table vs bs : List ℕ)
     (n state₀ yes₀ parts₀ links₀ passed₀ state₁ yes₁ parts₁ links₁ passed₁ : ℕ) : Type 0 where
-  pub answer : Asking
+  pub answer : Result Asked Refusal
   pub done : AskDone p r node_table state_table vs bs answer
   pub number : WholeNumber answer state₀ yes₀ parts₀ links₀ passed₀ n state₁ yes₁ parts₁ links₁ passed₁

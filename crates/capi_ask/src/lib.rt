@@ -6,13 +6,14 @@
 ghost use Rattle.capi_ask.specs.WholeExported.{WholeNumber, WholeExported};
 
 use capi::numbers::bit;
-use whole_questions::answers::Asking;
+use formats::refusals::Refusal;
+use whole_questions::answers::Asked;
 use whole_questions::ask::ask;
 
 // The number of a whole question's answer; its state, whether it is marked, its parts, its links and its nodes passed
 // over go to `state`, `yes`, `parts`, `links` and `passed`.
 fn ask_number(
-    answer: Asking,
+    answer: Result<Asked, Refusal>,
     state: &mut u32,
     yes: &mut u32,
     parts: &mut u32,
@@ -24,15 +25,15 @@ fn ask_number(
         passed.new }
 {
     match answer {
-        Asking::Answered(q, marked, m, k, d) => {
-            *state = q as u32;
-            *yes = bit(marked);
-            *parts = m;
-            *links = k;
-            *passed = d;
+        Ok(asked) => {
+            *state = asked.state as u32;
+            *yes = bit(asked.marked);
+            *parts = asked.parts;
+            *links = asked.links;
+            *passed = asked.passed;
             0
         }
-        Asking::Refused(n) => n as u32,
+        Err(refusal) => refusal.number() as u32,
     }
 }
 

@@ -1,3 +1,2 @@
-pub mod DescentNumberLaws
 pub mod Theorems
 pub mod Ties

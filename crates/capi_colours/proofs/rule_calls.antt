@@ -1,4 +1,3 @@
 pub mod BuildTheorems
-pub mod RuleNumberLaws
 pub mod Theorems
 pub mod Ties

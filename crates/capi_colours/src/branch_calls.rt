@@ -6,10 +6,11 @@ ghost use Rattle.branches.specs.declared.answers.Reading.TheVariants.{WithUpper,
 ghost use Rattle.capi.specs.numbers.Numbers.{BuildExported};
 ghost use Rattle.capi_colours.specs.branch_calls.DescentExported.{DescentNumber, DescentExported};
 
-use capi::numbers::{bit, build_number};
-use colour_questions::branch::answers::Descending;
+use capi::numbers::{bit, number};
+use colour_questions::branch::answers::ColourAsked;
 use colour_questions::branch::ask::{ask_colours, ask_colours_with_upper};
 use colour_tables::branch::build::build_branch_colours;
+use formats::refusals::Refusal;
 
 // Builds the tables of colours of a plan for a branch table.
 pub fn whatif_colour_branch_build(
@@ -27,13 +28,13 @@ pub fn whatif_colour_branch_build(
         colour_bytes.new }
 {
     let answer = build_branch_colours(plan, branch, colour_numbers, colour_bytes);
-    build_number(answer)
+    number(answer)
 }
 
 // The number of a branch question's answer by colours; its state, whether it is marked, its drops and its links go to
 // `state`, `yes`, `drops` and `links`.
 fn descent_number(
-    answer: Descending,
+    answer: Result<ColourAsked, Refusal>,
     state: &mut u32,
     yes: &mut u32,
     drops: &mut u32,
@@ -43,14 +44,14 @@ fn descent_number(
         result state.new yes.new drops.new links.new }
 {
     match answer {
-        Descending::Answered(q, marked, d, k) => {
-            *state = q as u32;
-            *yes = bit(marked);
-            *drops = d;
-            *links = k;
+        Ok(asked) => {
+            *state = asked.state as u32;
+            *yes = bit(asked.marked);
+            *drops = asked.drops;
+            *links = asked.links;
             0
         }
-        Descending::Refused(n) => n as u32,
+        Err(refusal) => refusal.number() as u32,
     }
 }
 

@@ -5,6 +5,7 @@
 
 ghost use Rattle.fewest.specs.Answers.{FewestTold};
 
+use capi::numbers::number;
 use fewest::call::fewest_changes;
 
 // The least number of nodes that must be relabelled so that the plan is cleared (want 1) or no longer is (want 0; any
@@ -24,5 +25,6 @@ pub fn whatif_fewest(
         nodes.old labels.old least.old count.old result work.new
         nodes.new labels.new least.new count.new }
 {
-    fewest_changes(plan, rules, may, want, work, nodes, labels, least, count) as u32
+    let answer = fewest_changes(plan, rules, may, want, work, nodes, labels, least, count);
+    number(answer)
 }

@@ -1,5 +1,5 @@
 // Start, Cancel, Read and the deal of eight screens, on a run of 8 x 983 record bytes. A run of another length and a
-// number above 7 give 25 before all else, the number compared before it is cast.
+// number above 7 are refused before all else, the number compared before it is cast.
 ghost use Rattle.std.specs.Prelude.{◌≡◌, ◌<◌, length};
 ghost use Rattle.formats.specs.Inputs.{inputs_of};
 ghost use Rattle.screens.specs.ScreenCalls.{found};
@@ -10,6 +10,7 @@ ghost use Rattle.capi_screens.specs.ScreensExported.{ScreensCallExported, Screen
 ghost use Rattle.capi_screens.specs.ScreensExported.{ScreensDealExported, ScreensReadExported};
 
 use capi_session::calls::{whatif_advance, whatif_cancel, whatif_read, whatif_start};
+use formats::refusals::Refusal;
 use records::layout::RECORD_BYTES;
 use screens::{LAST_SCREEN, SCREENS, one_past};
 
@@ -24,10 +25,10 @@ pub fn whatif_screens_cancel(records: &mut [u8], screen: u32) -> u32
     ensures { ScreensCallExported records.old (screens.cancel_on screen) result records.new }
 {
     if records.len() != RUN_BYTES {
-        return 25;
+        return Refusal::Screen.number() as u32;
     }
     if screen > LAST {
-        return 25;
+        return Refusal::Screen.number() as u32;
     }
     let i = screen as usize;
     whatif_cancel(&mut records[RECORD_BYTES * i..RECORD_BYTES * i + RECORD_BYTES])
@@ -52,10 +53,10 @@ pub fn whatif_screens_start(
         result records.new parts.old parts.new }
 {
     if records.len() != RUN_BYTES {
-        return 25;
+        return Refusal::Screen.number() as u32;
     }
     if screen > LAST {
-        return 25;
+        return Refusal::Screen.number() as u32;
     }
     let i = screen as usize;
     whatif_start(
@@ -85,10 +86,10 @@ pub fn whatif_screens_read(
         (places state.new yes.new parts.new links.new passed.new) }
 {
     if records.len() != RUN_BYTES {
-        return 25;
+        return Refusal::Screen.number() as u32;
     }
     if screen > LAST {
-        return 25;
+        return Refusal::Screen.number() as u32;
     }
     let i = screen as usize;
     whatif_read(
@@ -135,14 +136,14 @@ pub fn whatif_screens_deal(
         finished.old finished.new }
 {
     if records.len() != RUN_BYTES {
-        return 25;
+        return Refusal::Screen.number() as u32;
     }
     if first > LAST {
-        return 25;
+        return Refusal::Screen.number() as u32;
     }
     let i = next_running(records, first as usize);
     if i > LAST_SCREEN {
-        return 1;
+        return Refusal::SessionState.number() as u32;
     }
     let number = whatif_advance(
         &mut records[RECORD_BYTES * i..RECORD_BYTES * i + RECORD_BYTES],

@@ -1,4 +1,4 @@
-// Load of eight screens: refused with 1 where any runs or is no record; else one build with its checks, and all eight
+// Load of eight screens: refused where any runs or is no record; else one build with its checks, and all eight
 // records are as after a first Load of that plan.
 ghost use Rattle.std.specs.Prelude.{◌≡◌, not, ◌||◌, eqb, length, get_or, take};
 ghost use Rattle.list_laws.specs.Rows.{rows};
@@ -10,6 +10,7 @@ ghost use Rattle.capi_screens.specs.ScreensExported.{ScreensLoadExported};
 
 use crate::calls::RUN_BYTES;
 use capi_session::calls::whatif_load;
+use formats::refusals::Refusal;
 use records::bytes::valid_bytes;
 use records::layout::RECORD_BYTES;
 use screens::SCREENS;
@@ -63,10 +64,10 @@ pub fn whatif_screens_load(
         next.new }
 {
     if records.len() != RUN_BYTES {
-        return 25;
+        return Refusal::Screen.number() as u32;
     }
     if any_busy(records) {
-        return 1;
+        return Refusal::SessionState.number() as u32;
     }
     let number = whatif_load(
         &mut records[..RECORD_BYTES],

@@ -17,12 +17,11 @@ use Rattle.model.specs.Calls.{Call, load, read, Answer, refused}
 use Rattle.session.specs.declared.answers.Called.{Called}
 use Rattle.session.specs.declared.answers.Started.{Started}
 use Rattle.session.specs.declared.answers.AdvanceStep.{AdvanceStep}
-use Rattle.session.specs.declared.answers.CallAnswer.TheVariants.{Accepted, Refused as NotDone}
-use Rattle.session.specs.declared.answers.StartAnswer.TheVariants.{Parts, Refused as NotStarted}
-use Rattle.session.specs.declared.answers.AdvanceAnswer.TheVariants.{More, Finished, Refused as NotAdvanced}
+use Rattle.std.specs.Prelude.{Result, Ok, Err}
+use Rattle.formats.specs.Refusals.{refusal_number}
+use Rattle.formats.specs.declared.refusals.Refusal.{Refusal}
+use Rattle.session.specs.declared.answers.Progress.TheVariants.{More, Finished}
 use Rattle.session.specs.declared.answers.Outcome.{Outcome}
-use Rattle.session.specs.declared.answers.ReadAnswer.{ReadAnswer}
-use Rattle.session.specs.declared.answers.ReadAnswer.TheVariants.{Outcome as Read, Refused as NotRead}
 use Rattle.session.specs.declared.state.Session.{Session}
 use Rattle.model.specs.Model.{act}
 use Rattle.model.specs.LeftOpen.{LeftOpen}
@@ -42,21 +41,21 @@ accepted-bytes new b b' h e = e ∙ rw (eq-eqb (length b) record_length h)
 stored-new : (a : Answer) (new b b' : List ℕ) → answer_number a ≡ 0 → unless_refused a new b ≡ new → b' ≡ new → Stored a new b 0 b'
 stored-new a new b b' n u e = record { number = sym n; left = e ∙ sym u }
 
-pub done-stored : (o : Called) (b b' : List ℕ) → length b ≡ record_length → o.answer ≡ Accepted
+pub done-stored : (o : Called) (b b' : List ℕ) (u : Unit) → length b ≡ record_length → o.answer ≡ Ok u
     → b' ≡ cond (eqb (length b) record_length) (encoded o.session) b → DoneStored o b 0 b'
 unfolding call_answer answer_number unless_refused
-done-stored o b b' h e q =
+done-stored o b b' u h e q =
     stored-new (call_answer o.answer) (encoded o.session) b b' (ap (λ (x : _). answer_number (call_answer x)) e)
     (ap (λ (x : _). unless_refused (call_answer x) (encoded o.session) b) e) (accepted-bytes (encoded o.session) b b' h q)
 
-pub done_refused : (o : Called) (b : List ℕ) (n : ℕ) → o.answer ≡ NotDone n → DoneStored o b n b
+pub done_refused : (o : Called) (b : List ℕ) (r : Refusal) (n : ℕ) → o.answer ≡ Err r → n ≡ refusal_number r → DoneStored o b n b
 unfolding call_answer answer_number unless_refused
-done_refused o b n e = record {
-  number = sym (ap (λ (x : _). answer_number (call_answer x)) e);
+done_refused o b r n e f = record {
+  number = f ∙ sym (ap (λ (x : _). answer_number (call_answer x)) e);
   left = sym (ap (λ (x : _). unless_refused (call_answer x) (encoded o.session) b) e);
 }
 
-pub start-stored : (o : Started) (b b' : List ℕ) (p k : ℕ) → length b ≡ record_length → o.answer ≡ Parts k
+pub start-stored : (o : Started) (b b' : List ℕ) (p k : ℕ) → length b ≡ record_length → o.answer ≡ Ok k
     → b' ≡ cond (eqb (length b) record_length) (encoded o.session) b → StartStored o b p 0 b' k
 unfolding start_answer answer_number unless_refused parts_of
 start-stored o b b' p k h e q = record {
@@ -65,11 +64,12 @@ start-stored o b b' p k h e q = record {
   parts_after = sym (ap (λ (x : _). parts_of (start_answer x) p) e);
 }
 
-pub start-refused : (o : Started) (b : List ℕ) (p n : ℕ) → o.answer ≡ NotStarted n → StartStored o b p n b p
+pub start-refused : (o : Started) (b : List ℕ) (p : ℕ) (r : Refusal) (n : ℕ) → o.answer ≡ Err r → n ≡ refusal_number r
+    → StartStored o b p n b p
 unfolding start_answer answer_number unless_refused parts_of
-start-refused o b p n e = record {
+start-refused o b p r n e f = record {
   stored = record {
-    number = sym (ap (λ (x : _). answer_number (start_answer x)) e);
+    number = f ∙ sym (ap (λ (x : _). answer_number (start_answer x)) e);
     left = sym (ap (λ (x : _). unless_refused (start_answer x) (encoded o.session) b) e);
   };
   parts_after = sym (ap (λ (x : _). parts_of (start_answer x) p) e);
@@ -84,7 +84,7 @@ module _ (t : AdvanceStep) (i : ℕ) (b : List ℕ) (f : ℕ) where
       → b' ≡ cond (eqb (length b) record_length) new b → Stored (advance_answer t.answer) new b 0 b'
   step-new b' h n u q = stored-new (advance_answer t.answer) new b b' n u (accepted-bytes new b b' h q)
 
-  pub more-stored : (b' : List ℕ) → length b ≡ record_length → t.answer ≡ More
+  pub more-stored : (b' : List ℕ) → length b ≡ record_length → t.answer ≡ Ok More
       → b' ≡ cond (eqb (length b) record_length) new b → AdvanceStored t i b f 0 b' 0
   unfolding advance_answer answer_number unless_refused finished_of
   more-stored b' h e q = record {
@@ -92,7 +92,7 @@ module _ (t : AdvanceStep) (i : ℕ) (b : List ℕ) (f : ℕ) where
     finished_after = sym (ap (λ (x : _). finished_of (advance_answer x) f) e);
   }
 
-  pub finished-stored : (b' : List ℕ) → length b ≡ record_length → t.answer ≡ Finished
+  pub finished-stored : (b' : List ℕ) → length b ≡ record_length → t.answer ≡ Ok Finished
       → b' ≡ cond (eqb (length b) record_length) new b → AdvanceStored t i b f 0 b' 1
   unfolding advance_answer answer_number unless_refused finished_of
   finished-stored b' h e q = record {
@@ -100,30 +100,31 @@ module _ (t : AdvanceStep) (i : ℕ) (b : List ℕ) (f : ℕ) where
     finished_after = sym (ap (λ (x : _). finished_of (advance_answer x) f) e);
   }
 
-  pub advance-refused : (n : ℕ) → t.answer ≡ NotAdvanced n → AdvanceStored t i b f n b f
+  pub advance-refused : (r : Refusal) (n : ℕ) → t.answer ≡ Err r → n ≡ refusal_number r → AdvanceStored t i b f n b f
   unfolding advance_answer answer_number unless_refused finished_of
-  advance-refused n e = record {
+  advance-refused r n e h = record {
     stored = record {
-      number = sym (ap (λ (x : _). answer_number (advance_answer x)) e);
+      number = h ∙ sym (ap (λ (x : _). answer_number (advance_answer x)) e);
       left = sym (ap (λ (x : _). unless_refused (advance_answer x) new b) e);
     };
     finished_after = sym (ap (λ (x : _). finished_of (advance_answer x) f) e);
   }
 
-pub read-in : (a : ReadAnswer) (old : Places) (y : ℕ) (o : Outcome) → a ≡ Read o → y ≡ bit_of o.yes
+pub read-in : (a : Result Outcome Refusal) (old : Places) (y : ℕ) (o : Outcome) → a ≡ Ok o → y ≡ bit_of o.yes
     → ReadStored a old 0 (places o.state y o.parts o.links o.passed)
 unfolding read_answer answer_number answered_places
 read-in a old y o e b = record {
-  number = sym (ap (λ (x : ReadAnswer). answer_number (read_answer x)) e);
+  number = sym (ap (λ (x : Result Outcome Refusal). answer_number (read_answer x)) e);
   values_are = ap (λ (z : ℕ). places o.state z o.parts o.links o.passed) b
-      ∙ sym (ap (λ (x : ReadAnswer). answered_places (read_answer x) old) e);
+      ∙ sym (ap (λ (x : Result Outcome Refusal). answered_places (read_answer x) old) e);
 }
 
-pub read-refused : (a : ReadAnswer) (old : Places) (n : ℕ) → a ≡ NotRead n → ReadStored a old n old
+pub read-refused : (a : Result Outcome Refusal) (old : Places) (r : Refusal) (n : ℕ) → a ≡ Err r → n ≡ refusal_number r
+    → ReadStored a old n old
 unfolding read_answer answer_number answered_places
-read-refused a old n e = record {
-  number = sym (ap (λ (x : ReadAnswer). answer_number (read_answer x)) e);
-  values_are = sym (ap (λ (x : ReadAnswer). answered_places (read_answer x) old) e);
+read-refused a old r n e f = record {
+  number = f ∙ sym (ap (λ (x : Result Outcome Refusal). answer_number (read_answer x)) e);
+  values_are = sym (ap (λ (x : Result Outcome Refusal). answered_places (read_answer x) old) e);
 }
 
 -- ---- the exported calls
@@ -235,7 +236,7 @@ module _ (b : List ℕ) where
     values_are = sym (ap (λ (a : Answer). answered_places a old) (not-answered b read h));
   }
 
-  pub read-laid : laid_out b ≡ true → (a : ReadAnswer) (old new : Places) (r : ℕ) → read_answer a ≡ answer_on (decoded b) read → ReadStored a old r new
+  pub read-laid : laid_out b ≡ true → (a : Result Outcome Refusal) (old new : Places) (r : ℕ) → read_answer a ≡ answer_on (decoded b) read → ReadStored a old r new
       → ReadExported b r old new
   read-laid h a old _ r D S =
       let e : answer_for b read ≡ read_answer a = answer-by b read h (read_answer a) D in

@@ -11,8 +11,10 @@ use lib.Seq.{drop-drop, take-add}
 use Rattle.list_laws.proofs.SliceLaws.{length_part}
 use Rattle.formats.specs.Inputs.{Inputs}
 use Rattle.model.specs.Calls.{advance}
-use Rattle.session.specs.declared.answers.AdvanceAnswer.{AdvanceAnswer}
-use Rattle.session.specs.declared.answers.AdvanceAnswer.TheVariants.{More, Finished, Refused as NotAdvanced}
+use Rattle.std.specs.Prelude.{Result, Ok, Err}
+use Rattle.formats.specs.declared.refusals.Refusal.{Refusal}
+use Rattle.session.specs.declared.answers.Progress.{Progress}
+use Rattle.session.specs.declared.answers.Progress.TheVariants.{More, Finished}
 use Rattle.session.specs.declared.answers.AdvanceStep.{AdvanceStep}
 use Rattle.session.specs.declared.state.Head.{Head}
 use Rattle.session.specs.declared.state.Session.{Session}
@@ -62,13 +64,13 @@ module _ (b : List ℕ) (long : length b ≡ record_length) (fits : Bytes b) whe
       (cond k (set (decoded b).states (decoded b).head.handled t.state) (decoded b).states))) (sym e)
 
   -- unless it is refused, the step stores its state
-  step_left : (t : AdvanceStep) (a : AdvanceAnswer) → t.answer ≡ a → t.stored ≡ stores_by t.answer
+  step_left : (t : AdvanceStep) (a : Result Progress Refusal) → t.answer ≡ a → t.stored ≡ stores_by t.answer
       → unless_refused (advance_answer a) (step_bytes t.head (decoded b).head.handled t.state b) b
       ≡ unless_refused (advance_answer a) (encoded (step_on (decoded b) t)) b
   unfolding unless_refused advance_answer
-  step_left t More e f = stored_is t (f ∙ ap stores_by e)
-  step_left t Finished e f = stored_is t (f ∙ ap stores_by e)
-  step_left t (NotAdvanced n) e f = refl
+  step_left t (Ok More) e f = stored_is t (f ∙ ap stores_by e)
+  step_left t (Ok Finished) e f = stored_is t (f ∙ ap stores_by e)
+  step_left t (Err r) e f = refl
 
 -- a promise on the struct that was decoded
 pub advance-made : (b : List ℕ) (s : Session) (x : Inputs) (t : AdvanceStep) (r : ℕ) (b' : List ℕ) (f f' : ℕ) → laid_out b ≡ true

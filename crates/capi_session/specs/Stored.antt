@@ -10,7 +10,9 @@ use Rattle.model.specs.Calls.{Answer}
 use Rattle.session.specs.declared.answers.Called.{Called}
 use Rattle.session.specs.declared.answers.Started.{Started}
 use Rattle.session.specs.declared.answers.AdvanceStep.{AdvanceStep}
-use Rattle.session.specs.declared.answers.ReadAnswer.{ReadAnswer}
+use Rattle.std.specs.Prelude.{Result}
+use Rattle.formats.specs.declared.refusals.Refusal.{Refusal}
+use Rattle.session.specs.declared.answers.Outcome.{Outcome}
 use Rattle.session.specs.Answers.{call_answer, start_answer, advance_answer, read_answer}
 use Rattle.session.specs.inner.Steps.{stores_by}
 use Rattle.records.specs.Layout.{record_length, step_bytes, encoded}
@@ -41,6 +43,6 @@ pub record AdvanceStored (t : AdvanceStep) (i : ℕ) (b : List ℕ) (f r : ℕ) 
   pub stored : Stored (advance_answer t.answer) (step_bytes t.head i t.state b) b r b'
   pub finished_after : f' ≡ finished_of (advance_answer t.answer) f
 
-pub record ReadStored (a : ReadAnswer) (old : Places) (r : ℕ) (new : Places) : Type 0 where
+pub record ReadStored (a : Result Outcome Refusal) (old : Places) (r : ℕ) (new : Places) : Type 0 where
   pub number : r ≡ answer_number (read_answer a)
   pub values_are : new ≡ answered_places (read_answer a) old

@@ -7,10 +7,9 @@ ghost use Rattle.capi_session.specs.SessionExported.{CallExported, LoadExported,
 ghost use Rattle.capi_session.specs.Stored.{DoneStored, StartStored, AdvanceArgs, AdvanceStored, ReadStored, places};
 
 use capi::numbers::bit;
+use formats::refusals::Refusal;
 use records::bytes::{decode, encode, encode_step, laid_out};
-use session::answers::{
-    AdvanceAnswer, AdvanceStep, CallAnswer, Called, ReadAnswer, StartAnswer, Started,
-};
+use session::answers::{AdvanceStep, Called, Outcome, Progress, Started};
 
 // Stores the record of an accepted Load or Cancel; returns the answer's number.
 fn store_done(out: Called, rec: &mut [u8]) -> u32
@@ -19,14 +18,12 @@ fn store_done(out: Called, rec: &mut [u8]) -> u32
 {
     let answer = out.answer;
     match answer {
-        CallAnswer::Accepted => {
+        Ok(()) => {
             let next = out.session;
             encode(next, rec);
-            return 0;
+            0
         }
-        CallAnswer::Refused(n) => {
-            return n as u32;
-        }
+        Err(refusal) => refusal.number() as u32,
     }
 }
 
@@ -43,7 +40,7 @@ pub fn whatif_load(
         result rec.new node_table.new state_table.new }
 {
     if !laid_out(rec) {
-        return 1;
+        return Refusal::SessionState.number() as u32;
     }
     let s = decode(rec);
     let out = s.load(plan, rules, node_table, state_table);
@@ -55,7 +52,7 @@ pub fn whatif_cancel(rec: &mut [u8]) -> u32
     ensures { CallExported rec.old calls.cancel result rec.new }
 {
     if !laid_out(rec) {
-        return 1;
+        return Refusal::SessionState.number() as u32;
     }
     let s = decode(rec);
     let out = s.cancel();
@@ -69,15 +66,13 @@ fn store_started(out: Started, rec: &mut [u8], parts: &mut u32) -> u32
 {
     let answer = out.answer;
     match answer {
-        StartAnswer::Parts(p) => {
+        Ok(p) => {
             let next = out.session;
             encode(next, rec);
             *parts = p as u32;
-            return 0;
+            0
         }
-        StartAnswer::Refused(n) => {
-            return n as u32;
-        }
+        Err(refusal) => refusal.number() as u32,
     }
 }
 
@@ -98,7 +93,7 @@ pub fn whatif_start(
         result rec.new parts.old parts.new }
 {
     if !laid_out(rec) {
-        return 1;
+        return Refusal::SessionState.number() as u32;
     }
     let s = decode(rec);
     let out = s.start(plan, rules, node_table, state_table, nodes, labels);
@@ -113,19 +108,15 @@ fn store_advanced(step: AdvanceStep, at: usize, rec: &mut [u8], finished: &mut u
 {
     let answer = step.answer;
     match answer {
-        AdvanceAnswer::More => {
+        Ok(progress) => {
             encode_step(step.head, at, step.state, rec);
-            *finished = 0;
-            return 0;
+            match progress {
+                Progress::More => *finished = 0,
+                Progress::Finished => *finished = 1,
+            }
+            0
         }
-        AdvanceAnswer::Finished => {
-            encode_step(step.head, at, step.state, rec);
-            *finished = 1;
-            return 0;
-        }
-        AdvanceAnswer::Refused(n) => {
-            return n as u32;
-        }
+        Err(refusal) => refusal.number() as u32,
     }
 }
 
@@ -143,7 +134,7 @@ pub fn whatif_advance(
         result rec.new finished.old finished.new }
 {
     if !laid_out(rec) {
-        return 1;
+        return Refusal::SessionState.number() as u32;
     }
     let s = decode(rec);
     let step = s.advance_step(plan, rules, node_table, state_table);
@@ -152,7 +143,7 @@ pub fn whatif_advance(
 
 // Reports the values of Read; returns the answer's number.
 fn tell_read(
-    answer: ReadAnswer,
+    answer: Result<Outcome, Refusal>,
     state: &mut u32,
     yes: &mut u32,
     parts: &mut u32,
@@ -164,17 +155,15 @@ fn tell_read(
         (places state.new yes.new parts.new links.new passed.new) }
 {
     match answer {
-        ReadAnswer::Outcome(o) => {
+        Ok(o) => {
             *state = o.state as u32;
             *yes = bit(o.yes);
             *parts = o.parts as u32;
             *links = o.links;
             *passed = o.passed;
-            return 0;
+            0
         }
-        ReadAnswer::Refused(n) => {
-            return n as u32;
-        }
+        Err(refusal) => refusal.number() as u32,
     }
 }
 
@@ -192,7 +181,7 @@ pub fn whatif_read(
         (places state.new yes.new parts.new links.new passed.new) }
 {
     if !laid_out(rec) {
-        return 1;
+        return Refusal::SessionState.number() as u32;
     }
     let s = decode(rec);
     let answer = s.read();

@@ -14,6 +14,9 @@ use Rattle.list_laws.specs.Rows.{tabulate}
 use Rattle.list_laws.proofs.BoolLaws.{and-no-left, and-no-right}
 use Rattle.list_laws.proofs.TestLaws.{all_below-all}
 use Rattle.list_laws.proofs.RowLaws.{tabulate-of}
+use Rattle.formats.specs.declared.refusals.Refusal.{Refusal}
+use Rattle.formats.specs.declared.refusals.Refusal.TheVariants.{LentValue}
+use Rattle.std.specs.Prelude.{Result, Ok, Err}
 use Rattle.tables.specs.Climbs.{View}
 use Rattle.questions.specs.declared.roots.Rooted.{Rooted}
 use Rattle.questions.specs.inner.PartArgs.{part_view}
@@ -26,7 +29,7 @@ use Rattle.choices.specs.declared.part_steps.carry.Carried.{Carried}
 use Rattle.choices.specs.part_steps.Side.{RowArgs, RowCopied}
 use Rattle.choices.specs.question_counts.CountOn.{open_in, roots_in, list_in, states_inside, all_ok, is_countable, count_of}
 use Rattle.choices.specs.declared.count.Counted.{Counted}
-use Rattle.choices.specs.Promise.{refused_with, counted_at}
+use Rattle.choices.specs.Promise.{counted_at}
 use Rattle.choices.specs.inner.Parts.{AllArgs, AllCounted}
 use Rattle.choices.specs.inner.Count.{counted_for, counted_on, RootArgs, OnArgs}
 use Rattle.choices.proofs.AllLoop.{rows-most}
@@ -48,9 +51,9 @@ module _ (n s k : ℕ) (ls ks lv inn node_table state_table vs ms : List ℕ)
   }
 
   module _ (x : Carried) (o : List ℕ) (P : AllCounted X vs ms x o) where
-    pub parts-lost : x.ok ≡ false → refused_with 18 ≡ counted_for X vs ms
+    pub parts-lost : x.ok ≡ false → Err LentValue ≡ counted_for X vs ms
     parts-lost f =
-        sym (ap (λ (b : Bool). cond b (counted_at X vs ms) (refused_with 18)) (sym P.ok ∙ f))
+        sym (ap (λ (b : Bool). cond b (Ok (counted_at X vs ms)) (Err LentValue)) (sym P.ok ∙ f))
 
     module _ (f : x.ok ≡ true) where
       pub last-args : (l : List ℕ) → length l ≡ 16 → RowArgs (take (length ms * 16) o) (length ms - 1) l
@@ -63,17 +66,17 @@ module _ (n s k : ℕ) (ls ks lv inn node_table state_table vs ms : List ℕ)
       }
 
       pub parts-done : (cs : List ℕ) → RowCopied (take (length ms * 16) o) (length ms - 1) cs
-          → record { answer = 0; counts = cs; parts = length ms; links = x.links } ≡ counted_for X vs ms
+          → Ok (record { counts = cs; parts = length ms; links = x.links }) ≡ counted_for X vs ms
       unfolding count_of
       parts-done cs R =
           let e : cs ≡ tabulate 16 (count_of X vs ms) =
           tabulate-of 16 (count_of X vs ms) cs R.kept.sixteen
           (λ c h. R.counts c h ∙ ap (λ (l : List ℕ). get_or l ((length ms - 1) * 16 + c) 0) (P.rows f)) in
           ap₂ (λ (l : List ℕ) (y : ℕ). answered l (length ms) y) e (P.links f)
-          ∙ sym (ap (λ (b : Bool). cond b (counted_at X vs ms) (refused_with 18)) (sym P.ok ∙ f))
+          ∙ sym (ap (λ (b : Bool). cond b (Ok (counted_at X vs ms)) (Err LentValue)) (sym P.ok ∙ f))
         where
-          answered : List ℕ → ℕ → ℕ → Counted
-          answered l p y = record { answer = 0; counts = l; parts = p; links = y }
+          answered : List ℕ → ℕ → ℕ → Result Counted Refusal
+          answered l p y = Ok (record { counts = l; parts = p; links = y })
 
 -- ---- on given runs
 
@@ -82,20 +85,20 @@ module _ (n s k : ℕ) (ls ks lv inn node_table state_table vs : List ℕ)
   abbrev Y : View
   Y = part_view n s k ls ks lv inn node_table state_table
 
-  lost : is_countable Y vs ≡ false → refused_with 18 ≡ counted_on Y vs
-  lost f = sym (ap (λ (b : Bool). cond b (counted_at Y vs (list_in (roots_in Y vs))) (refused_with 18)) f)
+  lost : is_countable Y vs ≡ false → Err LentValue ≡ counted_on Y vs
+  lost f = sym (ap (λ (b : Bool). cond b (Ok (counted_at Y vs (list_in (roots_in Y vs)))) (Err LentValue)) f)
 
-  pub leaves-lost : all_below s lv ≡ false → refused_with 18 ≡ counted_on Y vs
+  pub leaves-lost : all_below s lv ≡ false → Err LentValue ≡ counted_on Y vs
   unfolding is_countable states_inside
   leaves-lost f =
       lost (and-no-left (states_inside Y) _ (and-no-left (all_below s lv) (all_below s inn) f))
 
-  pub inner-lost : all_below s inn ≡ false → refused_with 18 ≡ counted_on Y vs
+  pub inner-lost : all_below s inn ≡ false → Err LentValue ≡ counted_on Y vs
   unfolding is_countable states_inside
   inner-lost f =
       lost (and-no-left (states_inside Y) _ (and-no-right (all_below s lv) (all_below s inn) f))
 
-  pub roots-lost : roots_given n node_table vs ≡ none → refused_with 18 ≡ counted_on Y vs
+  pub roots-lost : roots_given n node_table vs ≡ none → Err LentValue ≡ counted_on Y vs
   unfolding is_countable
   roots-lost e = lost (and-no-right (states_inside Y) _ (ap (all_ok Y vs) e))
 
@@ -135,6 +138,6 @@ module _ (n s k : ℕ) (ls ks lv inn node_table state_table vs : List ℕ)
           subst (λ (l : List ℕ). RootArgs n s k ls ks lv inn node_table state_table vs l) (sym listed-is)
           (root-args (list_in (roots_given n node_table vs)) (R.few (list_in (roots_given n node_table vs)) taken))
 
-      pub taken-done : (a : Counted) → a ≡ counted_for Y vs (take q.count q.nodes) → a ≡ counted_on Y vs
+      pub taken-done : (a : Result Counted Refusal) → a ≡ counted_for Y vs (take q.count q.nodes) → a ≡ counted_on Y vs
       taken-done a e =
           e ∙ ap (λ (l : List ℕ). counted_for Y vs l) listed-is ∙ on-done (list_in (roots_given n node_table vs)) taken

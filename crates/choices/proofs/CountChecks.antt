@@ -1,14 +1,15 @@
 -- The checks of a count, one by one.
 --     no-17, no-12, no-13, no-15, no-26, all_pass   the number where a check fails and those before it pass
---     count-refused, run-args, count-run            the answer by that number
+--     number-listed, number-last                    the whole count's number
+--     run-args, count-run, count_runs               what is told where none of them fails
 use Prim.Native.Nat.{ℕ, ◌≤◌, ◌<◌, ◌^◌}
-use mathlib.Core.Path.{◌≡◌, refl, sym, ap, ◌∙◌}
+use mathlib.Core.Path.{◌≡◌, refl, ap, ◌∙◌}
 use mathlib.Core.Bool.{Bool, true, false, cond}
 use mathlib.Core.List.{List, [], ◌∷◌}
 use native.Mathlib.Omega.{arith}
-use lib.Dec.{leb, eqb}
+use lib.Dec.{leb}
 use lib.ListN.{length}
-use borrow.Author.Tests.{le-leb, lt-leb, ne_eqb}
+use borrow.Author.Tests.{le-leb, lt-leb}
 use Rattle.list_laws.specs.Tests.{all_below, distinct}
 use Rattle.formats.specs.Limits.{change_limit}
 use Rattle.formats.specs.Plan.{node_count}
@@ -21,10 +22,14 @@ use Rattle.list_laws.proofs.BoolLaws.{and_right}
 use Rattle.tables.specs.Climbs.{View}
 use Rattle.questions.specs.PartAnswers.{view_in}
 use Rattle.choices.specs.node_counts.Capped.{count_limit}
-use Rattle.choices.specs.question_counts.CountOn.{count_view, roots_in, list_in, is_countable, listed_checks, count_checks, count_number}
+use Rattle.choices.specs.question_counts.CountOn.{count_view, is_countable, listed_checks, count_checks, count_number}
 use Rattle.choices.proofs.question_counts.BuiltCounts.{fit-17, listed-are}
 use Rattle.choices.specs.declared.count.Counted.{Counted}
-use Rattle.choices.specs.Promise.{refused_with, counted_at, count_result}
+use Rattle.formats.specs.Refusals.{told, told_as}
+use Rattle.formats.specs.declared.refusals.Refusal.{Refusal}
+use Rattle.formats.specs.declared.refusals.Refusal.TheVariants.{LentValue}
+use Rattle.std.specs.Prelude.{Result, Ok, Err}
+use Rattle.choices.specs.Promise.{count_value, count_result}
 use Rattle.choices.specs.inner.Count.{counted_on, RunArgs}
 
 module _ (p r : List ℕ) (n s : ℕ) (vs : List ℕ) where
@@ -83,21 +88,13 @@ module _ (p r node_table state_table vs : List ℕ) where
       one : first_no last ≡ cond (is_countable X vs) 0 18
       one = unfold first_no in refl
 
-  pub count-refused : (i : ℕ) → i ≡ first_no listed → (i ≡ 0 → ⊥)
-      → refused_with i ≡ count_result p r node_table state_table vs
+  pub count-run : first_no listed ≡ 0 → told (counted_on X vs) ≡ count_result p r node_table state_table vs
   unfolding count_result
-  count-refused i e h =
-      let f : count_number p r node_table state_table vs ≡ i = number-listed (λ z. h (e ∙ z)) ∙ sym e in
-      rw (f, ne_eqb i 0 h)
-
-  pub count-run : first_no listed ≡ 0 → counted_on X vs ≡ count_result p r node_table state_table vs
-  unfolding count_result
-  count-run h = rw (number-last h) (go (is_countable X vs) (counted_at X vs (list_in (roots_in X vs))))
+  count-run h = rw (number-last h) (go (is_countable X vs) (count_value p r node_table state_table vs))
     where
-      go : (b : Bool) (a : Counted)
-          → cond b a (refused_with 18) ≡ cond (eqb (cond b 0 18) 0) a (refused_with (cond b 0 18))
-      go true a = refl
-      go false a = refl
+      go : (b : Bool) (x : Counted) → told (cond b (Ok x) (Err LentValue)) ≡ told_as (cond b 0 18) x
+      go true x = refl
+      go false x = refl
 
   module _ (h : first_no listed ≡ 0) (n s k : ℕ) (is-n : n ≡ node_count p) (is-s : s ≡ state_count r)
       (is-k : k ≡ label_count r) where
@@ -120,11 +117,11 @@ module _ (p r node_table state_table vs : List ℕ) where
             → fits (node_count p) (state_count r) (label_count r) ≡ true
         both_halves w = and_right (headers_fit 20 p r) _ (unfold headed_buffers_fit in w)
 
-    pub count_runs : (a : Counted) → a ≡ counted_on (view_in n s k p r node_table state_table) vs
-        → a ≡ count_result p r node_table state_table vs
+    pub count_runs : (a : Result Counted Refusal) → a ≡ counted_on (view_in n s k p r node_table state_table) vs
+        → told a ≡ count_result p r node_table state_table vs
     count_runs a e =
-        e
+        ap told (e
         ∙ ap (λ (x : ℕ). counted_on (view_in x s k p r node_table state_table) vs) is-n
         ∙ ap (λ (x : ℕ). counted_on (view_in (node_count p) x k p r node_table state_table) vs) is-s
-        ∙ ap (λ (x : ℕ). counted_on (view_in (node_count p) (state_count r) x p r node_table state_table) vs) is-k
+        ∙ ap (λ (x : ℕ). counted_on (view_in (node_count p) (state_count r) x p r node_table state_table) vs) is-k)
         ∙ count-run h

@@ -13,6 +13,8 @@ use Rattle.formats.proofs.BufferLaws.{Limits, limits-are, Lengths, lengths-are}
 use Rattle.questions.specs.inner.PartArgs.{part_view}
 use Rattle.questions.specs.PartAnswers.{view_in}
 use Rattle.choices.specs.declared.count.Counted.{Counted}
+use Rattle.formats.specs.declared.refusals.Refusal.{Refusal}
+use Rattle.std.specs.Prelude.{Result}
 use Rattle.choices.specs.inner.Count.{counted_on, OnArgs, RunArgs}
 
 module _ (n s k : ℕ) (p r node_table state_table vs : List ℕ) where
@@ -61,7 +63,7 @@ module _ (n s k : ℕ) (p r node_table state_table vs : List ℕ) where
           listed = A.listed;
         }
 
-    pub on-answer : (a : Counted)
+    pub on-answer : (a : Result Counted Refusal)
         → a ≡ counted_on (part_view n s k (take (12 + n - 12) (drop 12 p)) (take (length p - (12 + n)) (drop (12 + n) p))
         (take (20 + k - 20) (drop 20 r)) (take (20 + k + s * k * s - (20 + k)) (drop (20 + k) r))
         (take (n * 4) node_table) (take (n * (s + 1)) state_table)) vs
@@ -72,7 +74,7 @@ module _ (n s k : ℕ) (p r node_table state_table vs : List ℕ) where
         let a₂ : n ≡ length p - (12 + n) = omega (arith, F.lengths.plan_is) in
         let a₃ : k ≡ 20 + k - 20 = omega arith in
         let a₄ : s * k * s ≡ 20 + k + s * k * s - (20 + k) = omega arith in
-        let on : ℕ → ℕ → ℕ → ℕ → Counted =
+        let on : ℕ → ℕ → ℕ → ℕ → Result Counted Refusal =
         λ i j x y. counted_on (part_view n s k (take i (drop 12 p)) (take j (drop (12 + n) p))
         (take x (drop 20 r)) (take y (drop (20 + k) r)) (take (n * 4) node_table) (take (n * (s + 1)) state_table)) vs in
         e

@@ -1,8 +1,9 @@
 // The whole count: the checks, the roots of the parts, and the counts of the last part.
 ghost use Rattle.std.specs.Prelude.{◌≡◌, length};
+ghost use Rattle.formats.specs.Refusals.{told};
 ghost use Rattle.questions.specs.inner.PartArgs.{part_view};
 ghost use Rattle.questions.specs.PartAnswers.{view_in};
-ghost use Rattle.choices.specs.Promise.{refused_with, CountDone};
+ghost use Rattle.choices.specs.Promise.{CountDone};
 ghost use Rattle.choices.specs.inner.Count.{counted_for, counted_on, RootArgs, OnArgs, RunArgs};
 
 use crate::checks::check_count;
@@ -11,28 +12,16 @@ use crate::parts::all_parts;
 use formats::bytes::read32;
 use formats::layout::{LABEL_COUNT_AT, NODE_COLUMNS, PLAN_HEAD, RULES_HEAD};
 use formats::limits::{PART_LIMIT, STATE_LIMIT};
+use formats::refusals::Refusal;
 use formats::rules::all_below;
 use questions::roots::roots;
 
-// The answer's number, the counts by state, how many parts there were and the links of their climbs.
+// The counts by state, how many parts there were and the links of their climbs.
 #[derive(Clone, Copy)]
 pub struct Counted {
-    pub answer: u8,
     pub counts: [u64; STATE_LIMIT],
     pub parts: u32,
     pub links: u32,
-}
-
-// The answer of a refusal.
-fn refused(answer: u8) -> Counted
-    ensures { result ≡ refused_with answer }
-{
-    Counted {
-        answer,
-        counts: [0u64; STATE_LIMIT],
-        parts: 0,
-        links: 0,
-    }
 }
 
 // Room for the counts of the largest number of parts, 16 for each.
@@ -55,7 +44,7 @@ fn count_parts(
     k: usize,
     nodes: &[u16],
     roots: &[u16],
-) -> Counted
+) -> Result<Counted, Refusal>
     requires { RootArgs n s k labels.now kinds.now leaves.now inner.now node_table.now state_table.now
         nodes.now roots.now }
     ensures { result ≡ counted_for (part_view n s k labels.now kinds.now leaves.now
@@ -78,20 +67,19 @@ fn count_parts(
         &mut table,
     );
     if !x.ok {
-        return refused(18);
+        return Err(Refusal::LentValue);
     }
     let p = roots.len();
     let mut counts = [0u64; STATE_LIMIT];
     copy_row(&table[..p * STATE_LIMIT], p - 1, &mut counts);
-    Counted {
-        answer: 0,
+    Ok(Counted {
         counts,
         parts: p as u32,
         links: x.links,
-    }
+    })
 }
 
-// The count on these runs: refused with 18 where a value leads outside.
+// The count on these runs: refused where a value leads outside.
 fn count_on(
     labels: &[u8],
     kinds: &[u8],
@@ -103,21 +91,21 @@ fn count_on(
     s: usize,
     k: usize,
     nodes: &[u16],
-) -> Counted
+) -> Result<Counted, Refusal>
     requires { OnArgs n s k labels.now kinds.now leaves.now inner.now node_table.now state_table.now
         nodes.now }
     ensures { result ≡ counted_on (part_view n s k labels.now kinds.now leaves.now
         inner.now node_table.now state_table.now) nodes.now }
 {
     if !all_below(leaves, s as u8) {
-        return refused(18);
+        return Err(Refusal::LentValue);
     }
     if !all_below(inner, s as u8) {
-        return refused(18);
+        return Err(Refusal::LentValue);
     }
     let found = roots(n, node_table, nodes);
     if !found.ok {
-        return refused(18);
+        return Err(Refusal::LentValue);
     }
     let p = found.count;
     let list = found.nodes;
@@ -147,7 +135,7 @@ fn count_runs(
     node_table: &[u16],
     state_table: &[u8],
     nodes: &[u16],
-) -> Counted
+) -> Result<Counted, Refusal>
     requires { RunArgs n s k plan.now rules.now node_table.now state_table.now nodes.now }
     ensures { result ≡ counted_on (view_in n s k plan.now rules.now node_table.now
         state_table.now) nodes.now }
@@ -174,14 +162,11 @@ pub fn count(
     node_table: &[u16],
     state_table: &[u8],
     nodes: &[u16],
-) -> Counted
+) -> Result<Counted, Refusal>
     ensures { CountDone plan.now rules.now node_table.now
-        state_table.now nodes.now result }
+        state_table.now nodes.now (told result) }
 {
-    let no = check_count(plan, rules, node_table, state_table, nodes);
-    if no != 0 {
-        return refused(no);
-    }
+    check_count(plan, rules, node_table, state_table, nodes)?;
     let n = read32(plan, 0);
     let s = read32(rules, 0);
     let k = read32(rules, LABEL_COUNT_AT);

@@ -9,13 +9,13 @@
 --     ask-short             17 where a buffer does not fit the headers
 --     ask-sample            the sample clearance
 -- The numbers 17, 12, 13, 14, 18 and that a refused call alters nothing: Calls.
-use Prim.Native.Nat.{ℕ, zero, suc}
+use Prim.Native.Nat.{ℕ}
 use mathlib.Core.Path.{◌≡◌, refl, sym, ap, ap₂, ◌∙◌, subst}
 use mathlib.Core.Bool.{true, false}
 use mathlib.Core.List.{List, [], ◌∷◌}
-use mathlib.Core.Option.{Option, none, some}
-use native.Mathlib.Omega.{arith}
+use mathlib.Core.Option.{Option}
 use lib.ListN.{length}
+use Rattle.std.specs.Prelude.{Ok}
 use Rattle.formats.specs.Plan.{node_count}
 use Rattle.formats.specs.Rules.{label_count, rule_automaton}
 use Rattle.formats.specs.Checks.{first_no, list_checks}
@@ -35,31 +35,20 @@ use Rattle.reference.specs.Reference.{asked, fresh_answer}
 use Rattle.reference.specs.Undisturbed.{Undisturbed, OnlyOutcomeAfter}
 use Rattle.reference.specs.Outcomes.{QuestionAnswered}
 use Rattle.reference.specs.Sample.{computing, plan_a, table_a, inputs_a}
-use Rattle.whole_questions.specs.declared.answers.Asking.TheVariants.{Answered, Refused}
-use Rattle.whole_questions.specs.Question.{view_lent, left_lent, handled_from, Whole, whole_on, whole_lent}
+use Rattle.whole_questions.specs.declared.answers.Asked.{Asked}
+use Rattle.whole_questions.specs.Question.{view_lent, left_lent, handled_from, whole_on}
 use Rattle.whole_questions.specs.Question.{listed_checks, ask_checks, ask_number}
-use Rattle.whole_questions.specs.Question.{answer_for, ask_answer, asking_number}
+use Rattle.whole_questions.specs.Question.{answer_for, ask_answer}
 use Rattle.whole_questions.specs.Promise.{AskUsable, roots_left, TotalKept, AskKept}
 use Rattle.whole_questions.proofs.AskBuilt.{built-usable}
-use Rattle.capi.specs.numbers.Numbers.{bit_of}
+use Rattle.capi.specs.numbers.Numbers.{bit_of, on_answer}
 use Rattle.capi.proofs.table_calls.Theorems.{build-as-built}
-use Rattle.capi_ask.specs.WholeExported.{WholeExported, end_of, accepted_of, parts_of, links_of, passed_of}
+use Rattle.capi_ask.specs.WholeExported.{WholeExported}
 use Rattle.capi_ask.specs.AskAnswers.{AskAnswered, AskRuled}
 use Rattle.capi_ask.proofs.Theorems.{whole_of, whole-answers, whole-ruled, whole-never-18}
 use Rattle.claims.specs.CallAnswers.{BuildCall}
-use Rattle.claims.specs.AskSample.{ask_a}
-
--- where the number is 0 there is an answer: the named result is never a refusal with number 0
-answer-there : (p r node_table state_table vs bs : List ℕ) (k : ℕ) (o : Option Whole)
-    → asking_number (answer_for r k o) ≡ 0 → AskKept p r node_table state_table vs bs (answer_for r k o)
-    → (s₀ y₀ m₀ k₀ d₀ : ℕ)
-    → (accepted_of (answer_for r k o) y₀ ≡ bit_of ((rule_automaton r).accepting (end_of (answer_for r k o) s₀)))
-    × TotalKept (view_lent p r node_table state_table) (length (left_lent p vs bs)) (parts_of (answer_for r k o) m₀)
-    (reached (end_of (answer_for r k o) s₀) (links_of (answer_for r k o) k₀) (passed_of (answer_for r k o) d₀))
-unfolding asking_number answer_for
-answer-there p r a b vs bs zero none e K s₀ y₀ m₀ k₀ d₀ = absurd (omega arith)
-answer-there p r a b vs bs zero (some w) e K s₀ y₀ m₀ k₀ d₀ = (refl, K.1)
-answer-there p r a b vs bs (suc k) o e K s₀ y₀ m₀ k₀ d₀ = absurd (omega arith)
+use Rattle.claims.specs.AskSample.{ask_a, answered_a, refused_a}
+use Rattle.claims.proofs.laws.ToldLaws.{number-told, value-there}
 
 module _ (p r node_table state_table vs bs : List ℕ) (n s₀ y₀ m₀ k₀ d₀ s₁ y₁ m₁ k₁ d₁ : ℕ)
     (E : WholeExported p r node_table state_table vs bs n s₀ y₀ m₀ k₀ d₀ s₁ y₁ m₁ k₁ d₁) where
@@ -111,29 +100,34 @@ module _ (p r node_table state_table vs bs : List ℕ) (n s₀ y₀ m₀ k₀ d�
   -- ---- on any tables
 
   -- "For anything left to the program, its name and its properties stand in the contract": the name is `ask_answer`
-  ask-named : (n ≡ asking_number (ask_answer p r node_table state_table vs bs))
-      × (s₁ ≡ end_of (ask_answer p r node_table state_table vs bs) s₀)
-      × (y₁ ≡ accepted_of (ask_answer p r node_table state_table vs bs) y₀)
-      × (m₁ ≡ parts_of (ask_answer p r node_table state_table vs bs) m₀)
-      × (k₁ ≡ links_of (ask_answer p r node_table state_table vs bs) k₀)
-      × (d₁ ≡ passed_of (ask_answer p r node_table state_table vs bs) d₀)
+  ask-named : (n ≡ (ask_answer p r node_table state_table vs bs).0)
+      × (s₁ ≡ on_answer (ask_answer p r node_table state_table vs bs).1 (λ a. a.state) s₀)
+      × (y₁ ≡ on_answer (ask_answer p r node_table state_table vs bs).1 (λ a. bit_of a.marked) y₀)
+      × (m₁ ≡ on_answer (ask_answer p r node_table state_table vs bs).1 (λ a. a.parts) m₀)
+      × (k₁ ≡ on_answer (ask_answer p r node_table state_table vs bs).1 (λ a. a.links) k₀)
+      × (d₁ ≡ on_answer (ask_answer p r node_table state_table vs bs).1 (λ a. a.passed) d₀)
   ask-named =
-      whole_of p r node_table state_table vs bs n s₀ y₀ m₀ k₀ d₀ s₁ y₁ m₁ k₁ d₁ E
-      (ask_answer p r node_table state_table vs bs) E.done.result
+      let i = E.done.result in (
+        E.number.result ∙ number-told E.answer ∙ ap (λ (t : ℕ × Option Asked). t.0) i,
+        E.number.state_answer ∙ ap (λ (t : ℕ × Option Asked). on_answer t.1 (λ a. a.state) s₀) i,
+        E.number.yes_answer ∙ ap (λ (t : ℕ × Option Asked). on_answer t.1 (λ a. bit_of a.marked) y₀) i,
+        E.number.parts_answer ∙ ap (λ (t : ℕ × Option Asked). on_answer t.1 (λ a. a.parts) m₀) i,
+        E.number.links_answer ∙ ap (λ (t : ℕ × Option Asked). on_answer t.1 (λ a. a.links) k₀) i,
+        E.number.passed_answer ∙ ap (λ (t : ℕ × Option Asked). on_answer t.1 (λ a. a.passed) d₀) i,
+      )
 
   -- an accepted answer's state is a state and yes its mark; its parts are at most 4m - 2, and each adds the links of one
   -- climb, which passes over no fewer nodes and no more than the greatest depth in the table
   ask-promised : n ≡ 0 → (y₁ ≡ bit_of ((rule_automaton r).accepting s₁))
       × TotalKept (view_lent p r node_table state_table) (length (left_lent p vs bs)) m₁ (reached s₁ k₁ d₁)
-  unfolding ask_answer
   ask-promised e =
-      let w = ask-named in
-      let i = E.done.result in
-      let k = ask_number p r node_table state_table vs bs in
-      let o = whole_lent p r node_table state_table vs bs in
-      let t = answer-there p r node_table state_table vs bs k o (sym w.0 ∙ e)
-      (subst (AskKept p r node_table state_table vs bs) i E.done.properties) s₀ y₀ m₀ k₀ d₀ in
-      rw (w.1, w.2, w.3, w.4, w.5) t
+      let w = value-there E.answer (sym E.number.result ∙ e) in
+      let K : AskKept p r node_table state_table vs bs (Ok w.0) =
+      subst (AskKept p r node_table state_table vs bs) w.1 E.done.properties in
+      let v = whole_of p r node_table state_table vs bs n s₀ y₀ m₀ k₀ d₀ s₁ y₁ m₁ k₁ d₁ E (Ok w.0) w.1 in (
+        v.2 ∙ ap bit_of K.0 ∙ ap (λ (q : ℕ). bit_of ((rule_automaton r).accepting q)) (sym v.1),
+        rw (v.1, v.3, v.4, v.5) K.1,
+      )
 
   -- "18 means that a value read leads outside the plan, the states or the labels, or a climb doesn't rise."
   ask-cause-of-18 : n ≡ 18 → PartOutOfRange (view_lent p r node_table state_table) [] vs bs
@@ -160,8 +154,8 @@ ask-sample :
     ask_a [] [] ∷ ask_a (0 ∷ []) (0 ∷ []) ∷ ask_a (0 ∷ 2 ∷ []) (0 ∷ 0 ∷ []) ∷ ask_a (0 ∷ 3 ∷ []) (0 ∷ 1 ∷ [])
     ∷ ask_a (4 ∷ []) (0 ∷ []) ∷ ask_a (6 ∷ []) (0 ∷ []) ∷ ask_a (7 ∷ []) (0 ∷ []) ∷ ask_a (0 ∷ []) (2 ∷ [])
     ∷ ask_a (0 ∷ 0 ∷ []) (0 ∷ 1 ∷ []) ∷ []
-    ≡ Answered 1 true 1 0 0 ∷ Answered 0 false 2 1 1 ∷ Answered 1 true 3 0 0 ∷ Answered 0 false 5 0 0
-    ∷ Answered 0 false 2 1 1 ∷ Answered 1 true 1 0 0 ∷ Refused 13 ∷ Refused 14 ∷ Answered 1 true 1 0 0 ∷ []
+    ≡ answered_a 1 true 1 0 0 ∷ answered_a 0 false 2 1 1 ∷ answered_a 1 true 3 0 0 ∷ answered_a 0 false 5 0 0
+    ∷ answered_a 0 false 2 1 1 ∷ answered_a 1 true 1 0 0 ∷ refused_a 13 ∷ refused_a 14 ∷ answered_a 1 true 1 0 0 ∷ []
 unfolding computing plan_a table_a inputs_a limits_fit buffers_fit headers_fit headed_buffers_fit last_differing
     next_unless search_in search meet_on insert_rising rising_of wanted with_fork with_meet forks_on roots_on roots_fit roots_given
     handled_from whole_on listed_checks ask_checks ask_number answer_for ask_answer

@@ -10,14 +10,15 @@
 --     few-links, few-passed          the ceilings on tables as built
 --     answers-named, answers-lent, lent-16, cause-of-18, usable-never-18   what holds on any tables
 -- The numbers, and that a refused call alters nothing: Calls. Questions by colours: Colours.
-use Prim.Native.Nat.{ℕ, zero, suc, ◌+◌, ◌*◌, ◌≤◌, ◌<◌}
+use Prim.Native.Nat.{ℕ, ◌+◌, ◌*◌, ◌≤◌, ◌<◌}
 use mathlib.Core.Path.{◌≡◌, refl, sym, ap, ◌∙◌, subst}
-use mathlib.Core.Bool.{true, false}
+use mathlib.Core.Bool.{Bool, true, false}
 use mathlib.Core.List.{List, ◌∷◌, ◌++◌}
 use mathlib.Core.Logic.{◌↔◌}
-use mathlib.Core.Option.{Option, none, some}
+use mathlib.Core.Option.{some}
 use native.Mathlib.Omega.{arith}
 use lib.ListN.{length, get_or, take, drop}
+use Rattle.std.specs.Prelude.{Result, Ok}
 use Rattle.trees.specs.Tree.{Tree, size, height, label_at}
 use Rattle.trees.specs.Automaton.{word_run}
 use Rattle.trees.specs.Numbering.{ancestor, word, lower_word, AtOrBelow}
@@ -34,18 +35,17 @@ use Rattle.formats.specs.Rules.{state_count, branch_automaton}
 use Rattle.formats.specs.Checks.{first_no, plan_checks, branch_checks, branch_table_checks, branch_build_checks}
 use Rattle.formats.specs.Built.{built_node_table, built_branch_table, BranchBuilt}
 use Rattle.formats.specs.Buffers.{headed_buffers_fit, branch_tables}
+use Rattle.formats.specs.Refusals.{answer_number}
+use Rattle.formats.specs.declared.refusals.Refusal.{Refusal}
 use Rattle.formats.proofs.InputLaws.{branch-table-passes}
-use Rattle.tables.specs.declared.answers.Checking.{Checking}
 use Rattle.tables.specs.node_tables.Cells.{is_in_subtree_on}
 use Rattle.tables.specs.node_tables.NodeCells.{NodeCells}
 use Rattle.tables.specs.StateCells.{state_cell, map_cell}
 use Rattle.branches.specs.declared.answers.Reading.{Reading}
 use Rattle.branches.specs.declared.answers.Reading.TheVariants.{WithUpper, BelowUpper}
 use Rattle.branches.specs.declared.answers.Branched.{Branched}
-use Rattle.branches.specs.declared.answers.Branching.{Branching}
-use Rattle.branches.specs.declared.answers.Branching.TheVariants.{Answered}
 use Rattle.branches.specs.OutOfRange.{BranchOutOfRange}
-use Rattle.branches.specs.Question.{branch_number, branch_answer, branch_on, ask_number, ask_answer}
+use Rattle.branches.specs.Question.{ask_answer}
 use Rattle.branches.specs.Promise.{BranchKept, AnswerKept, BranchUsable, links_told, passed_told}
 use Rattle.branches.proofs.AskBuilt.{size_is, fits-built, built-links}
 use Rattle.branches.proofs.AskChecks.{ask-13-upper, ask-13-lower}
@@ -62,6 +62,7 @@ use Rattle.capi.proofs.branch_calls.Ties.{WordTold, branch-told, branch-apart}
 use Rattle.capi_branch_upper.proofs.Ties.{branch-upper-told}
 use Rattle.claims.specs.CallAnswers.{BranchBuildCall, BranchCheckCall}
 use Rattle.claims.specs.BranchAnswers.{BranchAnswered, BranchAnsweredOn, branch_table_a}
+use Rattle.claims.proofs.laws.ToldLaws.{value-there}
 
 -- ---- the build
 
@@ -114,45 +115,32 @@ module _ (p r node_table state_table : List ℕ) (n yes₀ yes₁ : ℕ)
   check-no : n ≡ 0 → (BranchBuilt p r node_table state_table → ⊥) → yes₁ ≡ 0
   check-no z h =
       E.number.yes_answer
-      ∙ ap (λ (a : Checking). yes_of a yes₀)
+      ∙ ap (λ (a : Result Bool Refusal). yes_of a yes₀)
       (branch-theorems.no-check p r node_table state_table E.answer E.done
       (sym (branch-check-number p r node_table state_table n yes₀ yes₁ E) ∙ z) h)
 
 -- ---- the question: BelowUpper is whatif_branch, WithUpper whatif_branch_with_upper
 
--- where the number is 0 there is an answer: the named result is never a refusal with number 0
-answer-there : (k : ℕ) (o : Option Branched) → branch_number (branch_answer k o) ≡ 0
-    → (b : Branched) × (branch_answer k o ≡ Answered b)
-unfolding branch_number branch_answer
-answer-there zero none e = absurd (omega arith)
-answer-there zero (some b) e = (b, refl)
-answer-there (suc k) o e = absurd (omega arith)
-
 module _ (reading : Reading) (p r node_table state_table : List ℕ) (u l n s₀ y₀ k₀ d₀ s₁ y₁ k₁ d₁ : ℕ)
     (E : AskExported reading p r node_table state_table u l n s₀ y₀ k₀ d₀ s₁ y₁ k₁ d₁) where
-  answered : n ≡ 0 → (b : Branched) × (E.answer ≡ Answered b)
-  unfolding ask_answer
-  answered z =
-      let e = E.done.result in
-      let w = answer-there (ask_number reading p r node_table state_table u l)
-      (branch_on reading p r node_table state_table u l) (sym (ap branch_number e) ∙ sym E.number.result ∙ z) in
-      (w.0, e ∙ w.1)
+  answered : n ≡ 0 → (b : Branched) × (E.answer ≡ Ok b)
+  answered z = value-there E.answer (sym E.number.result ∙ z)
 
   -- ---- on any tables
 
   -- "For anything left to the program, its name and its properties stand in the contract": the name is `ask_answer`
-  answers-named : (n ≡ branch_number (ask_answer reading p r node_table state_table u l))
+  answers-named : (n ≡ answer_number (ask_answer reading p r node_table state_table u l))
       × (s₁ ≡ end_of (ask_answer reading p r node_table state_table u l) s₀)
       × (y₁ ≡ accepted_of (ask_answer reading p r node_table state_table u l) y₀)
       × (k₁ ≡ links_of (ask_answer reading p r node_table state_table u l) k₀)
       × (d₁ ≡ passed_of (ask_answer reading p r node_table state_table u l) d₀)
   answers-named =
       let i = E.done.result in (
-        E.number.result ∙ ap branch_number i,
-        E.number.state_answer ∙ ap (λ (x : Branching). end_of x s₀) i,
-        E.number.yes_answer ∙ ap (λ (x : Branching). accepted_of x y₀) i,
-        E.number.links_answer ∙ ap (λ (x : Branching). links_of x k₀) i,
-        E.number.passed_answer ∙ ap (λ (x : Branching). passed_of x d₀) i,
+        E.number.result ∙ ap answer_number i,
+        E.number.state_answer ∙ ap (λ (x : Result Branched Refusal). end_of x s₀) i,
+        E.number.yes_answer ∙ ap (λ (x : Result Branched Refusal). accepted_of x y₀) i,
+        E.number.links_answer ∙ ap (λ (x : Result Branched Refusal). links_of x k₀) i,
+        E.number.passed_answer ∙ ap (λ (x : Result Branched Refusal). passed_of x d₀) i,
       )
 
   -- an accepted answer's state is a state, yes is its mark, its links are those "of the climb from the lower node to
@@ -163,12 +151,12 @@ module _ (reading : Reading) (p r node_table state_table : List ℕ) (u l n s₀
       let w = answered z in
       let b : Branched = w.0 in
       let K : BranchKept p r node_table u l b = subst (AnswerKept p r node_table u l) w.1 E.done.properties in
-      let s : s₁ ≡ b.state = E.number.state_answer ∙ ap (λ (x : Branching). end_of x s₀) w.1 in
-      let k : k₁ ≡ b.links = E.number.links_answer ∙ ap (λ (x : Branching). links_of x k₀) w.1 in
-      let d : d₁ ≡ b.passed = E.number.passed_answer ∙ ap (λ (x : Branching). passed_of x d₀) w.1 in
+      let s : s₁ ≡ b.state = E.number.state_answer ∙ ap (λ (x : Result Branched Refusal). end_of x s₀) w.1 in
+      let k : k₁ ≡ b.links = E.number.links_answer ∙ ap (λ (x : Result Branched Refusal). links_of x k₀) w.1 in
+      let d : d₁ ≡ b.passed = E.number.passed_answer ∙ ap (λ (x : Result Branched Refusal). passed_of x d₀) w.1 in
       record {
         state_below = rw s K.state_below;
-        yes_is = E.number.yes_answer ∙ ap (λ (x : Branching). accepted_of x y₀) w.1 ∙ ap bit_of K.mark
+        yes_is = E.number.yes_answer ∙ ap (λ (x : Result Branched Refusal). accepted_of x y₀) w.1 ∙ ap bit_of K.mark
             ∙ ap (λ (q : ℕ). bit_of ((branch_automaton r).accepting q)) (sym s);
         moves = K.moves;
         climbed = K.climbed;
@@ -205,7 +193,7 @@ module _ (reading : Reading) (p r node_table state_table : List ℕ) (u l n s₀
     few-links z =
         let w = answered z in
         let k : k₁ ≡ links_told E.answer =
-        E.number.links_answer ∙ ap (λ (x : Branching). links_of x k₀) w.1 ∙ sym (ap links_told w.1) in
+        E.number.links_answer ∙ ap (λ (x : Result Branched Refusal). links_of x k₀) w.1 ∙ sym (ap links_told w.1) in
         let f : k₁ ≤ 3 * digits (height (plan_tree p)) = rw k (E.done.few B) in
         let h : size (plan_tree p) ≤ 65535 =
         omega (arith, size_is p r node_table state_table B, (branch-table-passes p r B.accepted).0.most) in
@@ -216,18 +204,17 @@ module _ (reading : Reading) (p r node_table state_table : List ℕ) (u l n s₀
     few-passed z =
         let w = answered z in
         let d : d₁ ≡ passed_told E.answer =
-        E.number.passed_answer ∙ ap (λ (x : Branching). passed_of x d₀) w.1 ∙ sym (ap passed_told w.1) in
+        E.number.passed_answer ∙ ap (λ (x : Result Branched Refusal). passed_of x d₀) w.1 ∙ sym (ap passed_told w.1) in
         rw d (E.done.passed_most B)
 
     -- "nodes below N? 13"
     pub not-in-plan : (node_count p ≤ u → n ≡ 13) × (node_count p ≤ l → n ≡ 13)
-    unfolding branch_number
     not-in-plan =
         let f = fits-built p r node_table state_table B in (
           λ h. E.number.result
-              ∙ ap branch_number (E.done.result ∙ sym (ask-13-upper reading p r node_table state_table u l f h)),
+              ∙ ap answer_number (E.done.result ∙ sym (ask-13-upper reading p r node_table state_table u l f h)),
           λ h. E.number.result
-              ∙ ap branch_number (E.done.result ∙ sym (ask-13-lower reading p r node_table state_table u l f h)),
+              ∙ ap answer_number (E.done.result ∙ sym (ask-13-lower reading p r node_table state_table u l f h)),
         )
 
     module _ (hu : u < node_count p) (hl : l < node_count p) where
@@ -289,14 +276,13 @@ module _ (p r node_table state_table : List ℕ) (u n s₀ y₀ k₀ d₀ s₁ y
   -- "the same node twice is the empty word, and the mark of state 0 decides": no link, and no node passed over
   empty-word : AskExported BelowUpper p r node_table state_table u u n s₀ y₀ k₀ d₀ s₁ y₁ k₁ d₁
       → (n ≡ 0) × (s₁ ≡ 0) × (y₁ ≡ bit_of ((branch_automaton r).accepting 0)) × (k₁ ≡ 0) × (d₁ ≡ 0)
-  unfolding branch_number
   empty-word E =
       let i = E.done.result ∙ ask-theorem.empty-word p r node_table state_table B u h in (
-        E.number.result ∙ ap branch_number i,
-        E.number.state_answer ∙ ap (λ (x : Branching). end_of x s₀) i,
-        E.number.yes_answer ∙ ap (λ (x : Branching). accepted_of x y₀) i,
-        E.number.links_answer ∙ ap (λ (x : Branching). links_of x k₀) i,
-        E.number.passed_answer ∙ ap (λ (x : Branching). passed_of x d₀) i,
+        E.number.result ∙ ap answer_number i,
+        E.number.state_answer ∙ ap (λ (x : Result Branched Refusal). end_of x s₀) i,
+        E.number.yes_answer ∙ ap (λ (x : Result Branched Refusal). accepted_of x y₀) i,
+        E.number.links_answer ∙ ap (λ (x : Result Branched Refusal). links_of x k₀) i,
+        E.number.passed_answer ∙ ap (λ (x : Result Branched Refusal). passed_of x d₀) i,
       )
 
   -- "the same node twice is a word of one letter"

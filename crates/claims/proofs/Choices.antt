@@ -25,6 +25,7 @@ use Rattle.formats.specs.Rules.{state_count, label_count, rule_automaton}
 use Rattle.formats.specs.Checks.{check, first_no}
 use Rattle.formats.specs.Built.{AsBuilt}
 use Rattle.formats.proofs.CheckLaws.{first_no-append-zero, first_no-append-no, first_no-append-left}
+use Rattle.formats.proofs.RefusalLaws.{value-told}
 use Rattle.questions.specs.ready.Members.{roots}
 use Rattle.questions.specs.ready.Parts.{Given, question_links}
 use Rattle.questions.specs.Promises.{Reads}
@@ -33,7 +34,7 @@ use Rattle.choices.specs.assignments.Sums.{sum_to, one}
 use Rattle.choices.specs.assignments.Assignments.{counted}
 use Rattle.choices.specs.question_counts.CountOn.{count_view, is_countable, listed_checks, count_checks, count_number}
 use Rattle.choices.specs.declared.count.Counted.{Counted}
-use Rattle.choices.specs.Promise.{count_result, ruled_count, CountDone}
+use Rattle.choices.specs.Promise.{count_value, count_result, ruled_count, CountDone}
 use Rattle.choices.proofs.assignments.SumLaws.{sum-ext}
 use Rattle.choices.proofs.Theorems as choices
 use Rattle.capi.specs.choice_calls.CountExported.{exported_checks, CountExported}
@@ -108,15 +109,15 @@ module _ (p r node_table state_table vs counts : List ℕ) (parts links n : ℕ)
   abbrev D : CountDone p r node_table state_table vs (count_result p r node_table state_table vs)
   D = count-promised
 
-  -- accepted, counts, parts and links are the named result's
+  -- accepted, counts, parts and links are the named value's, which the named result tells
   count-named : n ≡ 0
-      → (counts' ≡ over_buffer (state_count r) (count_result p r node_table state_table vs).counts counts)
-      × (parts' ≡ (count_result p r node_table state_table vs).parts)
-      × (links' ≡ (count_result p r node_table state_table vs).links)
+      → (counts' ≡ over_buffer (state_count r) (count_value p r node_table state_table vs).counts counts)
+      × (parts' ≡ (count_value p r node_table state_table vs).parts)
+      × (links' ≡ (count_value p r node_table state_table vs).links)
   count-named z = (E.counts_are z, E.parts_are z, E.links_are z)
 
   -- the call's 18 is the count's own: 11 is checked after it
-  own-18 : n ≡ 18 → (count_result p r node_table state_table vs).answer ≡ 18
+  own-18 : n ≡ 18 → (count_result p r node_table state_table vs).0 ≡ 18
   unfolding exported_checks count_number
   own-18 e = elim (ℕ_discrete (first_no (count_checks p r node_table state_table vs)) 0) [
     | yes z ↦ absurd (not-18 (leb (state_count r) (length counts))
@@ -145,7 +146,7 @@ module _ (p r node_table state_table vs counts : List ℕ) (parts links n : ℕ)
   count-by-parts : n ≡ 0 → (G : Given) → Reads (count_view p r node_table state_table) G → G.labels ≡ labels_of G.tree
       → (counts' ≡ over_buffer (state_count r) (ruled_count G (label_count r) vs).counts counts)
       × (parts' ≡ length (roots G.tree vs)) × (links' ≡ question_links G.tree (roots G.tree vs))
-  unfolding exported_checks count_checks
+  unfolding exported_checks count_checks count_result
   count-by-parts z G R l =
       let pass : first_no (listed_checks p r (length node_table) (length state_table) vs) ≡ 0 =
       first_no-append-left (listed_checks p r (length node_table) (length state_table) vs)
@@ -154,7 +155,9 @@ module _ (p r node_table state_table vs counts : List ℕ) (parts links n : ℕ)
       (first_no-append-left (count_checks p r node_table state_table vs)
       (check 11 (leb (state_count r) (length counts)) ∷ []) (checks-numbered p r node_table state_table vs)
       (sym E.number ∙ z)) in
-      let i : count_result p r node_table state_table vs ≡ ruled_count G (label_count r) vs = D.rule G R l pass in (
+      let i : count_value p r node_table state_table vs ≡ ruled_count G (label_count r) vs =
+      (value-told (ruled_count G (label_count r) vs) (count_number p r node_table state_table vs)
+      (count_value p r node_table state_table vs) (sym (D.rule G R l pass))).1 in (
         E.counts_are z ∙ ap (λ (a : Counted). over_buffer (state_count r) a.counts counts) i,
         E.parts_are z ∙ ap (λ (a : Counted). a.parts) i,
         E.links_are z ∙ ap (λ (a : Counted). a.links) i,

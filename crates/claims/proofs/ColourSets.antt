@@ -15,13 +15,14 @@
 --     sets-from-builds, sets-answered   what the two builds leave is as built, and questions on it are answered
 -- Colours of any count of states, words and the next drop: Colours. The promises of the calls themselves, on every
 -- input, are their contracts (capi_colours/rule_calls).
-use Prim.Native.Nat.{ℕ, zero, suc, ◌+◌, ◌*◌, ◌≤◌, ◌<◌}
+use Prim.Native.Nat.{ℕ, ◌+◌, ◌*◌, ◌≤◌, ◌<◌}
 use mathlib.Core.Path.{◌≡◌, refl, sym, ap, ◌∙◌, subst}
 use mathlib.Core.Bool.{Bool, true, false}
 use mathlib.Core.List.{List, ◌++◌}
-use mathlib.Core.Option.{Option, none, some}
+use mathlib.Core.Option.{Option}
 use native.Mathlib.Omega.{arith}
 use lib.ListN.{length, drop}
+use Rattle.std.specs.Prelude.{Result, Ok}
 use borrow.Author.Tests.{lt-leb, leb-true}
 use Rattle.list_laws.specs.Tests.{all_below, holds}
 use Rattle.trees.specs.Tree.{Tree, size}
@@ -32,8 +33,11 @@ use Rattle.trees.specs.Tables.{step_up}
 use Rattle.formats.specs.Plan.{node_count, plan_tree, labels_within}
 use Rattle.formats.specs.Rules.{state_count, label_count, rule_automaton}
 use Rattle.formats.specs.Checks.{first_no, plan_checks, rule_checks, list_checks}
+use Rattle.formats.specs.Refusals.{answer_number}
+use Rattle.formats.specs.declared.refusals.Refusal.{Refusal}
 use Rattle.formats.proofs.CheckLaws.{first_no-yes, first_no-no}
 use Rattle.formats.proofs.InputLaws.{rule-table-passes}
+use Rattle.formats.proofs.PlanLaws.{labels-part}
 use Rattle.changes.specs.Differing.{differing}
 use Rattle.runs.specs.FreshRun.{changed_tree}
 use Rattle.questions.specs.ready.Parts.{Given, Part, state_of, highest_below}
@@ -54,12 +58,12 @@ use Rattle.colour_questions.specs.parts.Sides.{SideFound}
 use Rattle.colour_questions.proofs.parts.SideLaws.{side-found}
 use Rattle.colour_tables.specs.rule.Build.{set_colours_fit, rule_colour_checks, built_set_numbers, built_set_bytes}
 use Rattle.colour_tables.proofs.rule.CheckAnswers.{states-refused, room-refused}
-use Rattle.colour_questions.specs.declared.rule.answers.RuleDescending.{RuleDescending}
+use Rattle.colour_questions.specs.declared.rule.answers.RuleAsked.{RuleAsked}
 use Rattle.colour_questions.specs.rule.OutOfRange.{RuleColoursOutOfRange}
-use Rattle.colour_questions.specs.rule.Question.{rule_colours_fit, asked_checks, rule_ask_checks, rule_ask_number, Handled}
-use Rattle.colour_questions.specs.rule.Question.{asked_on, lent_colours, rule_answer, rule_ask_answer, rule_descending_number}
+use Rattle.colour_questions.specs.rule.Question.{rule_colours_fit, asked_checks, rule_ask_checks, rule_ask_number}
+use Rattle.colour_questions.specs.rule.Question.{lent_colours, rule_ask_answer}
 use Rattle.colour_questions.specs.rule.Promise.{RuleColoursBuilt, RuleColoursUsable, roots_left, state_kept, links_kept}
-use Rattle.capi.specs.numbers.Numbers.{bit_of}
+use Rattle.capi.specs.numbers.Numbers.{bit_of, on_answer}
 use Rattle.capi.proofs.table_calls.Theorems.{build-as-built}
 use Rattle.capi_colours.specs.rule_calls.RuleExported.{RuleExported, end_of, accepted_of, drops_of, links_of, parts_of}
 use Rattle.capi_colours.proofs.rule_calls.BuildTheorems.{rule-build-number, rule-build-writes, rule-build-coloured}
@@ -69,6 +73,7 @@ use Rattle.capi_colours.proofs.rule_calls.Theorems.{rule-descent-answers, rule-d
 use Rattle.claims.specs.CallAnswers.{BuildCall, ColourBuildCall}
 use Rattle.claims.specs.ColourAnswers.{RuleColourAnswered, RuleTrialsAnswered}
 use Rattle.claims.proofs.ColourLaws.{part-sixty, all-drops}
+use Rattle.claims.proofs.laws.ToldLaws.{number-told, value-there}
 
 -- ---- sets of states
 
@@ -120,21 +125,10 @@ module _ (p r numbers bytes : List ℕ) (n : ℕ) (numbers' bytes' : List ℕ)
     sets-short h low short =
         rule-build-number p r numbers bytes n numbers' bytes' E
         ∙ sym (room-refused p r (length numbers) (length bytes) plan rules (node_count p) (state_count r) (label_count r)
-        refl refl refl h true (sym low) refl false (sym short) refl)
+        refl refl refl h true
+        (sym (ap (all_below (label_count r)) (labels-part p (node_count p) refl) ∙ low)) refl false (sym short) refl)
 
 -- ---- the question: whatif_colour_ask
-
--- where the number is 0 there is an answer: the named result is never a refusal with number 0
-answer-there : (r : List ℕ) (k : ℕ) (o : Option Handled) → rule_descending_number (rule_answer r k o) ≡ 0
-    → state_kept r (rule_answer r k o) → links_kept (rule_answer r k o) → (s₀ y₀ d₀ k₀ m₀ : ℕ)
-    → (end_of (rule_answer r k o) s₀ < state_count r)
-    × (accepted_of (rule_answer r k o) y₀ ≡ bit_of ((rule_automaton r).accepting (end_of (rule_answer r k o) s₀)))
-    × (drops_of (rule_answer r k o) d₀ ≤ parts_of (rule_answer r k o) m₀ * 60)
-    × (links_of (rule_answer r k o) k₀ ≤ drops_of (rule_answer r k o) d₀ * 65535)
-unfolding rule_descending_number rule_answer
-answer-there r zero none e K L s₀ y₀ d₀ k₀ m₀ = absurd (omega arith)
-answer-there r zero (some h) e K L s₀ y₀ d₀ k₀ m₀ = (K.0, refl, L.0, L.1)
-answer-there r (suc k) o e K L s₀ y₀ d₀ k₀ m₀ = absurd (omega arith)
 
 module _ (p r node_table state_table numbers bytes vs bs : List ℕ) (n s₀ y₀ d₀ k₀ m₀ s₁ y₁ d₁ k₁ m₁ : ℕ)
     (E : RuleExported p r node_table state_table numbers bytes vs bs n s₀ y₀ d₀ k₀ m₀ s₁ y₁ d₁ k₁ m₁) where
@@ -181,59 +175,53 @@ module _ (p r node_table state_table numbers bytes vs bs : List ℕ) (n s₀ y�
   sets-on-run-states : RuleColoursUsable p r node_table state_table numbers bytes
       → first_no (list_checks (node_count p) (label_count r) vs bs) ≡ 0
       → RuleTrialsAnswered p r node_table state_table vs bs n s₁ y₁ d₁ k₁ m₁
-  unfolding rule_descending_number
   sets-on-run-states U c =
       let i = E.done.usable U c in
-      let s = E.number.state_answer ∙ ap (λ (x : RuleDescending). end_of x s₀) i in
+      let s = E.number.state_answer ∙ ap (λ (x : Result RuleAsked Refusal). end_of x s₀) i in
       record {
-        accepted = E.number.result ∙ ap rule_descending_number i;
+        accepted = E.number.result ∙ ap answer_number i;
         state_is = s;
-        yes_is = E.number.yes_answer ∙ ap (λ (x : RuleDescending). accepted_of x y₀) i
+        yes_is = E.number.yes_answer ∙ ap (λ (x : Result RuleAsked Refusal). accepted_of x y₀) i
             ∙ ap (λ (q : ℕ). bit_of ((rule_automaton r).accepting q)) (sym s);
-        parts_are = E.number.parts_answer ∙ ap (λ (x : RuleDescending). parts_of x m₀) i;
-        drops_are = E.number.drops_answer ∙ ap (λ (x : RuleDescending). drops_of x d₀) i;
-        links_are = E.number.links_answer ∙ ap (λ (x : RuleDescending). links_of x k₀) i;
+        parts_are = E.number.parts_answer ∙ ap (λ (x : Result RuleAsked Refusal). parts_of x m₀) i;
+        drops_are = E.number.drops_answer ∙ ap (λ (x : Result RuleAsked Refusal). drops_of x d₀) i;
+        links_are = E.number.links_answer ∙ ap (λ (x : Result RuleAsked Refusal). links_of x k₀) i;
       }
 
   -- "For anything left to the program, its name and its properties stand in the contract": the name is `rule_ask_answer`
-  sets-named : (n ≡ rule_descending_number (rule_ask_answer p r node_table state_table numbers bytes vs bs))
-      × (s₁ ≡ end_of (rule_ask_answer p r node_table state_table numbers bytes vs bs) s₀)
-      × (y₁ ≡ accepted_of (rule_ask_answer p r node_table state_table numbers bytes vs bs) y₀)
-      × (d₁ ≡ drops_of (rule_ask_answer p r node_table state_table numbers bytes vs bs) d₀)
-      × (k₁ ≡ links_of (rule_ask_answer p r node_table state_table numbers bytes vs bs) k₀)
-      × (m₁ ≡ parts_of (rule_ask_answer p r node_table state_table numbers bytes vs bs) m₀)
+  sets-named : (n ≡ (rule_ask_answer p r node_table state_table numbers bytes vs bs).0)
+      × (s₁ ≡ on_answer (rule_ask_answer p r node_table state_table numbers bytes vs bs).1 (λ a. a.state) s₀)
+      × (y₁ ≡ on_answer (rule_ask_answer p r node_table state_table numbers bytes vs bs).1 (λ a. bit_of a.marked) y₀)
+      × (d₁ ≡ on_answer (rule_ask_answer p r node_table state_table numbers bytes vs bs).1 (λ a. a.drops) d₀)
+      × (k₁ ≡ on_answer (rule_ask_answer p r node_table state_table numbers bytes vs bs).1 (λ a. a.links) k₀)
+      × (m₁ ≡ on_answer (rule_ask_answer p r node_table state_table numbers bytes vs bs).1 (λ a. a.parts) m₀)
   sets-named =
       let i = E.done.result in (
-        E.number.result ∙ ap rule_descending_number i,
-        E.number.state_answer ∙ ap (λ (x : RuleDescending). end_of x s₀) i,
-        E.number.yes_answer ∙ ap (λ (x : RuleDescending). accepted_of x y₀) i,
-        E.number.drops_answer ∙ ap (λ (x : RuleDescending). drops_of x d₀) i,
-        E.number.links_answer ∙ ap (λ (x : RuleDescending). links_of x k₀) i,
-        E.number.parts_answer ∙ ap (λ (x : RuleDescending). parts_of x m₀) i,
+        E.number.result ∙ number-told E.answer ∙ ap (λ (t : ℕ × Option RuleAsked). t.0) i,
+        E.number.state_answer ∙ ap (λ (t : ℕ × Option RuleAsked). on_answer t.1 (λ a. a.state) s₀) i,
+        E.number.yes_answer ∙ ap (λ (t : ℕ × Option RuleAsked). on_answer t.1 (λ a. bit_of a.marked) y₀) i,
+        E.number.drops_answer ∙ ap (λ (t : ℕ × Option RuleAsked). on_answer t.1 (λ a. a.drops) d₀) i,
+        E.number.links_answer ∙ ap (λ (t : ℕ × Option RuleAsked). on_answer t.1 (λ a. a.links) k₀) i,
+        E.number.parts_answer ∙ ap (λ (t : ℕ × Option RuleAsked). on_answer t.1 (λ a. a.parts) m₀) i,
       )
 
   -- an accepted answer's state is a state, yes is its mark, and its drops are at most 60 for each part
   sets-state : n ≡ 0 → (s₁ < state_count r) × (y₁ ≡ bit_of ((rule_automaton r).accepting s₁)) × (d₁ ≤ m₁ * 60)
       × (k₁ ≤ d₁ * 65535)
-  unfolding rule_ask_answer
   sets-state z =
-      let i = E.done.result in
-      let x = rule_ask_number p r node_table state_table numbers bytes vs bs in
-      let o = asked_on p r node_table state_table numbers bytes vs bs in
-      let w = answer-there r x o (sym (ap rule_descending_number i) ∙ sym E.number.result ∙ z)
-      (subst (state_kept r) i E.done.properties) (subst links_kept i E.done.few) s₀ y₀ d₀ k₀ m₀ in
-      let s : s₁ ≡ end_of (rule_answer r x o) s₀ = E.number.state_answer ∙ ap (λ (a : RuleDescending). end_of a s₀) i in
-      let d : d₁ ≡ drops_of (rule_answer r x o) d₀ =
-      E.number.drops_answer ∙ ap (λ (a : RuleDescending). drops_of a d₀) i in
-      let k : k₁ ≡ links_of (rule_answer r x o) k₀ =
-      E.number.links_answer ∙ ap (λ (a : RuleDescending). links_of a k₀) i in
-      let m : m₁ ≡ parts_of (rule_answer r x o) m₀ =
-      E.number.parts_answer ∙ ap (λ (a : RuleDescending). parts_of a m₀) i in (
-        rw s w.0,
-        E.number.yes_answer ∙ ap (λ (a : RuleDescending). accepted_of a y₀) i ∙ w.1
+      let w = value-there E.answer (sym E.number.result ∙ z) in
+      let a : RuleAsked = w.0 in
+      let K : state_kept r (Ok a) = subst (state_kept r) w.1 E.done.properties in
+      let L : links_kept (Ok a) = subst links_kept w.1 E.done.few in
+      let s : s₁ ≡ a.state = E.number.state_answer ∙ ap (λ (x : Result RuleAsked Refusal). end_of x s₀) w.1 in
+      let d : d₁ ≡ a.drops = E.number.drops_answer ∙ ap (λ (x : Result RuleAsked Refusal). drops_of x d₀) w.1 in
+      let k : k₁ ≡ a.links = E.number.links_answer ∙ ap (λ (x : Result RuleAsked Refusal). links_of x k₀) w.1 in
+      let m : m₁ ≡ a.parts = E.number.parts_answer ∙ ap (λ (x : Result RuleAsked Refusal). parts_of x m₀) w.1 in (
+        rw s K.0,
+        E.number.yes_answer ∙ ap (λ (x : Result RuleAsked Refusal). accepted_of x y₀) w.1 ∙ ap bit_of K.1
             ∙ ap (λ (q : ℕ). bit_of ((rule_automaton r).accepting q)) (sym s),
-        omega (arith, d, m, w.2),
-        omega (arith, d, k, w.3),
+        omega (arith, d, m, L.0),
+        omega (arith, d, k, L.1),
       )
 
   -- "18 means that a value read leads outside the plan, the states or the labels, or a climb doesn't rise.": or that no

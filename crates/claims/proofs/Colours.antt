@@ -17,14 +17,15 @@
 --     words-from-builds, words-answered   what the two builds leave is as built, and questions on it are answered
 -- Sets of states and rule questions: ColourSets. The promises of the calls themselves, on every input, are their
 -- contracts (crate capi_colours).
-use Prim.Native.Nat.{ℕ, zero, suc, ◌+◌, ◌-◌, ◌*◌, ◌≤◌, ◌<◌}
+use Prim.Native.Nat.{ℕ, suc, ◌+◌, ◌-◌, ◌*◌, ◌≤◌, ◌<◌}
 use mathlib.Core.Path.{◌≡◌, refl, sym, ap, ◌∙◌, subst}
 use mathlib.Core.Bool.{Bool, true, false}
 use mathlib.Core.List.{List, [], ◌∷◌, ◌++◌}
 use mathlib.Core.Logic.{◌↔◌}
-use mathlib.Core.Option.{Option, none, some}
+use mathlib.Core.Option.{Option}
 use native.Mathlib.Omega.{arith}
 use lib.ListN.{length, get_or, take, drop}
+use Rattle.std.specs.Prelude.{Result, Ok}
 use Rattle.list_laws.specs.Tests.{all_below}
 use Rattle.list_laws.proofs.Choice.{le-or}
 use Rattle.trees.specs.Tree.{Tree, size, height}
@@ -37,9 +38,12 @@ use Rattle.formats.specs.Plan.{node_count, plan_tree}
 use Rattle.formats.specs.Rules.{state_count, label_count, branch_automaton}
 use Rattle.formats.specs.Checks.{first_no, plan_checks, branch_checks, branch_table_checks}
 use Rattle.formats.specs.Built.{BranchBuilt}
+use Rattle.formats.specs.Refusals.{answer_number}
+use Rattle.formats.specs.declared.refusals.Refusal.{Refusal}
 use Rattle.formats.proofs.PlanLaws.{size-plan_tree}
 use Rattle.formats.proofs.BranchLaws.{step_below}
 use Rattle.formats.proofs.InputLaws.{branch-table-passes}
+use Rattle.formats.proofs.RefusalLaws.{told-value}
 use Rattle.tables.specs.node_tables.Cells.{is_in_subtree_on}
 use Rattle.branches.specs.declared.answers.Reading.{Reading}
 use Rattle.branches.proofs.FinishLaws.{in-subtree-is}
@@ -62,16 +66,15 @@ use Rattle.colours.proofs.Theorems.{links-limit}
 use Rattle.colour_tables.specs.branch.Build.{colours_fit, branch_colour_checks, built_colour_numbers, built_copies}
 use Rattle.colour_tables.specs.branch.Build.{BranchColoured}
 use Rattle.colour_tables.proofs.branch.BuildLaws.{room-no}
-use Rattle.colour_questions.specs.declared.branch.answers.Descending.{Descending}
+use Rattle.colour_questions.specs.declared.branch.answers.ColourAsked.{ColourAsked}
 use Rattle.colour_questions.specs.branch.OutOfRange.{BranchColoursOutOfRange}
-use Rattle.colour_questions.specs.branch.Question.{colour_buffers_fit, Coloured, coloured_on, colour_number}
-use Rattle.colour_questions.specs.branch.Question.{colour_answer, colour_ask_answer, descending_number}
+use Rattle.colour_questions.specs.branch.Question.{colour_buffers_fit, colour_ask_answer}
 use Rattle.colour_questions.specs.branch.Promise.{BranchColoursBuilt, BranchColoursUsable, state_kept, OnCopies}
 use Rattle.colour_questions.proofs.branch.AskBuilt as colour-asks
 use Rattle.colour_questions.proofs.branch.AskChecks.{ask-17, ask-13-upper, ask-13-lower}
 use Rattle.colour_questions.proofs.branch.OnCopies.{on-copies}
 use Rattle.reference.specs.Sample.{plan_a}
-use Rattle.capi.specs.numbers.Numbers.{bit_of}
+use Rattle.capi.specs.numbers.Numbers.{bit_of, on_answer}
 use Rattle.capi.specs.branch_calls.BranchExported.{AskExported}
 use Rattle.capi.proofs.branch_calls.Ties.{branch-build-as-built}
 use Rattle.capi_colours.specs.branch_calls.DescentExported.{DescentExported, end_of, accepted_of, drops_of, links_of}
@@ -83,6 +86,7 @@ use Rattle.claims.specs.CallAnswers.{BranchBuildCall, ColourBranchBuildCall}
 use Rattle.claims.specs.BranchAnswers.{branch_table_a}
 use Rattle.claims.specs.ColourAnswers.{WordColourAnswer, WordCopiesAnswer}
 use Rattle.claims.proofs.ColourLaws.{word-few}
+use Rattle.claims.proofs.laws.ToldLaws.{number-told, value-there}
 use Rattle.claims.proofs.Branches as branches
 
 -- ---- colours
@@ -135,48 +139,35 @@ word-without = word_below
 
 -- ---- branch questions: BelowUpper is whatif_colour_branch, WithUpper whatif_colour_branch_with_upper
 
--- where the number is 0 there is an answer: the named result is never a refusal with number 0
-answer-there : (r : List ℕ) (k : ℕ) (o : Option Coloured) → descending_number (colour_answer k o) ≡ 0
-    → state_kept r (colour_answer k o) → (s₀ y₀ : ℕ)
-    → (end_of (colour_answer k o) s₀ < state_count r)
-    × (accepted_of (colour_answer k o) y₀ ≡ bit_of ((branch_automaton r).accepting (end_of (colour_answer k o) s₀)))
-unfolding descending_number colour_answer
-answer-there r zero none e K s₀ y₀ = absurd (omega arith)
-answer-there r zero (some c) e K s₀ y₀ = (K.0, ap bit_of K.1)
-answer-there r (suc k) o e K s₀ y₀ = absurd (omega arith)
-
 module _ (reading : Reading) (p r node_table numbers bytes : List ℕ) (u l n s₀ y₀ d₀ k₀ s₁ y₁ d₁ k₁ : ℕ)
     (E : DescentExported reading p r node_table numbers bytes u l n s₀ y₀ d₀ k₀ s₁ y₁ d₁ k₁) where
   -- ---- on any tables
 
   -- "For anything left to the program, its name and its properties stand in the contract": the name is
   -- `colour_ask_answer`
-  words-named : (n ≡ descending_number (colour_ask_answer reading p r node_table numbers bytes u l))
-      × (s₁ ≡ end_of (colour_ask_answer reading p r node_table numbers bytes u l) s₀)
-      × (y₁ ≡ accepted_of (colour_ask_answer reading p r node_table numbers bytes u l) y₀)
-      × (d₁ ≡ drops_of (colour_ask_answer reading p r node_table numbers bytes u l) d₀)
-      × (k₁ ≡ links_of (colour_ask_answer reading p r node_table numbers bytes u l) k₀)
+  words-named : (n ≡ (colour_ask_answer reading p r node_table numbers bytes u l).0)
+      × (s₁ ≡ on_answer (colour_ask_answer reading p r node_table numbers bytes u l).1 (λ a. a.state) s₀)
+      × (y₁ ≡ on_answer (colour_ask_answer reading p r node_table numbers bytes u l).1 (λ a. bit_of a.marked) y₀)
+      × (d₁ ≡ on_answer (colour_ask_answer reading p r node_table numbers bytes u l).1 (λ a. a.drops) d₀)
+      × (k₁ ≡ on_answer (colour_ask_answer reading p r node_table numbers bytes u l).1 (λ a. a.links) k₀)
   words-named =
       let i = E.done.result in (
-        E.number.result ∙ ap descending_number i,
-        E.number.state_answer ∙ ap (λ (x : Descending). end_of x s₀) i,
-        E.number.yes_answer ∙ ap (λ (x : Descending). accepted_of x y₀) i,
-        E.number.drops_answer ∙ ap (λ (x : Descending). drops_of x d₀) i,
-        E.number.links_answer ∙ ap (λ (x : Descending). links_of x k₀) i,
+        E.number.result ∙ number-told E.answer ∙ ap (λ (t : ℕ × Option ColourAsked). t.0) i,
+        E.number.state_answer ∙ ap (λ (t : ℕ × Option ColourAsked). on_answer t.1 (λ a. a.state) s₀) i,
+        E.number.yes_answer ∙ ap (λ (t : ℕ × Option ColourAsked). on_answer t.1 (λ a. bit_of a.marked) y₀) i,
+        E.number.drops_answer ∙ ap (λ (t : ℕ × Option ColourAsked). on_answer t.1 (λ a. a.drops) d₀) i,
+        E.number.links_answer ∙ ap (λ (t : ℕ × Option ColourAsked). on_answer t.1 (λ a. a.links) k₀) i,
       )
 
   -- an accepted answer's state is a state, and yes is its mark
   words-state : n ≡ 0 → (s₁ < state_count r) × (y₁ ≡ bit_of ((branch_automaton r).accepting s₁))
-  unfolding colour_ask_answer
   words-state z =
-      let i = E.done.result in
-      let a = colour_number reading p r node_table numbers bytes u l in
-      let o = coloured_on reading p r node_table numbers bytes u l in
-      let w = answer-there r a o (sym (ap descending_number i) ∙ sym E.number.result ∙ z)
-      (subst (state_kept r) i E.done.properties) s₀ y₀ in
-      let s : s₁ ≡ end_of (colour_answer a o) s₀ = E.number.state_answer ∙ ap (λ (x : Descending). end_of x s₀) i in (
-        rw s w.0,
-        E.number.yes_answer ∙ ap (λ (x : Descending). accepted_of x y₀) i ∙ w.1
+      let w = value-there E.answer (sym E.number.result ∙ z) in
+      let a : ColourAsked = w.0 in
+      let K : state_kept r (Ok a) = subst (state_kept r) w.1 E.done.properties in
+      let s : s₁ ≡ a.state = E.number.state_answer ∙ ap (λ (x : Result ColourAsked Refusal). end_of x s₀) w.1 in (
+        rw s K.0,
+        E.number.yes_answer ∙ ap (λ (x : Result ColourAsked Refusal). accepted_of x y₀) w.1 ∙ ap bit_of K.1
             ∙ ap (λ (q : ℕ). bit_of ((branch_automaton r).accepting q)) (sym s),
       )
 
@@ -199,23 +190,22 @@ module _ (reading : Reading) (p r node_table numbers bytes : List ℕ) (u l n s�
   words-on-copies : BranchColoursUsable p r node_table numbers bytes
       → colour_buffers_fit p r (length node_table) (length numbers) (length bytes) ≡ true → u < node_count p
       → l < node_count p → AtOrBelow (plan_tree p) u l → WordCopiesAnswer reading p r bytes u l n s₁ y₁ d₁ k₁
-  unfolding descending_number
   words-on-copies U f hu hl A =
       let O : OnCopies reading p r bytes u l (colour_ask_answer reading p r node_table numbers bytes u l) =
       on-copies reading p r node_table numbers bytes U f u l hu hl A in
-      let i = E.done.result ∙ O.is in
-      let s = E.number.state_answer ∙ ap (λ (x : Descending). end_of x s₀) i in
+      let i = told-value E.answer 0 _ (E.done.result ∙ O.is) refl in
+      let s = E.number.state_answer ∙ ap (λ (x : Result ColourAsked Refusal). end_of x s₀) i in
       record {
-        accepted = E.number.result ∙ ap descending_number i;
+        accepted = E.number.result ∙ ap answer_number i;
         colour = O.colour;
         starts = O.starts;
         way = O.way;
         found = O.found;
         state_is = s;
-        yes_is = E.number.yes_answer ∙ ap (λ (x : Descending). accepted_of x y₀) i
+        yes_is = E.number.yes_answer ∙ ap (λ (x : Result ColourAsked Refusal). accepted_of x y₀) i
             ∙ ap (λ (q : ℕ). bit_of ((branch_automaton r).accepting q)) (sym s);
-        drops_are = E.number.drops_answer ∙ ap (λ (x : Descending). drops_of x d₀) i;
-        links_are = E.number.links_answer ∙ ap (λ (x : Descending). links_of x k₀) i;
+        drops_are = E.number.drops_answer ∙ ap (λ (x : Result ColourAsked Refusal). drops_of x d₀) i;
+        links_are = E.number.links_answer ∙ ap (λ (x : Result ColourAsked Refusal). links_of x k₀) i;
       }
 
   -- ---- on tables as built
@@ -226,12 +216,11 @@ module _ (reading : Reading) (p r node_table numbers bytes : List ℕ) (u l n s�
 
     -- "nodes below N? 13"
     words-13 : (node_count p ≤ u → n ≡ 13) × (node_count p ≤ l → n ≡ 13)
-    unfolding descending_number
     words-13 =
         let f = colour-asks.fits-built p r node_table numbers bytes D in (
-          λ h. E.number.result ∙ ap descending_number
+          λ h. E.number.result ∙ number-told E.answer ∙ ap (λ (t : ℕ × Option ColourAsked). t.0)
               (E.done.result ∙ sym (ask-13-upper reading p r node_table numbers bytes u l f h)),
-          λ h. E.number.result ∙ ap descending_number
+          λ h. E.number.result ∙ number-told E.answer ∙ ap (λ (t : ℕ × Option ColourAsked). t.0)
               (E.done.result ∙ sym (ask-13-lower reading p r node_table numbers bytes u l f h)),
         )
 
@@ -354,11 +343,11 @@ words-short-asked : (reading : Reading) (p r node_table numbers bytes : List ℕ
     (u l n state₀ yes₀ drops₀ links₀ state₁ yes₁ drops₁ links₁ : ℕ)
     → DescentExported reading p r node_table numbers bytes u l n state₀ yes₀ drops₀ links₀ state₁ yes₁ drops₁ links₁
     → colour_buffers_fit p r (length node_table) (length numbers) (length bytes) ≡ false → n ≡ 17
-unfolding descending_number
 words-short-asked reading p r node_table numbers bytes u l n state₀ yes₀ drops₀ links₀ state₁ yes₁ drops₁ links₁ E
     short =
-    E.number.result
-    ∙ ap descending_number (E.done.result ∙ sym (ask-17 reading p r node_table numbers bytes u l short))
+    E.number.result ∙ number-told E.answer
+    ∙ ap (λ (t : ℕ × Option ColourAsked). t.0)
+    (E.done.result ∙ sym (ask-17 reading p r node_table numbers bytes u l short))
 
 -- the sample's plan (document 01) with a branch table is accepted with 56 numbers and 14 bytes, and with no fewer
 words-sample : (first_no (branch_colour_checks plan_a branch_table_a 56 14) ≡ 0)

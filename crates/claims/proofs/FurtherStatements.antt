@@ -22,6 +22,7 @@ use native.Mathlib.Omega.{arith}
 use lib.Dec.{ltb}
 use lib.ListN.{length, replicate}
 use borrow.Author.Tests.{lt-ltb}
+use Rattle.std.specs.Prelude.{Ok}
 use Rattle.list_laws.specs.Tests.{holds, all_below}
 use Rattle.list_laws.proofs.BoolLaws.{and_both}
 use Rattle.trees.specs.Tree.{Tree, leaf, size, height}
@@ -43,7 +44,6 @@ use Rattle.formats.proofs.PlanTrees.{plan_bytes-passes, labels_within-plan_bytes
 use Rattle.formats.proofs.PlanTheorems.{two-nodes}
 use Rattle.tables.specs.node_tables.NodeCells.{NodeCells}
 use Rattle.branches.specs.declared.answers.Reading.TheVariants.{BelowUpper}
-use Rattle.branches.specs.declared.answers.Branching.TheVariants.{Answered}
 use Rattle.branches.specs.Question.{branched, ask_answer}
 use Rattle.branches.proofs.AskTheorem as ask-theorem
 use Rattle.questions.specs.ready.Members.{roots}
@@ -117,7 +117,7 @@ two-nodes-refused p r node_table state_table h n a b =
 
 -- "the same node twice is the empty word, and the mark of state 0 decides"
 empty-word : (p r node_table state_table : List ℕ) → BranchBuilt p r node_table state_table → (u : ℕ) → u < node_count p
-    → ask_answer BelowUpper p r node_table state_table u u ≡ Answered (branched (branch_automaton r) 0 0 0)
+    → ask_answer BelowUpper p r node_table state_table u u ≡ Ok (branched (branch_automaton r) 0 0 0)
 empty-word = ask-theorem.empty-word
 
 -- ---- "Let W be the listed nodes and the root. The ready set is the least set that ..": on numbers as built the roots

@@ -14,7 +14,7 @@ use mathlib.Core.List.{List, ◌++◌}
 use mathlib.Core.Logic.{◌↔◌}
 use native.Mathlib.Decide.{ℕ_discrete}
 use native.Mathlib.Omega.{arith}
-use lib.Dec.{eqb, leb}
+use lib.Dec.{eqb}
 use lib.ListN.{length, get_or, drop, get_or-append}
 use lib.Seq.{take_at}
 use borrow.Author.Tests.{ne_eqb}
@@ -34,7 +34,7 @@ use Rattle.products.specs.declared.agreement.Agreement.{Agreement}
 use Rattle.products.proofs.merging.Theorems.{Mergeable, accepted-mergeable, merged-table-passes, merged-table-run}
 use Rattle.products.proofs.merging.Theorems.{merged-table-clears}
 use Rattle.products.proofs.agreement.ReplyLaws.{lines-reply}
-use Rattle.capi.specs.product_calls.Exported.{MergeExported, line_row, lines_for, agree_number, AgreeExported}
+use Rattle.capi.specs.product_calls.Exported.{MergeExported, line_row, lines_for, shown, AgreeExported}
 use Rattle.capi.proofs.product_calls.Theorems as calls
 use Rattle.claims.specs.ProductBuffers.{merged_in, lines_in, numbers_of_lines}
 use Rattle.claims.proofs.ProductLaws.{lines-read, length-lines, row-numbers}
@@ -112,17 +112,17 @@ module _ (first second lines : List ℕ) (agreed count n : ℕ) (lines' : List �
   -- "or else .. a separating plan": 0 is answered for no, and lines are shown
   agree-or-lines : (Agree (rule_automaton first) (rule_automaton second) (label_count first) → ⊥)
       → (agreed' ≡ 0) × (0 < count')
-  agree-or-lines h = elim (ℕ_discrete E.reply.count 0) [
+  agree-or-lines h = elim (ℕ_discrete (shown first second).count 0) [
     | yes z ↦ absurd (h (agree-exactly.0 (E.agreed_is accepted ∙ ap (λ (c : ℕ). cond (eqb c 0) 1 0) z)))
     | no z ↦ (
-      E.agreed_is accepted ∙ ap (λ (b : Bool). cond b 1 0) (ne_eqb E.reply.count 0 z),
+      E.agreed_is accepted ∙ ap (λ (b : Bool). cond b 1 0) (ne_eqb (shown first second).count 0 z),
       omega (arith, E.count_is accepted),
     )
   ]
 
-  lines_are : lines_in lines' count' ≡ reply.lines_in E.reply
+  lines_are : lines_in lines' count' ≡ reply.lines_in (shown first second)
   lines_are =
-      let R : Agreement = E.reply in
+      let R : Agreement = shown first second in
       let row : ℕ → List ℕ = line_row R.kinds R.labels R.lefts R.rights in
       ap (lines_in lines') (E.count_is accepted)
       ∙ lines-read R.kinds R.labels R.lefts R.rights lines' R.count (λ i k h l.
@@ -139,18 +139,9 @@ module _ (first second lines : List ℕ) (agreed count n : ℕ) (lines' : List �
       subst (Separates (rule_automaton first) (rule_automaton second) (label_count first)) (sym lines_are)
       (calls.agree-separates first second lines agreed count n lines' agreed' count' E accepted h)
 
-  passed : E.reply.number ≡ 0
-  unfolding agree_number
-  passed = elim (ℕ_discrete E.reply.number 0) [
-    | yes q ↦ q
-    | no q ↦ sym (E.number ∙ ap (λ (b : Bool). cond b (cond (leb (E.reply.count * 4) (length lines)) 0 11)
-        E.reply.number) (ne_eqb E.reply.number 0 q)) ∙ accepted
-  ]
-
   shown-few : length (shown_reply first second) ≤ 256
   shown-few =
-      let c : count' ≡ length (shown_reply first second) =
-      E.count_is accepted ∙ ap (λ (R : Agreement). R.count) (E.done.named passed) in
+      let c : count' ≡ length (shown_reply first second) = E.count_is accepted in
       elim (ℕ_discrete count' 0) [
         | yes z ↦ omega (arith, c)
         | no z ↦ omega (arith, c, length-lines lines' count', (agree-separates (omega arith)).at_most)
@@ -159,21 +150,19 @@ module _ (first second lines : List ℕ) (agreed count n : ℕ) (lines' : List �
   -- "Which separating plan is shown may be left to the program; its name and its properties then stand in the
   -- contract."
   agree-named : lines_in lines' count' ≡ shown_reply first second
-  agree-named =
-      lines_are ∙ ap reply.lines_in (E.done.named passed) ∙ lines-reply (shown_reply first second) shown-few 0
+  agree-named = lines_are ∙ lines-reply (shown_reply first second) shown-few
 
   -- the numbers themselves, four for each line, and behind them what was there
   agree-writes : (count' ≡ length (shown_reply first second))
       × (lines' ≡ numbers_of_lines (shown_reply first second) ++ drop (count' * 4) lines)
   agree-writes =
-      let c : count' ≡ length (shown_reply first second) =
-      E.count_is accepted ∙ ap (λ (R : Agreement). R.count) (E.done.named passed) in
-      let x : lines_for E.reply ≡ numbers_of_lines (shown_reply first second) =
-      ap lines_for (E.done.named passed) ∙ row-numbers (shown_reply first second) shown-few in
-      let row : ℕ → List ℕ =
-      line_row E.reply.kinds E.reply.labels E.reply.lefts E.reply.rights in
-      let z : length (lines_for E.reply) ≡ count' * 4 =
-      length-rows E.reply.count 4 row (λ v q. refl) ∙ ap (λ (i : ℕ). i * 4) (sym (E.count_is accepted)) in
+      let c : count' ≡ length (shown_reply first second) = E.count_is accepted in
+      let R : Agreement = shown first second in
+      let x : lines_for R ≡ numbers_of_lines (shown_reply first second) =
+      row-numbers (shown_reply first second) shown-few in
+      let row : ℕ → List ℕ = line_row R.kinds R.labels R.lefts R.rights in
+      let z : length (lines_for R) ≡ count' * 4 =
+      length-rows R.count 4 row (λ v q. refl) ∙ ap (λ (i : ℕ). i * 4) (sym (E.count_is accepted)) in
       (c, E.written accepted ∙ ap₂ (λ (l : List ℕ) (i : ℕ). l ++ drop i lines) x z)
 
   -- where the tables agree no line is written

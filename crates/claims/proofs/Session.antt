@@ -13,13 +13,14 @@ use mathlib.Core.Path.{◌≡◌, refl}
 use mathlib.Core.Bool.{true}
 use mathlib.Core.List.{List, zip, Memᴰ, Permᴰ}
 use lib.ListN.{length, replicate}
+use Rattle.std.specs.Prelude.{Result, Ok}
 use Rattle.list_laws.specs.Tests.{holds, distinct}
 use Rattle.trees.specs.Tree.{Tree, height}
 use Rattle.trees.specs.Climb.{digits}
 use Rattle.formats.specs.Checks.{first_no, list_checks}
 use Rattle.formats.specs.Inputs.{Inputs, inputs_of, sizes_in}
-use Rattle.runs.specs.declared.answer.Running.{Running}
-use Rattle.runs.specs.declared.answer.Running.TheVariants.{Ended}
+use Rattle.formats.specs.declared.refusals.Refusal.{Refusal}
+use Rattle.runs.specs.declared.answer.Verdict.{Verdict}
 use Rattle.runs.specs.FreshRun.{FreshRunDone}
 use Rattle.changes.specs.Entries.{entries, superseded}
 use Rattle.questions.specs.ready.Members.{roots}
@@ -156,8 +157,11 @@ module _ (vs bs ws cs : List ℕ) (one_length : length vs ≡ length bs) (one-le
 
 -- where no check of the Start fails fresh_run ends, with the state and the yes or no of the reference model's answer
 fresh-run-ends : (t : Stage) (x : Inputs) (vs bs : List ℕ) → refusal t (start x vs bs) ≡ 0
-    → (r : Running) → FreshRunDone x.plan x.rules vs bs r
-    → r ≡ Ended (answer_state (fresh_answer (asked x vs bs))) (answer_yes (fresh_answer (asked x vs bs)))
+    → (r : Result Verdict Refusal) → FreshRunDone x.plan x.rules vs bs r
+    → r ≡ Ok (record {
+      state = answer_state (fresh_answer (asked x vs bs));
+      accepted = answer_yes (fresh_answer (asked x vs bs));
+    })
 fresh-run-ends = ends.fresh-run-ends
 
 fresh-run-by-value : FreshRunAgrees fresh_session CallByValue

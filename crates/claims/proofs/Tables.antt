@@ -7,10 +7,12 @@
 -- The numbers, and that a refused call alters nothing: Calls. The same of a branch table: Branches.
 use Prim.Native.Nat.{ℕ, ◌+◌, ◌*◌, ◌<◌}
 use mathlib.Core.Path.{◌≡◌, refl, sym, ap, ◌∙◌}
+use mathlib.Core.Bool.{Bool}
 use mathlib.Core.List.{List, ◌++◌}
 use mathlib.Core.Logic.{◌↔◌}
 use native.Mathlib.Omega.{arith}
 use lib.ListN.{length, get_or, take, drop}
+use Rattle.std.specs.Prelude.{Result}
 use Rattle.trees.specs.Tree.{size, label_at}
 use Rattle.trees.specs.Automaton.{run, state}
 use Rattle.trees.specs.Numbering.{sub}
@@ -20,9 +22,9 @@ use Rattle.trees.proofs.TableRows.{state_table_of-state, state_table_of-map}
 use Rattle.formats.specs.Plan.{node_count, plan_tree}
 use Rattle.formats.specs.Rules.{state_count, rule_automaton}
 use Rattle.formats.specs.Built.{built_node_table, built_state_table, AsBuilt}
+use Rattle.formats.specs.declared.refusals.Refusal.{Refusal}
 use Rattle.formats.proofs.PlanLaws.{size-plan_tree}
 use Rattle.formats.proofs.InputLaws.{rule-table-passes}
-use Rattle.tables.specs.declared.answers.Checking.{Checking}
 use Rattle.tables.specs.node_tables.NodeCells.{NodeCells}
 use Rattle.tables.specs.StateCells.{state_cell, map_cell}
 use Rattle.tables.proofs.node_tables.CellLaws.{link-cells}
@@ -82,7 +84,7 @@ module _ (p r node_table state_table : List ℕ) (n yes₀ yes₁ : ℕ)
   check-no : n ≡ 0 → (AsBuilt p r node_table state_table → ⊥) → yes₁ ≡ 0
   check-no z h =
       E.number.yes_answer
-      ∙ ap (λ (a : Checking). yes_of a yes₀)
+      ∙ ap (λ (a : Result Bool Refusal). yes_of a yes₀)
       (no-check p r node_table state_table E.answer E.done
       (sym (calls.check-number p r node_table state_table n yes₀ yes₁ E) ∙ z) h)
 

@@ -1,3 +1,4 @@
+pub mod ToldLaws
 pub mod ByteAnswers
 pub mod RefusalLaws
 pub mod LoadTables

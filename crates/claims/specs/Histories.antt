@@ -18,13 +18,13 @@
 --
 -- What `superseded_calls` are: reference/specs/Superseding; `AnswerLasts`: reference/specs/Lasting; `advances_of`,
 -- `AllSame` and `until_the_end`: reference/specs/Finished; `own_calls`, `own_answers`: screens/specs/Projection.
-use Rattle.std.specs.Prelude.{ℕ, ◌<◌, ◌≡◌, Bool, true, false, length}
+use Rattle.std.specs.Prelude.{ℕ, ◌<◌, ◌≡◌, Bool, true, false, length, Result, Ok}
 use mathlib.Core.List.{List, [], ◌∷◌, ◌++◌, zip, Permᴰ}
 use Rattle.list_laws.specs.Tests.{distinct}
 use Rattle.formats.specs.Checks.{first_no, list_checks}
 use Rattle.formats.specs.Inputs.{Inputs, sizes_in}
-use Rattle.runs.specs.declared.answer.Running.{Running}
-use Rattle.runs.specs.declared.answer.Running.TheVariants.{Ended}
+use Rattle.formats.specs.declared.refusals.Refusal.{Refusal}
+use Rattle.runs.specs.declared.answer.Verdict.{Verdict}
 use Rattle.runs.specs.FreshRun.{FreshRunDone}
 use Rattle.changes.specs.Entries.{entries, nodes_listed, labels_listed, laid_over}
 use Rattle.changes.specs.ChangedPlan.{changed_plan}
@@ -108,8 +108,8 @@ module _ {R : Type 0} (fresh : R) (Step : R → Call → Answer → R → Type 0
   -- changed)"
   abbrev pub FreshRunAgrees : Type 0
   FreshRunAgrees = (x : Inputs) (vs bs : List ℕ) (n : ℕ) (ys : List Answer) → ToTheEnd x vs bs n ys
-      → (r : Running) → FreshRunDone x.plan x.rules vs bs r
-      → (a : Answer) × (ys ≡ until_the_end n a) × (r ≡ Ended (answer_state a) (answer_yes a))
+      → (r : Result Verdict Refusal) → FreshRunDone x.plan x.rules vs bs r
+      → (a : Answer) × (ys ≡ until_the_end n a) × (r ≡ Ok (record { state = answer_state a; accepted = answer_yes a }))
 
   -- "a question with the second on the plan changed by the first has the state of a question with the second laid over
   -- the first on the plan itself, each on tables built from its own plan and left alone"

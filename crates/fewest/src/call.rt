@@ -3,6 +3,7 @@ ghost use Rattle.std.specs.Prelude.{◌≡◌, length};
 ghost use Rattle.formats.specs.Plan.{plan_tree};
 ghost use Rattle.formats.specs.Rules.{state_count};
 ghost use Rattle.formats.specs.Checks.{first_no};
+ghost use Rattle.formats.specs.Refusals.{answer_number};
 ghost use Rattle.formats.specs.inner.InnerChecks.{Sizes};
 ghost use Rattle.allowed.specs.inner.Inputs.{CallArgs};
 ghost use Rattle.fewest.specs.inner.list.Written.{FewestShown};
@@ -16,6 +17,7 @@ use formats::bytes::read32;
 use formats::inputs::check_rule_inputs;
 use formats::layout::{LABEL_COUNT_AT, PLAN_HEAD, RULES_HEAD};
 use formats::limits::CHANGE_LIMIT;
+use formats::refusals::Refusal;
 use formats::rules::inner_count;
 
 // The mark that is wanted at the root: 0 for want 0, else 1.
@@ -61,22 +63,19 @@ fn check_fewest(
     work: usize,
     nodes: usize,
     labels: usize,
-) -> u8
-    ensures { result ≡ first_no (fewest_checks plan.now rules.now may work nodes labels) }
+) -> Result<(), Refusal>
+    ensures { answer_number result ≡ first_no (fewest_checks plan.now rules.now may work nodes labels) }
 {
-    let t = check_rule_inputs(plan, rules);
-    if t != 0 {
-        return t;
-    }
+    check_rule_inputs(plan, rules)?;
     let n = read32(plan, 0);
     let s = read32(rules, 0);
     if !may_fits(may, n) {
-        return 17;
+        return Err(Refusal::LentLength);
     }
     if !room_fits(n, s, work, nodes, labels) {
-        return 11;
+        return Err(Refusal::BufferShort);
     }
-    0
+    Ok(())
 }
 
 // The mark of the root's state in the run over the plan as it is, of a plan and rules that pass their checks. The first
@@ -137,7 +136,7 @@ fn write_plan(
 
 // The least number of nodes that must be relabelled so that the plan is cleared (want 1) or no longer is (want 0), and
 // the changes where they are at most 64. Where the plan is as wanted already, the run over it is the whole work. It
-// returns the number of the first check that fails, of 2 to 11 and 17; then nothing is written.
+// asks 2 to 10, then 17, then 11; refused, nothing is written.
 pub fn fewest_changes(
     plan: &[u8],
     rules: &[u8],
@@ -148,22 +147,19 @@ pub fn fewest_changes(
     labels: &mut [u8],
     least: &mut u32,
     count: &mut u32,
-) -> u8
+) -> Result<(), Refusal>
     ensures { FewestTold plan.now rules.now may.now want work.old nodes.old
-        labels.old least.old count.old result work.new nodes.new labels.new
-        least.new count.new }
+        labels.old least.old count.old (answer_number result) work.new nodes.new
+        labels.new least.new count.new }
 {
-    let refused = check_fewest(
+    check_fewest(
         plan,
         rules,
         may.len(),
         work.len(),
         nodes.len(),
         labels.len(),
-    );
-    if refused != 0 {
-        return refused;
-    }
+    )?;
     let n = read32(plan, 0);
     let s = read32(rules, 0);
     let k = read32(rules, LABEL_COUNT_AT);
@@ -171,9 +167,9 @@ pub fn fewest_changes(
     if plan_mark(plan, rules, n, s, k, work) == mark {
         *least = 0;
         *count = 0;
-        return 0;
+        return Ok(());
     }
     let c = write_plan(plan, rules, may, n, s, k, mark, work, nodes, labels, least);
     *count = c;
-    0
+    Ok(())
 }

@@ -17,3 +17,4 @@ pub mod InputLaws
 pub mod InputAnswers
 pub mod BufferLaws
 pub mod InputsLaws
+pub mod RefusalLaws

@@ -9,3 +9,4 @@ pub mod Buffers
 pub mod Inputs
 pub mod inner
 pub mod Passing
+pub mod Refusals

@@ -1,10 +1,12 @@
 // Branch tables: checks 6 to 9.
 ghost use Rattle.std.specs.Prelude.{◌≡◌, ◌*◌};
 ghost use Rattle.formats.specs.Checks.{first_no, branch_checks};
+ghost use Rattle.formats.specs.Refusals.{answer_number};
 ghost use Rattle.formats.specs.inner.InnerChecks.{Counts, Headed, BranchSized, Product, branch_shape, branch_values};
 
 use crate::bytes::read32;
 use crate::layout::{BRANCH_HEAD, LABEL_COUNT_AT};
+use crate::refusals::Refusal;
 use crate::rules::{all_below, counts_fit};
 
 // How many steps a branch table has.
@@ -43,22 +45,22 @@ fn branch_values(branch: &[u8], s: usize, k: usize) -> bool
 }
 
 // Checks 6 to 9. No product of S and K is made before check 7 has passed.
-pub fn check_branch_bytes(branch: &[u8]) -> u8
-    ensures { result ≡ first_no (branch_checks branch.now) }
+pub fn check_branch_bytes(branch: &[u8]) -> Result<(), Refusal>
+    ensures { answer_number result ≡ first_no (branch_checks branch.now) }
 {
     if branch.len() < BRANCH_HEAD {
-        return 6;
+        return Err(Refusal::TableShort);
     }
     let s = read32(branch, 0);
     let k = read32(branch, LABEL_COUNT_AT);
     if !counts_fit(s, k) {
-        return 7;
+        return Err(Refusal::TableCounts);
     }
     if !branch_shape(branch, s, k) {
-        return 8;
+        return Err(Refusal::TableLayout);
     }
     if !branch_values(branch, s, k) {
-        return 9;
+        return Err(Refusal::TableEntry);
     }
-    0
+    Ok(())
 }

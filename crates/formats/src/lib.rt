@@ -1,4 +1,5 @@
 // Plans, rule tables, branch tables and lists of changes as bytes: checks 2 to 14, and 17.
+//     refusals the refusals of all calls
 //     limits   the limits of document 01
 //     layout   lengths of headers, columns of the node table
 //     bytes    numbers in bytes
@@ -9,7 +10,7 @@
 //     lists    checks 12 to 14, and 15 as a test
 //     inputs   the checks of whole calls, 10 and 11 among them
 //     buffers  check 17
-// A check returns the number of the first test that fails, and 0 where none does.
+// A check fails with the refusal of the first test that fails.
 #![tactic(auto)]
 
 mod branch;
@@ -21,4 +22,5 @@ pub mod layout;
 pub mod limits;
 pub mod lists;
 pub mod plan;
+pub mod refusals;
 pub mod rules;

@@ -2,9 +2,11 @@
 ghost use Rattle.std.specs.Prelude.{◌≡◌};
 ghost use Rattle.list_laws.specs.Tests.{all_below, holds, distinct};
 ghost use Rattle.formats.specs.Checks.{first_no, list_checks};
+ghost use Rattle.formats.specs.Refusals.{answer_number};
 ghost use Rattle.formats.specs.inner.InnerChecks.{lists_fit};
 
 use crate::limits::CHANGE_LIMIT;
+use crate::refusals::Refusal;
 use crate::rules::all_below;
 
 // Check 12: both lists of one length, at most the limit.
@@ -62,17 +64,17 @@ pub fn all_distinct(nodes: &[u16]) -> bool
 }
 
 // Checks 12 to 14 for a plan of n nodes and a table of k labels.
-pub fn check_list(n: usize, k: usize, nodes: &[u16], labels: &[u8]) -> u8
-    ensures { result ≡ first_no (list_checks n k nodes.now labels.now) }
+pub fn check_list(n: usize, k: usize, nodes: &[u16], labels: &[u8]) -> Result<(), Refusal>
+    ensures { answer_number result ≡ first_no (list_checks n k nodes.now labels.now) }
 {
     if !lists_fit(nodes, labels) {
-        return 12;
+        return Err(Refusal::ListLength);
     }
     if !nodes_below(nodes, n) {
-        return 13;
+        return Err(Refusal::Node);
     }
     if !labels_below(labels, k) {
-        return 14;
+        return Err(Refusal::Label);
     }
-    0
+    Ok(())
 }

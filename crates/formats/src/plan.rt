@@ -2,11 +2,13 @@
 ghost use Rattle.std.specs.Prelude.{◌≡◌, ◌≤◌, length, drop};
 ghost use Rattle.trees.specs.Postorder.{is_postorder, is_single, waiting as trees_waiting};
 ghost use Rattle.formats.specs.Checks.{first_no, plan_checks};
+ghost use Rattle.formats.specs.Refusals.{answer_number};
 
 use crate::bytes::read32;
 use crate::eight::{are_kinds, eight_kinds, sums_so_far, trees_suffice};
 use crate::layout::PLAN_HEAD;
 use crate::limits::NODE_LIMIT;
+use crate::refusals::Refusal;
 
 // The same of the kinds from `from` on, where `waiting` trees wait before them.
 // A leaf is one tree more and an inner node one less; after either at least one waits. The count starts at the number of kinds, so
@@ -46,30 +48,30 @@ pub fn is_postorder(kinds: &[u8]) -> bool
 }
 
 // Checks 2 to 5. The kinds are the rest of the plan, where its length is exact.
-pub fn check_plan(plan: &[u8]) -> u8
-    ensures { result ≡ first_no (plan_checks plan.now) }
+pub fn check_plan(plan: &[u8]) -> Result<(), Refusal>
+    ensures { answer_number result ≡ first_no (plan_checks plan.now) }
 {
     if plan.len() < PLAN_HEAD {
-        return 2;
+        return Err(Refusal::PlanShort);
     }
     let n = read32(plan, 0);
     if n < 1 {
-        return 3;
+        return Err(Refusal::NodeCount);
     }
     if NODE_LIMIT < n {
-        return 3;
+        return Err(Refusal::NodeCount);
     }
     if read32(plan, 4) != PLAN_HEAD {
-        return 4;
+        return Err(Refusal::PlanLayout);
     }
     if read32(plan, 8) != PLAN_HEAD + n {
-        return 4;
+        return Err(Refusal::PlanLayout);
     }
     if plan.len() != PLAN_HEAD + 2 * n {
-        return 4;
+        return Err(Refusal::PlanLayout);
     }
     if !is_postorder(&plan[PLAN_HEAD + n..]) {
-        return 5;
+        return Err(Refusal::PlanTree);
     }
-    0
+    Ok(())
 }

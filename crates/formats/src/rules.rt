@@ -2,11 +2,13 @@
 ghost use Rattle.std.specs.Prelude.{◌≡◌, ◌+◌, ◌*◌, get_or};
 ghost use Rattle.list_laws.specs.Tests.{all_below};
 ghost use Rattle.formats.specs.Checks.{first_no, rule_checks};
+ghost use Rattle.formats.specs.Refusals.{answer_number};
 ghost use Rattle.formats.specs.inner.InnerChecks.{Counts, Headed, RuleSized, RuleArgs, Product, counts_fit, rule_shape, rule_values};
 
 use crate::bytes::read32;
 use crate::layout::{LABEL_COUNT_AT, RULES_HEAD};
 use crate::limits::{LABEL_LIMIT, STATE_LIMIT};
+use crate::refusals::Refusal;
 
 // Whether every byte is below the bound. There is no early exit: the loop can be done many bytes at a time.
 pub fn all_below(xs: &[u8], bound: u8) -> bool
@@ -85,22 +87,22 @@ fn rule_values(rules: &[u8], s: usize, k: usize) -> bool
 }
 
 // Checks 6 to 9. No product of S and K is made before check 7 has passed.
-pub fn check_rule_bytes(rules: &[u8]) -> u8
-    ensures { result ≡ first_no (rule_checks rules.now) }
+pub fn check_rule_bytes(rules: &[u8]) -> Result<(), Refusal>
+    ensures { answer_number result ≡ first_no (rule_checks rules.now) }
 {
     if rules.len() < RULES_HEAD {
-        return 6;
+        return Err(Refusal::TableShort);
     }
     let s = read32(rules, 0);
     let k = read32(rules, LABEL_COUNT_AT);
     if !counts_fit(s, k) {
-        return 7;
+        return Err(Refusal::TableCounts);
     }
     if !rule_shape(rules, s, k) {
-        return 8;
+        return Err(Refusal::TableLayout);
     }
     if !rule_values(rules, s, k) {
-        return 9;
+        return Err(Refusal::TableEntry);
     }
-    0
+    Ok(())
 }

@@ -1,5 +1,5 @@
 -- Deals one after the other, and a life of eight screens from its calls' promises.
-use Prim.Native.Nat.{ℕ, suc, ◌-◌, ◌≤◌}
+use Prim.Native.Nat.{ℕ, suc, ◌≤◌}
 use mathlib.Core.Path.{◌≡◌, sym, ap, ap₂, ◌∙◌}
 use mathlib.Core.List.{List}
 use native.Mathlib.Omega.{arith}
@@ -7,10 +7,11 @@ use lib.ListN.{replicate}
 use Rattle.formats.specs.Inputs.{Inputs}
 use Rattle.screens.specs.ScreenCalls.{ScreenAnswer, one, answer_in, start_on, cancel_on, read_on, deal}
 use Rattle.screens.specs.in_place.OnStructs.{deal_answer, answer_all, structs_all, ScreenDone}
-use Rattle.screens.specs.declared.in_place.DealAnswer.{DealAnswer}
-use Rattle.screens.specs.declared.in_place.DealAnswer.TheVariants.{More, Finished, Refused}
+use Rattle.std.specs.Prelude.{Result, Ok, Err}
+use Rattle.formats.specs.declared.refusals.Refusal.{Refusal}
+use Rattle.screens.specs.declared.in_place.Dealt.{Dealt as Told}
 use Rattle.session.specs.declared.state.Session.{Session}
-use Rattle.session.specs.declared.answers.ReadAnswer.{ReadAnswer}
+use Rattle.session.specs.declared.answers.Outcome.{Outcome}
 use Rattle.session.specs.Answers.{call_answer, start_answer, read_answer}
 use Rattle.probes.specs.declared.eight.StartedOn.{StartedOn}
 use Rattle.probes.specs.declared.eight.CalledOn.{CalledOn}
@@ -22,18 +23,14 @@ use Rattle.probes.specs.Probed.{parts_in, call_number, read_in}
 use Rattle.probes.specs.EightProbed.{next_in, dealt_all, dealt_next, both_started, parts_on, eight_from, eight_in}
 
 -- the screen to try first, by the answer
-module _ (a : DealAnswer) (n k : ℕ) where
-  pub next_more : a ≡ More n → n ≡ next_in (deal_answer a) k
+module _ (a : Result Told Refusal) (k : ℕ) where
+  pub next-told : (d : Told) → a ≡ Ok d → d.next ≡ next_in (deal_answer a) k
   unfolding next_in deal_answer
-  next_more e = sym (ap (λ (x : DealAnswer). next_in (deal_answer x) k) e)
+  next-told d e = sym (ap (λ (x : Result Told Refusal). next_in (deal_answer x) k) e)
 
-  pub next-finished : a ≡ Finished n → n ≡ next_in (deal_answer a) k
+  pub next-refused : (r : Refusal) → a ≡ Err r → k ≡ next_in (deal_answer a) k
   unfolding next_in deal_answer
-  next-finished e = sym (ap (λ (x : DealAnswer). next_in (deal_answer x) k) e)
-
-  pub next-refused : a ≡ Refused n → k ≡ next_in (deal_answer a) k
-  unfolding next_in deal_answer
-  next-refused e = sym (ap (λ (x : DealAnswer). next_in (deal_answer x) k) e)
+  next-refused r e = sym (ap (λ (x : Result Told Refusal). next_in (deal_answer x) k) e)
 
 -- one deal more
 module _ (x : Inputs) (u : List Session) (at left : ℕ) where
@@ -68,7 +65,7 @@ module _ (x : Inputs) (vs bs : List ℕ) (i j k c : ℕ) (s : Session)
     (q : StartedOn) (Q : ScreenDone p.all (start_on j x vs bs) (one (start_answer q.answer)) q.all)
     (d : Dealt) (D : d.all ≡ dealt_all c x k q.all) (N : d.next ≡ dealt_next c x k q.all)
     (e : CalledOn) (E : ScreenDone d.all (cancel_on j) (one (call_answer e.answer)) e.all)
-    (a : ReadAnswer) (R : one (read_answer a) ≡ answer_all e.all (read_on i)) where
+    (a : Result Outcome Refusal) (R : one (read_answer a) ≡ answer_all e.all (read_on i)) where
   abbrev ss : List Session
   ss = replicate 8 s
 

@@ -1,5 +1,5 @@
 -- What an answer in a known case holds, a session that is advanced once more, and a question from its calls' promises.
-use Prim.Native.Nat.{ℕ, suc, ◌-◌, ◌≤◌}
+use Prim.Native.Nat.{ℕ, suc, ◌≤◌}
 use mathlib.Core.Path.{◌≡◌, sym, ap, ap₂, ◌∙◌, subst}
 use mathlib.Core.List.{List}
 use native.Mathlib.Omega.{arith}
@@ -9,15 +9,12 @@ use Rattle.tables.specs.declared.answers.Climbed.TheVariants.{Reached as To, Out
 use Rattle.questions.specs.declared.roots.Rooted.{Rooted}
 use Rattle.formats.specs.Inputs.{Inputs}
 use Rattle.model.specs.Calls.{load, start, advance, cancel, read}
-use Rattle.session.specs.declared.answers.CallAnswer.{CallAnswer}
-use Rattle.session.specs.declared.answers.CallAnswer.TheVariants.{Accepted, Refused as NotDone}
+use Rattle.std.specs.Prelude.{Result, Ok, Err}
+use Rattle.formats.specs.Refusals.{refusal_number}
+use Rattle.formats.specs.declared.refusals.Refusal.{Refusal}
 use Rattle.session.specs.declared.answers.Called.{Called}
 use Rattle.session.specs.declared.answers.Started.{Started}
-use Rattle.session.specs.declared.answers.StartAnswer.{StartAnswer}
-use Rattle.session.specs.declared.answers.StartAnswer.TheVariants.{Parts, Refused as NotStarted}
 use Rattle.session.specs.declared.answers.Outcome.{Outcome}
-use Rattle.session.specs.declared.answers.ReadAnswer.{ReadAnswer}
-use Rattle.session.specs.declared.answers.ReadAnswer.TheVariants.{Outcome as Read, Refused as NotRead}
 use Rattle.session.specs.declared.state.Session.{Session}
 use Rattle.session.specs.Answers.{call_answer, start_answer, read_answer}
 use Rattle.session.specs.Records.{fresh_session}
@@ -39,22 +36,22 @@ part-reached x y z e f = ap part_in (sym e ∙ f)
 pub part-outside : (x y : Climbed) → x ≡ OutOfRange → x ≡ y → ◌≡◌ {A = Part} (record { state = 16; links = 0 }) (part_in y)
 part-outside x y e f = ap part_in (sym e ∙ f)
 
-pub parts-some : (t : StartAnswer) (p : ℕ) → t ≡ Parts p → p ≡ parts_in (start_answer t)
+pub parts-some : (t : Result ℕ Refusal) (p : ℕ) → t ≡ Ok p → p ≡ parts_in (start_answer t)
 unfolding parts_in start_answer
-parts-some t p e = sym (ap (λ (x : StartAnswer). parts_in (start_answer x)) e)
+parts-some t p e = sym (ap (λ (x : Result ℕ Refusal). parts_in (start_answer x)) e)
 
-pub parts_none : (t : StartAnswer) (n : ℕ) → t ≡ NotStarted n → 0 ≡ parts_in (start_answer t)
+pub parts_none : (t : Result ℕ Refusal) (n : Refusal) → t ≡ Err n → 0 ≡ parts_in (start_answer t)
 unfolding parts_in start_answer
-parts_none t n e = sym (ap (λ (x : StartAnswer). parts_in (start_answer x)) e)
+parts_none t n e = sym (ap (λ (x : Result ℕ Refusal). parts_in (start_answer x)) e)
 
-pub read_some : (a : ReadAnswer) (o : Outcome) → a ≡ Read o
+pub read_some : (a : Result Outcome Refusal) (o : Outcome) → a ≡ Ok o
     → ◌≡◌ {A = Question} (record { state = o.state; yes = o.yes; parts = o.parts; links = o.links }) (read_in (read_answer a))
 unfolding read_in read_answer
-read_some a o e = sym (ap (λ (x : ReadAnswer). read_in (read_answer x)) e)
+read_some a o e = sym (ap (λ (x : Result Outcome Refusal). read_in (read_answer x)) e)
 
-pub read_none : (a : ReadAnswer) (n : ℕ) → a ≡ NotRead n → nothing_in ≡ read_in (read_answer a)
+pub read_none : (a : Result Outcome Refusal) (n : Refusal) → a ≡ Err n → nothing_in ≡ read_in (read_answer a)
 unfolding read_in read_answer
-read_none a n e = sym (ap (λ (x : ReadAnswer). read_in (read_answer x)) e)
+read_none a n e = sym (ap (λ (x : Result Outcome Refusal). read_in (read_answer x)) e)
 
 module _ (x : Inputs) (u end : Session) (left : ℕ) (o : advanced left x u ≡ end) where
   pub once_more : (r : Session) (next : ℕ) → suc next ≡ left → r ≡ record_on u (advance x) → advanced next x r ≡ end
@@ -89,7 +86,7 @@ module _ (x : Inputs) (vs bs : List ℕ) (s before : Session) (o : Started) (is 
   unfolding steps_in
   steps-answer i p end e f = ap₂ steps_of (parts_are p e) (ap (λ (z : Session). z.head.links) (ends_at i end f))
 
-  pub question-answer : (p : ℕ) (end : Session) (a : ReadAnswer) (r : Question) → p ≡ parts_in (start_answer o.answer)
+  pub question-answer : (p : ℕ) (end : Session) (a : Result Outcome Refusal) (r : Question) → p ≡ parts_in (start_answer o.answer)
       → end ≡ advanced p x o.session
       → read_answer a ≡ answer_on end read → r ≡ read_in (read_answer a) → r ≡ question_in x vs bs s
   unfolding question_in
@@ -99,13 +96,13 @@ module _ (x : Inputs) (vs bs : List ℕ) (s before : Session) (o : Started) (is 
 
 -- ---- a life
 
-pub number-none : (a : CallAnswer) → a ≡ Accepted → 0 ≡ call_number (call_answer a)
+pub number-none : (a : Result Unit Refusal) (u : Unit) → a ≡ Ok u → 0 ≡ call_number (call_answer a)
 unfolding call_number call_answer
-number-none a e = sym (ap (λ (x : CallAnswer). call_number (call_answer x)) e)
+number-none a u e = sym (ap (λ (x : Result Unit Refusal). call_number (call_answer x)) e)
 
-pub number-some : (a : CallAnswer) (n : ℕ) → a ≡ NotDone n → n ≡ call_number (call_answer a)
+pub number-some : (a : Result Unit Refusal) (r : Refusal) (n : ℕ) → a ≡ Err r → n ≡ refusal_number r → n ≡ call_number (call_answer a)
 unfolding call_number call_answer
-number-some a n e = sym (ap (λ (x : CallAnswer). call_number (call_answer x)) e)
+number-some a r n e f = f ∙ sym (ap (λ (x : Result Unit Refusal). call_number (call_answer x)) e)
 
 module _ (x y : Inputs) (vs bs : List ℕ) (f : Session) (is : f ≡ fresh_session)
     (o : Called) (node_table' state_table' : List ℕ) (L : LoadDone f x (call_answer o.answer) o.session node_table' state_table')

@@ -10,26 +10,26 @@ ghost use Rattle.probes.specs.Probed.{loaded_with};
 ghost use Rattle.probes.specs.EightProbed.{next_in, dealt_all, dealt_next, eight_in};
 
 use crate::whole::{Question, call_number, loaded, parts_in, read_in};
-use screens::in_place::DealAnswer;
-use session::answers::{CallAnswer, ReadAnswer, StartAnswer};
+use formats::refusals::Refusal;
+use session::answers::Outcome;
 use session::state::Session;
 
 // An answer to Start, to Cancel and to a deal, with the eight records that it leaves.
 #[derive(Clone, Copy)]
 pub struct StartedOn {
-    pub answer: StartAnswer,
+    pub answer: Result<u8, Refusal>,
     pub all: [Session; 8],
 }
 
 #[derive(Clone, Copy)]
 pub struct CalledOn {
-    pub answer: CallAnswer,
+    pub answer: Result<(), Refusal>,
     pub all: [Session; 8],
 }
 
 #[derive(Clone, Copy)]
 pub struct DealtOn {
-    pub answer: DealAnswer,
+    pub answer: Result<screens::in_place::Dealt, Refusal>,
     pub all: [Session; 8],
 }
 
@@ -93,26 +93,19 @@ pub fn deal_on(
 }
 
 // Read of one screen.
-pub fn read_on(all: [Session; 8], screen: usize) -> ReadAnswer
+pub fn read_on(all: [Session; 8], screen: usize) -> Result<Outcome, Refusal>
     ensures { screens.one (read_answer result) ≡ answer_all all (screens.read_on screen) }
 {
     screens::in_place::read(&all, screen)
 }
 
 // The screen to try first after a deal that began with first; that one again where it is refused.
-fn next_after(answer: DealAnswer, first: usize) -> usize
+fn next_after(answer: Result<screens::in_place::Dealt, Refusal>, first: usize) -> usize
     ensures { result ≡ next_in (deal_answer answer) first }
 {
     match answer {
-        DealAnswer::More(next) => {
-            return next as usize;
-        }
-        DealAnswer::Finished(next) => {
-            return next as usize;
-        }
-        DealAnswer::Refused(n) => {
-            return first;
-        }
+        Ok(dealt) => dealt.next as usize,
+        Err(_) => first,
     }
 }
 

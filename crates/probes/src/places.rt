@@ -7,7 +7,8 @@ ghost use Rattle.session.specs.Answers.{call_answer, start_answer, advance_answe
 ghost use Rattle.session.specs.Promises.{CallDone, LoadDone, answer_on};
 ghost use Rattle.formats.specs.Inputs.{inputs_of};
 
-use session::answers::{Advanced, Called, ReadAnswer, Started};
+use formats::refusals::Refusal;
+use session::answers::{Advanced, Called, Outcome, Started};
 use session::state::Session;
 
 // Load.
@@ -82,7 +83,7 @@ pub fn cancel_at(s: Session) -> Called
 }
 
 // Read.
-pub fn read_at(s: Session) -> ReadAnswer
+pub fn read_at(s: Session) -> Result<Outcome, Refusal>
     ensures { read_answer result ≡ answer_on s calls.read }
 {
     session::in_place::read(&s)

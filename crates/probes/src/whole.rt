@@ -5,7 +5,8 @@ ghost use Rattle.formats.specs.Inputs.{inputs_of};
 ghost use Rattle.probes.specs.Probed.{loaded_with, parts_in, advanced, steps_in, read_in, question_in, call_number, life_in};
 
 use crate::places::{advance_at, cancel_at, load_at, read_at, start_at};
-use session::answers::{CallAnswer, ReadAnswer, StartAnswer};
+use formats::refusals::Refusal;
+use session::answers::Outcome;
 use session::state::{Phase, Session, Sizes, idle, no_last};
 
 // A question's parts, and its links so far.
@@ -36,16 +37,12 @@ pub fn loaded(n: u16, s: u8, k: u8) -> Session
 }
 
 // The number of parts that Start returns; 0 where it is refused.
-pub fn parts_in(answer: StartAnswer) -> u32
+pub fn parts_in(answer: Result<u8, Refusal>) -> u32
     ensures { result ≡ parts_in (start_answer answer) }
 {
     match answer {
-        StartAnswer::Parts(p) => {
-            return p as u32;
-        }
-        StartAnswer::Refused(n) => {
-            return 0;
-        }
+        Ok(p) => p as u32,
+        Err(_) => 0,
     }
 }
 
@@ -99,26 +96,22 @@ pub fn probe_steps(
 }
 
 // What Read returns; state 16 where it is refused.
-pub fn read_in(answer: ReadAnswer) -> Question
+pub fn read_in(answer: Result<Outcome, Refusal>) -> Question
     ensures { result ≡ read_in (read_answer answer) }
 {
     match answer {
-        ReadAnswer::Outcome(o) => {
-            return Question {
-                state: o.state as u32,
-                yes: o.yes,
-                parts: o.parts as u32,
-                links: o.links,
-            };
-        }
-        ReadAnswer::Refused(n) => {
-            return Question {
-                state: 16,
-                yes: false,
-                parts: 0,
-                links: 0,
-            };
-        }
+        Ok(o) => Question {
+            state: o.state as u32,
+            yes: o.yes,
+            parts: o.parts as u32,
+            links: o.links,
+        },
+        Err(_) => Question {
+            state: 16,
+            yes: false,
+            parts: 0,
+            links: 0,
+        },
     }
 }
 
@@ -176,16 +169,12 @@ pub struct Life {
 }
 
 // The number of an answer to Load or Cancel: 0 where it is accepted.
-pub fn call_number(answer: CallAnswer) -> u32
+pub fn call_number(answer: Result<(), Refusal>) -> u32
     ensures { result ≡ call_number (call_answer answer) }
 {
     match answer {
-        CallAnswer::Accepted => {
-            return 0;
-        }
-        CallAnswer::Refused(n) => {
-            return n as u32;
-        }
+        Ok(()) => 0,
+        Err(refusal) => refusal.number() as u32,
     }
 }
 

@@ -4,7 +4,7 @@
 // When two rule tables agree and what the lines mean is defined in specs/agreement; the search is in reachable.
 pub mod reachable;
 
-ghost use Rattle.std.specs.Prelude.{◌≡◌, []};
+ghost use Rattle.std.specs.Prelude.{◌≡◌};
 ghost use Rattle.products.specs.agreement.reachable.SearchRecord.{lines_to};
 ghost use Rattle.products.specs.agreement.Reply.{reply_of, shown_reply, FrontArgs, Front, CutArgs, AnswerArgs, AgreeDone};
 
@@ -13,32 +13,18 @@ use crate::agreement::reachable::{
 };
 use formats::bytes::read32;
 use formats::layout::{LABEL_COUNT_AT, RULES_HEAD};
+use formats::refusals::Refusal;
 use formats::rules::{check_rule_bytes, inner_count};
 
-// The number of a refusal, or 0; how many lines are shown, 0 where the tables agree; the lines. Line i is a leaf (kind 0) with label
-// labels[i], or an inner node (kind 1) over the earlier lines lefts[i] and rights[i]; the last line is the root. What no line uses is 0.
+// How many lines are shown, 0 where the tables agree; the lines. Line i is a leaf (kind 0) with label labels[i], or an inner node
+// (kind 1) over the earlier lines lefts[i] and rights[i]; the last line is the root. What no line uses is 0.
 #[derive(Clone, Copy)]
 pub struct Agreement {
-    pub number: u8,
     pub count: usize,
     pub kinds: [u8; PAIR_LIMIT],
     pub labels: [u8; PAIR_LIMIT],
     pub lefts: [u8; PAIR_LIMIT],
     pub rights: [u8; PAIR_LIMIT],
-}
-
-// A refusal.
-fn refused(number: u8) -> Agreement
-    ensures { result ≡ reply_of number [] }
-{
-    Agreement {
-        number: number,
-        count: 0,
-        kinds: [0u8; PAIR_LIMIT],
-        labels: [0u8; PAIR_LIMIT],
-        lefts: [0u8; PAIR_LIMIT],
-        rights: [0u8; PAIR_LIMIT],
-    }
 }
 
 // The first n entries, then zeros.
@@ -54,10 +40,9 @@ fn front(a: &[u8; PAIR_LIMIT], n: usize) -> [u8; PAIR_LIMIT]
 // The first n lines that were found.
 fn cut(t: &Search, s1: usize, s2: usize, n: usize) -> Agreement
     requires { CutArgs s1 s2 t.now n }
-    ensures { result ≡ reply_of 0 (lines_to t.now n) }
+    ensures { result ≡ reply_of (lines_to t.now n) }
 {
     Agreement {
-        number: 0,
         count: n,
         kinds: front(&t.kinds, n),
         labels: front(&t.labels, n),
@@ -69,7 +54,7 @@ fn cut(t: &Search, s1: usize, s2: usize, n: usize) -> Agreement
 // The reply for two tables that pass their checks.
 fn answered(first: &[u8], second: &[u8], s1: usize, s2: usize, k: usize) -> Agreement
     requires { AnswerArgs first.now second.now s1 s2 k }
-    ensures { result ≡ reply_of 0 (shown_reply first.now second.now) }
+    ensures { result ≡ reply_of (shown_reply first.now second.now) }
 {
     let i = RULES_HEAD + k;
     let m1 = i + inner_count(s1, k);
@@ -91,20 +76,14 @@ fn answered(first: &[u8], second: &[u8], s1: usize, s2: usize, k: usize) -> Agre
 }
 
 // Whether two rule tables agree: 6 to 9 for each in turn, then 23.
-pub fn agree(first: &[u8], second: &[u8]) -> Agreement
+pub fn agree(first: &[u8], second: &[u8]) -> Result<Agreement, Refusal>
     ensures { AgreeDone first.now second.now result }
 {
-    let n1 = check_rule_bytes(first);
-    if n1 != 0 {
-        return refused(n1);
-    }
-    let n2 = check_rule_bytes(second);
-    if n2 != 0 {
-        return refused(n2);
-    }
+    check_rule_bytes(first)?;
+    check_rule_bytes(second)?;
     let k = read32(first, LABEL_COUNT_AT);
     if read32(second, LABEL_COUNT_AT) != k {
-        return refused(23);
+        return Err(Refusal::LabelCounts);
     }
-    answered(first, second, read32(first, 0), read32(second, 0), k)
+    Ok(answered(first, second, read32(first, 0), read32(second, 0), k))
 }

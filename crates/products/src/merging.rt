@@ -1,7 +1,6 @@
 // Two rule tables merged into one (document 02, S-6).
-//     MergeAnswer   what merge answers
-//     put_*         the parts of the merged table, each written at its place
-//     merge         the call
+//     put_*   the parts of the merged table, each written at its place
+//     merge   the call
 // Tables are handed on by their runs: leaf states, inner states or marks.
 ghost use Rattle.std.specs.Prelude.{◌≡◌, ◌+◌, ◌*◌, ◌<◌, length, get_or};
 ghost use Rattle.list_laws.specs.Rows.{tabulate};
@@ -14,14 +13,8 @@ ghost use Rattle.products.specs.merging.Answer.{MergeDone};
 use formats::bytes::read32;
 use formats::layout::{LABEL_COUNT_AT, RULES_HEAD};
 use formats::limits::STATE_LIMIT;
+use formats::refusals::Refusal;
 use formats::rules::{check_rule_bytes, inner_count};
-
-// Written, or the number of a refusal.
-#[derive(Clone, Copy)]
-pub enum MergeAnswer {
-    Merged,
-    Refused(u8),
-}
 
 // The 32-bit little-endian number n, from byte `at` on.
 fn put32(out: &mut [u8], at: usize, n: usize)
@@ -157,30 +150,24 @@ fn put_table(first: &[u8], second: &[u8], s1: usize, s2: usize, k: usize, out: &
 }
 
 // One table that clears exactly the plans that both clear: 6 to 9 for each table in turn, then 23, 24, 11.
-pub fn merge(first: &[u8], second: &[u8], out: &mut [u8]) -> MergeAnswer
+pub fn merge(first: &[u8], second: &[u8], out: &mut [u8]) -> Result<(), Refusal>
     ensures { MergeDone first.now second.now out.old result out.new }
 {
-    let n1 = check_rule_bytes(first);
-    if n1 != 0 {
-        return MergeAnswer::Refused(n1);
-    }
-    let n2 = check_rule_bytes(second);
-    if n2 != 0 {
-        return MergeAnswer::Refused(n2);
-    }
+    check_rule_bytes(first)?;
+    check_rule_bytes(second)?;
     let k = read32(first, LABEL_COUNT_AT);
     if read32(second, LABEL_COUNT_AT) != k {
-        return MergeAnswer::Refused(23);
+        return Err(Refusal::LabelCounts);
     }
     let s1 = read32(first, 0);
     let s2 = read32(second, 0);
     let s = s1 * s2;
     if STATE_LIMIT < s {
-        return MergeAnswer::Refused(24);
+        return Err(Refusal::StateProduct);
     }
     if out.len() < RULES_HEAD + k + inner_count(s, k) + s {
-        return MergeAnswer::Refused(11);
+        return Err(Refusal::BufferShort);
     }
     put_table(first, second, s1, s2, k, out);
-    MergeAnswer::Merged
+    Ok(())
 }

@@ -24,8 +24,9 @@ use Rattle.formats.specs.Rules.{label_count, rule_automaton}
 use Rattle.formats.specs.Checks.{Check, first_no, list_checks, rule_table_checks, fresh_run_checks}
 use Rattle.list_laws.proofs.BoolLaws.{true-false}
 use Rattle.list_laws.proofs.TestLaws.{distinct_head, distinct_tail}
-use Rattle.runs.specs.declared.answer.Running.TheVariants.{Ended}
-use Rattle.runs.specs.FreshRun.{run_answer, root_state, root_accepted, fresh_run}
+use Rattle.formats.specs.Refusals.{told_as}
+use Rattle.runs.specs.declared.answer.Verdict.{Verdict}
+use Rattle.runs.specs.FreshRun.{root_state, root_accepted, verdict, fresh_run}
 
 -- ---- tests that do not depend on the order
 
@@ -181,10 +182,9 @@ append-same [] ys zs e = e
 append-same (x ∷ xs) ys zs e = ap (λ (n : ℕ). cond x.passes n x.number) (append-same xs ys zs e)
 
 -- only an answer that is no refusal looks at the run
-answer-same : (n q q' : ℕ) (t t' : Bool) → (n ≡ 0 → (q ≡ q') × (t ≡ t')) → run_answer n q t ≡ run_answer n q' t'
-unfolding run_answer
-answer-same zero q q' t t' f = ap₂ (λ (x : ℕ) (y : Bool). Ended x y) (f refl).0 (f refl).1
-answer-same (suc n) q q' t t' f = refl
+answer-same : (n : ℕ) (v v' : Verdict) → (n ≡ 0 → v ≡ v') → told_as n v ≡ told_as n v'
+answer-same zero v v' f = ap (told_as 0) (f refl)
+answer-same (suc n) v v' f = refl
 
 module _ (p r vs bs ws cs : List ℕ) (g : length vs ≡ length bs) (h : length ws ≡ length cs)
     (d : Permᴰ (zip vs bs) (zip ws cs)) where
@@ -206,6 +206,6 @@ module _ (p r vs bs ws cs : List ℕ) (g : length vs ≡ length bs) (h : length 
   pub fresh_run-order : distinct vs ≡ true → fresh_run p r vs bs ≡ fresh_run p r ws cs
   unfolding fresh_run
   fresh_run-order u =
-      ap (λ (n : ℕ). run_answer n (root_state p r vs bs) (root_accepted p r vs bs)) checks-order
-      ∙ answer-same (first_no (fresh_run_checks p r ws cs)) (root_state p r vs bs) (root_state p r ws cs)
-      (root_accepted p r vs bs) (root_accepted p r ws cs) (λ e. roots-order u)
+      ap (λ (n : ℕ). told_as n (verdict p r vs bs)) checks-order
+      ∙ answer-same (first_no (fresh_run_checks p r ws cs)) (verdict p r vs bs) (verdict p r ws cs)
+      (λ e. ap₂ (λ (q : ℕ) (t : Bool). record { state = q; accepted = t }) (roots-order u).0 (roots-order u).1)

@@ -27,10 +27,13 @@ use Rattle.formats.specs.Passing.{PlanPasses}
 use Rattle.formats.proofs.RuleLaws.{RulesPass, length-leaf_states, length-inner_states, leaf-state-below}
 use Rattle.formats.proofs.RuleLaws.{inner-state-below, leaves-part, inner-part}
 use Rattle.formats.proofs.InputLaws.{ListPasses, fresh-run-passes, label_below}
-use Rattle.runs.specs.declared.answer.Running.{Running}
-use Rattle.runs.specs.declared.answer.Running.TheVariants.{Ended, Refused}
+use Rattle.std.specs.Prelude.{Result, Ok, Err, IsErrAnd}
+use Rattle.formats.specs.declared.refusals.Refusal.{Refusal}
+use Rattle.formats.specs.Refusals.{refusal_number, told}
+use Rattle.formats.proofs.RefusalLaws.{told-number, told-refused, told-answered}
+use Rattle.runs.specs.declared.answer.Verdict.{Verdict}
 use Rattle.runs.specs.inner.Pass.{PassArgs, PassDone, RunArgs}
-use Rattle.runs.specs.FreshRun.{running_number, run_answer, changed_tree, root_state, root_accepted, fresh_run, FreshRunDone}
+use Rattle.runs.specs.FreshRun.{changed_tree, root_state, root_accepted, verdict, fresh_run, FreshRunDone}
 
 abbrev Passes : List ℕ → List ℕ → List ℕ → List ℕ → Type 0
 Passes p r vs bs =
@@ -70,10 +73,6 @@ module _ (p r vs bs : List ℕ) (e : first_no (fresh_run_checks p r vs bs) ≡ 0
   root_below =
       state_below (rule_automaton r) (state_count r) pass-args.leaf_below (λ u a q. pass-args.inner_below _)
       (changed_tree p vs bs)
-
-  pub fresh_run-passed : fresh_run p r vs bs ≡ Ended (root_state p r vs bs) (root_accepted p r vs bs)
-  unfolding fresh_run run_answer
-  fresh_run-passed = ap (λ (n : ℕ). run_answer n (root_state p r vs bs) (root_accepted p r vs bs)) e
 
   pub run-args : RunArgs p r vs bs (node_count p) (state_count r) (label_count r)
   run-args =
@@ -141,33 +140,28 @@ module _ {p r vs bs : List ℕ} {n s k : ℕ} (a : RunArgs p r vs bs n s k) wher
     pub root_in : q < s
     root_in = rw (root_is, a.states_are) (root_below p r vs bs a.passed)
 
-    pub result-is : Ended q (eqb (get_or r (20 + k + s * k * s + q) 0) 1) ≡ fresh_run p r vs bs
+    pub result-is : ◌≡◌ {A = Verdict} (record { state = q; accepted = eqb (get_or r (20 + k + s * k * s + q) 0) 1 }) (verdict p r vs bs)
     result-is =
         let l : q < state_count r = omega (arith, root_in, a.states_are) in
         let at : 20 + k + s * k * s + q ≡ 20 + label_count r + state_count r * label_count r * state_count r + q =
         ap₂ (λ (i j : ℕ). 20 + j + i * j * i + q) a.states_are a.labels_are in
-        ap (λ (x : ℕ). Ended q (eqb x 1)) (ap (λ (i : ℕ). get_or r i 0) at ∙ mark-at r q l)
-        ∙ ap (λ (x : ℕ). Ended x (eqb (get_or (rule_marks r) x 0) 1)) root_is
-        ∙ sym (fresh_run-passed p r vs bs a.passed)
+        ap (λ (x : ℕ). record { state = q; accepted = eqb x 1 }) (ap (λ (i : ℕ). get_or r i 0) at ∙ mark-at r q l)
+        ∙ ap (λ (x : ℕ). record { state = x; accepted = eqb (get_or (rule_marks r) x 0) 1 }) root_is
 
 -- ---- the promise
 
-pub number-answer : (n q : ℕ) (accepted : Bool) → running_number (run_answer n q accepted) ≡ n
-unfolding running_number run_answer
-number-answer zero q accepted = refl
-number-answer (suc n) q accepted = refl
-
-answer-refused : (n q : ℕ) (accepted : Bool) → (n ≡ 0 → ⊥) → run_answer n q accepted ≡ Refused n
-unfolding run_answer
-answer-refused zero q accepted h = absurd (h refl)
-answer-refused (suc n) q accepted h = refl
-
 module _ (p r vs bs : List ℕ) where
-  pub done-answer : {x : Running} → x ≡ fresh_run p r vs bs → FreshRunDone p r vs bs x
+  done : (a : Result Verdict Refusal) → told a ≡ fresh_run p r vs bs → FreshRunDone p r vs bs a
   unfolding fresh_run
-  done-answer e = record { result = e; number = ap running_number e ∙ number-answer (first_no (fresh_run_checks p r vs bs)) _ _ }
+  done a e = record { result = e; number = told-number a _ _ e }
 
-  pub done_refused : {n : ℕ} → n ≡ first_no (fresh_run_checks p r vs bs) → (n ≡ 0 → ⊥) → FreshRunDone p r vs bs (Refused n)
+  pub done-answer : (v : Verdict) → 0 ≡ first_no (fresh_run_checks p r vs bs) → v ≡ verdict p r vs bs → FreshRunDone p r vs bs (Ok v)
   unfolding fresh_run
-  done_refused e h =
-      done-answer (ap Refused e ∙ sym (answer-refused (first_no (fresh_run_checks p r vs bs)) _ _ (λ z. h (e ∙ z))))
+  done-answer v z e = done (Ok v) (rw e (told-answered _ _ (sym z)))
+
+  -- a is what `?` hands on of a check's refusal x
+  pub done-refused : (x : Refusal) (a : Result Verdict Refusal) → IsErrAnd a (λ e. e ≡ x)
+      → refusal_number x ≡ first_no (fresh_run_checks p r vs bs) → FreshRunDone p r vs bs a
+  unfolding fresh_run
+  done-refused x (Ok v) h e = absurd h
+  done-refused x (Err y) h e = done (Err y) (told-refused y _ _ (ap refusal_number h ∙ e))

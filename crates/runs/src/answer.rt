@@ -1,6 +1,6 @@
-// The answer of a fresh run: the root's state and whether it is accepted, or the number of the first check that failed.
+// What a fresh run ends in: the root's state and whether it is accepted.
 #[derive(Clone, Copy)]
-pub enum Running {
-    Ended(u8, bool),
-    Refused(u8),
+pub struct Verdict {
+    pub state: u8,
+    pub accepted: bool,
 }

@@ -1,12 +1,13 @@
 ghost use Rattle.std.specs.Prelude.{◌≡◌};
 ghost use Rattle.runs.specs.inner.Pass.{RunArgs};
-ghost use Rattle.runs.specs.FreshRun.{fresh_run, FreshRunDone};
+ghost use Rattle.runs.specs.FreshRun.{verdict, FreshRunDone};
 
-use crate::answer::Running;
+use crate::answer::Verdict;
 use crate::pass::pass;
 use formats::bytes::read32;
 use formats::inputs::check_fresh_run;
 use formats::layout::{LABEL_COUNT_AT, PLAN_HEAD, RULES_HEAD};
+use formats::refusals::Refusal;
 
 // The run over plan, rules and list that pass their checks. Labels, kinds and states are handed on as parts of the
 // inputs, never copied.
@@ -18,9 +19,9 @@ fn run_passed(
     n: usize,
     s: usize,
     k: usize,
-) -> Running
+) -> Verdict
     requires { RunArgs plan.now rules.now nodes.now labels.now n s k }
-    ensures { result ≡ fresh_run plan.now rules.now nodes.now labels.now }
+    ensures { result ≡ verdict plan.now rules.now nodes.now labels.now }
 {
     let marks = RULES_HEAD + k + s * k * s;
     let q = pass(
@@ -33,20 +34,25 @@ fn run_passed(
         s,
         k,
     );
-    Running::Ended(q, rules[marks + q as usize] == 1)
+    Verdict {
+        state: q,
+        accepted: rules[marks + q as usize] == 1,
+    }
 }
 
 // A fresh run without tables: of the rules over the plan with the listed labels changed. It returns the root's state
-// and yes or no, or the number of the first check that fails, of 2 to 10 and 12 to 14.
-pub fn fresh_run(plan: &[u8], rules: &[u8], nodes: &[u16], labels: &[u8]) -> Running
+// and yes or no, or the first refusal of 2 to 10 and 12 to 14.
+pub fn fresh_run(
+    plan: &[u8],
+    rules: &[u8],
+    nodes: &[u16],
+    labels: &[u8],
+) -> Result<Verdict, Refusal>
     ensures { FreshRunDone plan.now rules.now nodes.now labels.now result }
 {
-    let no = check_fresh_run(plan, rules, nodes, labels);
-    if no != 0 {
-        return Running::Refused(no);
-    }
+    check_fresh_run(plan, rules, nodes, labels)?;
     let n = read32(plan, 0);
     let s = read32(rules, 0);
     let k = read32(rules, LABEL_COUNT_AT);
-    run_passed(plan, rules, nodes, labels, n, s, k)
+    Ok(run_passed(plan, rules, nodes, labels, n, s, k))
 }

@@ -2,7 +2,7 @@
 --     found-beyond, found_here, found-on, found_nothing    its ways out, and one iteration
 --     found-next    what is found from a number up to 7 on
 --     found_none, found_turn    whose a deal is, from what was found: nobody's, or that screen's turn
-use Prim.Native.Nat.{ℕ, zero, suc, ◌-◌, ◌<◌, ◌≤◌}
+use Prim.Native.Nat.{ℕ, zero, suc, ◌<◌, ◌≤◌}
 use mathlib.Core.Path.{◌≡◌, refl, sym, ◌∙◌, ap}
 use mathlib.Core.Bool.{true, false}
 use mathlib.Core.Option.{Option, none, some}

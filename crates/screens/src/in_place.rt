@@ -12,15 +12,15 @@ ghost use Rattle.session.specs.Answers.{advance_answer, call_answer, start_answe
 ghost use Rattle.screens.specs.in_place.OnStructs.{runs_in, deal_answer, answer_all, ScreenDone};
 
 use crate::{LAST_SCREEN, SCREENS, one_past};
-use session::answers::{AdvanceAnswer, CallAnswer, ReadAnswer, StartAnswer};
+use formats::refusals::Refusal;
+use session::answers::{Outcome, Progress};
 use session::state::{Phase, Session};
 
-// A deal: more or finished, with the screen to try first next time; or a refusal's number.
+// What a deal tells: whether there is more on the screen served, and the screen to try first next time.
 #[derive(Clone, Copy)]
-pub enum DealAnswer {
-    More(u8),
-    Finished(u8),
-    Refused(u8),
+pub struct Dealt {
+    pub progress: Progress,
+    pub next: u8,
 }
 
 // Whether a screen in this state runs.
@@ -61,15 +61,12 @@ fn next_running(
 }
 
 // The answer of a deal, from that of the advance of screen i.
-fn deal_answer(answer: AdvanceAnswer, i: usize) -> DealAnswer
+fn deal_answer(answer: Result<Progress, Refusal>, i: usize) -> Result<Dealt, Refusal>
     ensures { deal_answer result ≡ turn_answer i (advance_answer answer) }
 {
+    let progress = answer?;
     let next = one_past(i) as u8;
-    match answer {
-        AdvanceAnswer::More => DealAnswer::More(next),
-        AdvanceAnswer::Finished => DealAnswer::Finished(next),
-        AdvanceAnswer::Refused(n) => DealAnswer::Refused(n),
-    }
+    Ok(Dealt { progress, next })
 }
 
 // Gives one advance to the next running screen.
@@ -80,17 +77,17 @@ pub fn deal(
     rules: &[u8],
     node_table: &[u16],
     state_table: &[u8],
-) -> DealAnswer
+) -> Result<Dealt, Refusal>
     ensures { ScreenDone all.old
         (screens.deal first
         (inputs_of plan.now rules.now node_table.now state_table.now))
         (deal_answer result) all.new }
 {
     if all.len() != SCREENS {
-        return DealAnswer::Refused(25);
+        return Err(Refusal::Screen);
     }
     if first > LAST_SCREEN {
-        return DealAnswer::Refused(25);
+        return Err(Refusal::Screen);
     }
     let at = next_running(
         all[0].head.phase,
@@ -104,7 +101,7 @@ pub fn deal(
         first,
     );
     if at > LAST_SCREEN {
-        return DealAnswer::Refused(1);
+        return Err(Refusal::SessionState);
     }
     let old = all[at];
     let out = old.advance(plan, rules, node_table, state_table);
@@ -122,7 +119,7 @@ pub fn start(
     state_table: &[u8],
     nodes: &[u16],
     labels: &[u8],
-) -> StartAnswer
+) -> Result<u8, Refusal>
     ensures { ScreenDone all.old
         (screens.start_on screen
         (inputs_of plan.now rules.now node_table.now state_table.now)
@@ -130,10 +127,10 @@ pub fn start(
         (screens.one (start_answer result)) all.new }
 {
     if all.len() != SCREENS {
-        return StartAnswer::Refused(25);
+        return Err(Refusal::Screen);
     }
     if screen > LAST_SCREEN {
-        return StartAnswer::Refused(25);
+        return Err(Refusal::Screen);
     }
     let old = all[screen];
     let out = old.start(plan, rules, node_table, state_table, nodes, labels);
@@ -142,14 +139,14 @@ pub fn start(
 }
 
 // Ends the question of one screen.
-pub fn cancel(all: &mut [Session], screen: usize) -> CallAnswer
+pub fn cancel(all: &mut [Session], screen: usize) -> Result<(), Refusal>
     ensures { ScreenDone all.old (screens.cancel_on screen) (screens.one (call_answer result)) all.new }
 {
     if all.len() != SCREENS {
-        return CallAnswer::Refused(25);
+        return Err(Refusal::Screen);
     }
     if screen > LAST_SCREEN {
-        return CallAnswer::Refused(25);
+        return Err(Refusal::Screen);
     }
     let old = all[screen];
     let out = old.cancel();
@@ -158,14 +155,14 @@ pub fn cancel(all: &mut [Session], screen: usize) -> CallAnswer
 }
 
 // Returns the last finished answer of one screen.
-pub fn read(all: &[Session], screen: usize) -> ReadAnswer
+pub fn read(all: &[Session], screen: usize) -> Result<Outcome, Refusal>
     ensures { screens.one (read_answer result) ≡ answer_all all.now (screens.read_on screen) }
 {
     if all.len() != SCREENS {
-        return ReadAnswer::Refused(25);
+        return Err(Refusal::Screen);
     }
     if screen > LAST_SCREEN {
-        return ReadAnswer::Refused(25);
+        return Err(Refusal::Screen);
     }
     let rec = all[screen];
     rec.read()

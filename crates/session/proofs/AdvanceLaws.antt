@@ -32,10 +32,14 @@ use Rattle.model.specs.Calls.{Call, advance, is_running}
 use Rattle.model.specs.Refusals.{refusal}
 use Rattle.model.specs.Model.{Acted, acted, last_then, stepped, advance_with, part_next, proceeds}
 use Rattle.questions.specs.PartInputs.{view_by}
+use Rattle.std.specs.Prelude.{Result, Ok, Err}
+use Rattle.formats.specs.declared.refusals.Refusal.{Refusal}
+use Rattle.formats.specs.declared.refusals.Refusal.TheVariants.{SessionState, LentLength, LentValue}
+use Rattle.session.specs.declared.answers.Progress.{Progress}
+use Rattle.session.specs.declared.answers.Progress.TheVariants.{More, Finished}
 use Rattle.session.specs.declared.state.Phase.TheVariants.{Running}
 use Rattle.session.specs.declared.state.Last.{Last}
 use Rattle.session.specs.declared.state.Session.{Session}
-use Rattle.session.specs.declared.answers.AdvanceAnswer.TheVariants.{More, Finished, Refused as NotAdvanced}
 use Rattle.session.specs.declared.answers.AdvanceStep.{AdvanceStep}
 use Rattle.session.specs.Records.{phase_of, phase_to, sizes_of, stage_in, last_in, last_to, record_of, session_of, whole, valid}
 use Rattle.session.specs.Answers.{advance_answer}
@@ -94,7 +98,7 @@ module _ (s : Session) (h : Shaped s) (x : Inputs) (b : Bool) (may : b ≡ (vali
   abbrev C : Call
   C = advance x
 
-  pub advance-1 : not b ≡ true → CallDone s C (advance_answer (NotAdvanced 1)) s
+  pub advance-1 : not b ≡ true → CallDone s C (advance_answer (Err SessionState)) s
   unfolding advance_answer refusal
   advance-1 f =
       unless-done s C h (is_running (phase_of s.head.phase)) (check 17 (fits (sizes_of s) x) ∷ []) refl (sym may ∙ not-true b f)
@@ -145,12 +149,12 @@ module _ (s : Session) (h : Shaped s) (x : Inputs) (b : Bool) (may : b ≡ (vali
         let h = s.head in
         cond d
         (record {
-          answer = Finished;
+          answer = Ok Finished;
           head = finished_head h y.state y.links y.passed (marked_in h.sizes.s h.sizes.k x.rules y.state);
           stored = true;
           state = y.state;
         })
-        (record { answer = More; head = stepped_head h Running y.links y.passed false h.last; stored = true; state = y.state })
+        (record { answer = Ok More; head = stepped_head h Running y.links y.passed false h.last; stored = true; state = y.state })
 
     abbrev by_model : Reached → Bool → Acted
     by_model y d =
@@ -183,7 +187,7 @@ module _ (s : Session) (h : Shaped s) (x : Inputs) (b : Bool) (may : b ≡ (vali
       unfolding fits buffers_fit
       fits-is = sym fit
 
-      pub advance-17 : not f ≡ true → CallDone s C (advance_answer (NotAdvanced 17)) s
+      pub advance-17 : not f ≡ true → CallDone s C (advance_answer (Err LentLength)) s
       unfolding advance_answer
       advance-17 g = refused-done s C h v 16 (on ∙ first_no-no 17 (fits (sizes_of s) x) [] (fits-is ∙ not-true f g))
 
@@ -254,7 +258,7 @@ module _ (s : Session) (h : Shaped s) (x : Inputs) (b : Bool) (may : b ≡ (vali
           narrow : Narrow (record_of s) C
           narrow y e = few y (given ∙ e)
 
-          pub advance-18 : K ≡ OutOfRange → CallDone s C (advance_answer (NotAdvanced 18)) s
+          pub advance-18 : K ≡ OutOfRange → CallDone s C (advance_answer (Err LentValue)) s
           unfolding advance_answer advance_with climbed_of
           advance-18 e = go (part_next (record_of s) x) refl (found ∙ ap climbed_of given)
             where

@@ -16,18 +16,20 @@ use Rattle.formats.specs.Built.{built_node_table, built_state_table}
 use Rattle.list_laws.proofs.BoolLaws.{and_left, and_right}
 use Rattle.formats.proofs.CheckLaws.{first_no-yes, first_no-no}
 use Rattle.formats.proofs.InputLaws.{build-passes}
-use Rattle.tables.specs.declared.answers.Building.{Building}
-use Rattle.tables.specs.declared.answers.Building.TheVariants.{Built, Refused}
-use Rattle.tables.specs.Answers.{building_number, build_answer, written, BuildDone}
+use Rattle.tables.specs.Answers.{written, BuildDone}
+use Rattle.formats.specs.Refusals.{refusal_number, answer_number}
+use Rattle.formats.proofs.RefusalLaws.{number-not-0}
 use Rattle.formats.specs.Inputs.{Inputs}
 use Rattle.model.specs.Calls as calls
 use Rattle.model.specs.Calls.{load, may_load}
 use Rattle.model.specs.Refusals.{refusal}
 use Rattle.model.specs.Model.{idle, proceeds}
+use Rattle.std.specs.Prelude.{Result, Ok, Err}
+use Rattle.formats.specs.declared.refusals.Refusal.{Refusal}
+use Rattle.formats.specs.declared.refusals.Refusal.TheVariants.{SessionState}
 use Rattle.session.specs.declared.state.Phase.TheVariants.{Loaded}
 use Rattle.session.specs.declared.state.Last.{Last}
 use Rattle.session.specs.declared.state.Session.{Session}
-use Rattle.session.specs.declared.answers.CallAnswer.TheVariants.{Accepted, Refused as NotDone}
 use Rattle.session.specs.Records.{phase_of, phase_to, stage_in, record_of, session_of, idle_session, no_last, valid}
 use Rattle.session.specs.Answers.{call_answer}
 use Rattle.session.specs.Promises.{CallDone, LoadDone, refusal_on}
@@ -59,7 +61,7 @@ module _ (s : Session) (h : Shaped s) (x : Inputs) (b : Bool) (may : b ≡ (vali
       go true v f = first_no-no 1 (may_load (phase_of s.head.phase)) checks f
       go false v f = refl
 
-  pub load-1 : not b ≡ true → LoadDone s x (call_answer (NotDone 1)) s x.node_table x.state_table
+  pub load-1 : not b ≡ true → LoadDone s x (call_answer (Err SessionState)) s x.node_table x.state_table
   unfolding call_answer refusal written
   load-1 f =
       let n : refusal_on s (load x) ≡ 1 = no_number (sym may ∙ not-true b f) in
@@ -84,7 +86,7 @@ module _ (s : Session) (h : Shaped s) (x : Inputs) (b : Bool) (may : b ≡ (vali
     unfolding refusal_on record_of
     number = rw v on
 
-    module _ (a : Building) (node_table' state_table' : List ℕ)
+    module _ (a : Result Unit Refusal) (node_table' state_table' : List ℕ)
         (D : BuildDone (first_no checks) (built_node_table x.plan) (built_state_table x.plan x.rules) x.node_table
         x.state_table a node_table' state_table') where
       done : (k : calls.Answer) (t : Session) → CallDone s (load x) k t → LoadDone s x k t node_table' state_table'
@@ -95,10 +97,9 @@ module _ (s : Session) (h : Shaped s) (x : Inputs) (b : Bool) (may : b ≡ (vali
             (sym number);
       }
 
-      module _ (e : a ≡ Built) where
+      module _ (u : Unit) (e : a ≡ Ok u) where
         none-fails : first_no checks ≡ 0
-        unfolding building_number
-        none-fails = sym D.number ∙ ap building_number e
+        none-fails = sym D.number ∙ ap answer_number e
 
         pub load-headers : Headers x.plan x.rules
         load-headers =
@@ -112,17 +113,15 @@ module _ (s : Session) (h : Shaped s) (x : Inputs) (b : Bool) (may : b ≡ (vali
             }
 
         pub load-built : (t : Session) → t ≡ session_of (loaded_from x.plan x.rules)
-            → LoadDone s x (call_answer Accepted) t node_table' state_table'
+            → LoadDone s x (call_answer (Ok tt)) t node_table' state_table'
         unfolding call_answer proceeds
         load-built t f =
             done calls.Answer.accepted t (proceeds-done s (load x) h v tt (on ∙ none-fails) calls.Answer.accepted t refl f)
 
-      pub load-refused : (k : ℕ) → a ≡ Refused k → LoadDone s x (call_answer (NotDone k)) s node_table' state_table'
-      unfolding call_answer build_answer
-      load-refused k e = go (first_no checks) refl D.result
+      pub load-refused : (r : Refusal) → a ≡ Err r → LoadDone s x (call_answer (Err r)) s node_table' state_table'
+      unfolding call_answer
+      load-refused r e = go (refusal_number r) (sym D.number ∙ ap answer_number e) (number-not-0 r)
         where
-          go : (n : ℕ) → first_no checks ≡ n → a ≡ build_answer n → LoadDone s x (calls.Answer.refused k) s node_table' state_table'
-          go zero f g = let z : ◌≡◌ {A = ℕ} 0 1 = cc in absurd (omega arith)
-          go (suc n) f g =
-              let q : k ≡ suc n = cc in
-              done (calls.Answer.refused k) s (rw q (refused-done s (load x) h v n (on ∙ f)))
+          go : (n : ℕ) → first_no checks ≡ n → (n ≡ 0 → ⊥) → LoadDone s x (calls.Answer.refused n) s node_table' state_table'
+          go zero f i = absurd (i refl)
+          go (suc n) f i = done (calls.Answer.refused (suc n)) s (refused-done s (load x) h v n (on ∙ f))

@@ -10,8 +10,10 @@ use Rattle.model.specs.Calls as calls
 use Rattle.model.specs.Calls.{read}
 use Rattle.model.specs.Refusals.{refusal}
 use Rattle.model.specs.Model.{proceeds, unless, act}
+use Rattle.std.specs.Prelude.{Result, Ok, Err}
+use Rattle.formats.specs.declared.refusals.Refusal.{Refusal}
+use Rattle.formats.specs.declared.refusals.Refusal.TheVariants.{SessionState}
 use Rattle.session.specs.declared.state.Session.{Session}
-use Rattle.session.specs.declared.answers.ReadAnswer.TheVariants.{Outcome as Read, Refused as NotRead}
 use Rattle.session.specs.Records.{last_in, record_of, valid}
 use Rattle.session.specs.Answers.{read_answer}
 use Rattle.session.specs.Promises.{answer_on}
@@ -20,13 +22,13 @@ use Rattle.session.proofs.LastLaws.{some-last}
 use Rattle.session.proofs.CallLaws.{unless-done}
 
 module _ (s : Session) (h : Shaped s) (b : Bool) (e : b ≡ (valid s && s.head.last.present)) where
-  pub read_no : not b ≡ true → read_answer (NotRead 1) ≡ answer_on s read
+  pub read_no : not b ≡ true → read_answer (Err SessionState) ≡ answer_on s read
   unfolding read_answer refusal
   read_no f =
       (unless-done s read h (calls.is_some (last_in s.head.last)) [] refl
       (ap (λ (x : Bool). valid s && x) (some-last s.head.last) ∙ sym e ∙ not-true b f)).tells
 
-  pub read-yes : not b ≡ false → read_answer (Read s.head.last.outcome) ≡ answer_on s read
+  pub read-yes : not b ≡ false → read_answer (Ok s.head.last.outcome) ≡ answer_on s read
   unfolding read_answer answer_on act refusal unless proceeds record_of first_no
   read-yes f =
       let y : (valid s && s.head.last.present) ≡ true = sym e ∙ not-false b f in

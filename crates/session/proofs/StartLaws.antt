@@ -38,9 +38,13 @@ use Rattle.model.specs.Model.{left_within, roots_in, started, proceeds}
 use Rattle.model.proofs.ModelLaws.{start-built, left_below, left-most}
 use Rattle.model.proofs.LayersHold.{layers}
 use Rattle.questions.proofs.PartInputsLaws.{tree-size, cells}
+use Rattle.std.specs.Prelude.{Result, Ok, Err}
+use Rattle.formats.specs.Refusals.{refusal_number}
+use Rattle.formats.proofs.RefusalLaws.{number-not-0}
+use Rattle.formats.specs.declared.refusals.Refusal.{Refusal}
+use Rattle.formats.specs.declared.refusals.Refusal.TheVariants.{SessionState, LentLength, LentValue}
 use Rattle.session.specs.declared.state.Last.{Last}
 use Rattle.session.specs.declared.state.Session.{Session}
-use Rattle.session.specs.declared.answers.StartAnswer.TheVariants.{Parts, Refused as NotStarted}
 use Rattle.session.specs.Records.{phase_of, phase_to, sizes_of, stage_in, record_of, session_of, padded, valid}
 use Rattle.session.specs.Answers.{start_answer}
 use Rattle.session.specs.Promises.{CallDone}
@@ -63,7 +67,7 @@ module _ (s : Session) (h : Shaped s) (x : Inputs) (vs bs : List ℕ) (b : Bool)
   abbrev last : List Check
   last = check 18 (sound (sizes_of s) x) ∷ []
 
-  pub start-1 : not b ≡ true → CallDone s C (start_answer (NotStarted 1)) s
+  pub start-1 : not b ≡ true → CallDone s C (start_answer (Err SessionState)) s
   unfolding start_answer refusal
   start-1 f =
       unless-done s C h (may_start (phase_of s.head.phase)) (check 17 (fits (sizes_of s) x) ∷ (list-checks ++ last)) refl
@@ -99,7 +103,7 @@ module _ (s : Session) (h : Shaped s) (x : Inputs) (vs bs : List ℕ) (b : Bool)
       unfolding fits buffers_fit
       fits-is = sym fit
 
-      pub start-17 : not f ≡ true → CallDone s C (start_answer (NotStarted 17)) s
+      pub start-17 : not f ≡ true → CallDone s C (start_answer (Err LentLength)) s
       unfolding start_answer
       start-17 g =
           refused-done s C h v 16
@@ -123,9 +127,11 @@ module _ (s : Session) (h : Shaped s) (x : Inputs) (vs bs : List ℕ) (b : Bool)
         onward = on ∙ first_no-yes 17 (fits (sizes_of s) x) (list-checks ++ last) (fits-is ∙ not-false f yes)
 
         module _ (q : ℕ) (list : q ≡ first_no list-checks) where
-          pub start-list : (q ≡ 0 → ⊥) → CallDone s C (start_answer (NotStarted q)) s
+          pub start-list : (r : Refusal) → refusal_number r ≡ q → CallDone s C (start_answer (Err r)) s
           unfolding start_answer
-          start-list g = go q (onward ∙ first_no-append-no list-checks last (λ z. g (list ∙ z)) ∙ sym list) g
+          start-list r is =
+              let g : q ≡ 0 → ⊥ = λ z. number-not-0 r (is ∙ z) in
+              go (refusal_number r) (onward ∙ first_no-append-no list-checks last (λ z. g (list ∙ z)) ∙ sym list ∙ sym is) (number-not-0 r)
             where
               go : (n : ℕ) → refusal (stage_in s) C ≡ n → (n ≡ 0 → ⊥)
                   → CallDone s C (calls.Answer.refused n) s
@@ -145,7 +151,7 @@ module _ (s : Session) (h : Shaped s) (x : Inputs) (vs bs : List ℕ) (b : Bool)
                 ∙ first_no-append-zero list-checks last (list-numbered s.head.sizes.n s.head.sizes.k vs bs) (sym list ∙ none-fails)
 
             module _ (w : Bool) (full : w ≡ sound (sizes_of s) x) where
-              pub start-18 : not w ≡ true → CallDone s C (start_answer (NotStarted 18)) s
+              pub start-18 : not w ≡ true → CallDone s C (start_answer (Err LentValue)) s
               unfolding start_answer
               start-18 g = refused-done s C h v 17 (at_last ∙ first_no-no 18 (sound (sizes_of s) x) [] (sym full ∙ not-true w g))
 
@@ -212,7 +218,7 @@ module _ (s : Session) (h : Shaped s) (x : Inputs) (vs bs : List ℕ) (b : Bool)
                       )
 
                   pub start-yes : (t : Session) → t ≡ started_of s.head.sizes s.head.last vs bs R.count R.nodes
-                      → CallDone s C (start_answer (Parts R.count)) t
+                      → CallDone s C (start_answer (Ok R.count)) t
                   unfolding start_answer proceeds started session_of phase_to record_of
                   start-yes t e =
                       let l : R.nodes ≡ padded 254 (roots_in x (left_within x vs bs)) = ap (λ (z : Rooted). z.nodes) found in

@@ -14,11 +14,14 @@ use lib.Seq.{get_or-take, get_or-drop}
 use borrow.Author.Tests.{eq-eqb, ne_eqb}
 use Rattle.list_laws.proofs.BoolLaws.{true-false}
 use Rattle.model.specs.Calls.{Call}
+use Rattle.std.specs.Prelude.{Result, Ok, Err}
+use Rattle.formats.specs.declared.refusals.Refusal.{Refusal}
+use Rattle.session.specs.declared.answers.Progress.{Progress}
+use Rattle.session.specs.declared.answers.Progress.TheVariants.{More, Finished}
 use Rattle.session.specs.declared.state.Phase.TheVariants.{Running, Answered}
 use Rattle.session.specs.declared.state.Last.{Last}
 use Rattle.session.specs.declared.state.Head.{Head}
 use Rattle.session.specs.declared.state.Session.{Session}
-use Rattle.session.specs.declared.answers.AdvanceAnswer.TheVariants.{More, Finished, Refused as NotAdvanced}
 use Rattle.session.specs.declared.answers.AdvanceStep.{AdvanceStep}
 use Rattle.session.specs.Records.{whole}
 use Rattle.session.specs.Answers.{advance_answer}
@@ -35,12 +38,12 @@ mark-at rules s k p q e h =
 module _ (h : Head) (rules : List ℕ) (q l d : ℕ) (t : Head) where
   pub handled-last : h.handled + 1 ≡ h.parts → (y : Bool) (o : Last) → t ≡ stepped_head h Answered l d y o
       → y ≡ marked_in h.sizes.s h.sizes.k rules q → o ≡ answer_of h q l d y
-      → ◌≡◌ {A = AdvanceStep} (record { answer = Finished; head = t; stored = true; state = q }) (step_by h rules q l d)
+      → ◌≡◌ {A = AdvanceStep} (record { answer = Ok Finished; head = t; stored = true; state = q }) (step_by h rules q l d)
   unfolding step_by
   handled-last e y o f g i = rw (eq-eqb (h.handled + 1) h.parts e, f, i, g)
 
   pub handled-more : (h.handled + 1 ≡ h.parts → ⊥) → t ≡ stepped_head h Running l d false h.last
-      → ◌≡◌ {A = AdvanceStep} (record { answer = More; head = t; stored = true; state = q }) (step_by h rules q l d)
+      → ◌≡◌ {A = AdvanceStep} (record { answer = Ok More; head = t; stored = true; state = q }) (step_by h rules q l d)
   unfolding step_by
   handled-more e f = rw (ne_eqb (h.handled + 1) h.parts e, f)
 
@@ -68,9 +71,9 @@ module _ (b : Bool) (xs ys zs : List ℕ) where
   not_chosen e f = rw e f
 
 module _ (s : Session) (c : Call) where
-  pub refused-found : (n : ℕ) (t : AdvanceStep) → t ≡ refused_step s.head n → CallDone s c (advance_answer (NotAdvanced n)) s
+  pub refused-found : (r : Refusal) (t : AdvanceStep) → t ≡ refused_step s.head r → CallDone s c (advance_answer (Err r)) s
       → StepFound s c t
-  refused-found n t e d =
+  refused-found r t e d =
       subst (λ (u : AdvanceStep). StepFound s c u) (sym e) (record { done = d; stores = refl; room = λ f. absurd (true-false (sym f)) })
 
   pub step-done : (t : AdvanceStep) → StepFound s c t → (qs : List ℕ)

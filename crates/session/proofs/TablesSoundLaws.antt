@@ -13,8 +13,8 @@ use Rattle.formats.specs.Rules.{state_count, label_count}
 use Rattle.formats.specs.Checks.{first_no, build_checks}
 use Rattle.formats.specs.Built.{built_node_table, built_state_table}
 use Rattle.formats.specs.Inputs.{inputs_of, sound}
-use Rattle.tables.specs.declared.answers.Checking.{Checking}
-use Rattle.tables.specs.declared.answers.Checking.TheVariants.{Yes, No, Refused as NotChecked}
+use Rattle.std.specs.Prelude.{Result, Ok, Err}
+use Rattle.formats.specs.declared.refusals.Refusal.{Refusal}
 use Rattle.tables.specs.Answers.{CheckDone}
 use Rattle.tables.proofs.CheckTheorems.{check-yes, yes-check}
 use Rattle.model.specs.Sound.{Sound}
@@ -37,21 +37,19 @@ module _ (n s k : ℕ) (plan rules node_table state_table : List ℕ) where
   pub other-k : (v : ℕ) → v ≡ label_count rules → (v ≡ k → ⊥) → false ≡ sound_by
   other-k v e h = unsound (λ S. h (e ∙ S.k_is))
 
-  module _ (a : Checking)
+  module _ (a : Result Bool Refusal)
       (D : CheckDone (first_no (build_checks plan rules (length node_table) (length state_table))) (built_node_table plan)
       (built_state_table plan rules) node_table state_table a) where
-    -- u, v and w are what the headers name
-    pub checked-yes : (u v w : ℕ) → u ≡ node_count plan → u ≡ n → v ≡ state_count rules → v ≡ s → w ≡ label_count rules → w ≡ k
-        → a ≡ Yes → true ≡ sound_by
-    checked-yes u v w f f' g g' h h' e =
-        sym (yes-sound (sizes_by n s k) (inputs_of plan rules node_table state_table)
-        (record { as_built = check-yes plan rules node_table state_table a D e; n_is = sym f ∙ f'; s_is = sym g ∙ g'; k_is = sym h ∙ h' }))
-
-    not_yes : (a ≡ Yes → ⊥) → false ≡ sound_by
+    not_yes : (a ≡ Ok true → ⊥) → false ≡ sound_by
     not_yes h = unsound (λ S. h (yes-check plan rules node_table state_table a D S.as_built))
 
-    pub checked-no : a ≡ No → false ≡ sound_by
-    checked-no e = not_yes (λ y. let z : ◌≡◌ {A = ℕ} 0 1 = cc in omega arith)
+    -- u, v and w are what the headers name
+    pub checked-yes : (u v w : ℕ) → u ≡ node_count plan → u ≡ n → v ≡ state_count rules → v ≡ s → w ≡ label_count rules → w ≡ k
+        → (b : Bool) → a ≡ Ok b → b ≡ sound_by
+    checked-yes u v w f f' g g' h h' true e =
+        sym (yes-sound (sizes_by n s k) (inputs_of plan rules node_table state_table)
+        (record { as_built = check-yes plan rules node_table state_table a D e; n_is = sym f ∙ f'; s_is = sym g ∙ g'; k_is = sym h ∙ h' }))
+    checked-yes u v w f f' g g' h h' false e = not_yes (λ y. let z : ◌≡◌ {A = ℕ} 0 1 = cc in omega arith)
 
-    pub checked_refused : (m : ℕ) → a ≡ NotChecked m → false ≡ sound_by
-    checked_refused m e = not_yes (λ y. let z : ◌≡◌ {A = ℕ} 0 1 = cc in omega arith)
+    pub checked_refused : (r : Refusal) → a ≡ Err r → false ≡ sound_by
+    checked_refused r e = not_yes (λ y. let z : ◌≡◌ {A = ℕ} 0 1 = cc in omega arith)

@@ -7,11 +7,13 @@
 use Rattle.std.specs.Prelude.{ℕ, ◌≡◌, List}
 use Rattle.formats.specs.Inputs.{Inputs}
 use Rattle.model.specs.Calls.{Call, load, start, advance, cancel, read, Answer}
+use Rattle.std.specs.Prelude.{Result, Ok, Err}
+use Rattle.formats.specs.declared.refusals.Refusal.{Refusal}
+use Rattle.session.specs.declared.answers.Outcome.{Outcome}
 use Rattle.session.specs.declared.state.Session.{Session}
 use Rattle.session.specs.declared.answers.Called.{Called}
 use Rattle.session.specs.declared.answers.Started.{Started}
 use Rattle.session.specs.declared.answers.Advanced.{Advanced}
-use Rattle.session.specs.declared.answers.ReadAnswer.{ReadAnswer}
 use Rattle.session.specs.Answers.{call_answer, start_answer, advance_answer, read_answer}
 use Rattle.session.specs.Promises.{CallDone, LoadDone, answer_on}
 
@@ -23,4 +25,4 @@ pub data CallByValue : Session → Call → Answer → Session → Type 0 where
   advances : {s : Session} {x : Inputs} (o : Advanced) → CallDone s (advance x) (advance_answer o.answer) o.session
       → CallByValue s (advance x) (advance_answer o.answer) o.session
   cancels : {s : Session} (o : Called) → CallDone s cancel (call_answer o.answer) o.session → CallByValue s cancel (call_answer o.answer) o.session
-  reads : {s : Session} (a : ReadAnswer) → read_answer a ≡ answer_on s read → CallByValue s read (read_answer a) s
+  reads : {s : Session} (a : Result Outcome Refusal) → read_answer a ≡ answer_on s read → CallByValue s read (read_answer a) s

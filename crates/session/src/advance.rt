@@ -14,12 +14,13 @@ ghost use Rattle.formats.specs.Inputs.{inputs_of};
 ghost use Rattle.session.specs.inner.Steps.{NextArgs, StepArgs, MarkArgs, HandleArgs, marked_in, stepped_head, step_by};
 ghost use Rattle.session.specs.inner.Steps.{answer_of, refused_step, StepFound};
 
-use crate::answers::{AdvanceAnswer, AdvanceStep, Advanced, Outcome};
+use crate::answers::{AdvanceStep, Advanced, Outcome, Progress};
 use crate::may::{allowed, may_advance};
 use crate::state::{Head, Last, Phase, Session};
 use formats::buffers::rule_buffers_fit;
 use formats::layout::RULES_HEAD;
 use formats::limits::{CHANGE_LIMIT, PART_LIMIT};
+use formats::refusals::Refusal;
 use formats::rules::inner_count;
 use questions::part::part;
 use tables::answers::Climbed;
@@ -121,7 +122,7 @@ fn handled(h: Head, rules: &[u8], q: u8, links: u32, passed: u32) -> AdvanceStep
         let last = answer_of(h, q, links, passed, yes);
         let head = stepped(h, Phase::Answered, links, passed, yes, last);
         return AdvanceStep {
-            answer: AdvanceAnswer::Finished,
+            answer: Ok(Progress::Finished),
             head,
             stored: true,
             state: q,
@@ -130,7 +131,7 @@ fn handled(h: Head, rules: &[u8], q: u8, links: u32, passed: u32) -> AdvanceStep
     let last = h.last;
     let head = stepped(h, Phase::Running, links, passed, false, last);
     AdvanceStep {
-        answer: AdvanceAnswer::More,
+        answer: Ok(Progress::More),
         head,
         stored: true,
         state: q,
@@ -138,10 +139,10 @@ fn handled(h: Head, rules: &[u8], q: u8, links: u32, passed: u32) -> AdvanceStep
 }
 
 // A refusal: nothing is altered.
-fn refused_step(h: Head, number: u8) -> AdvanceStep
-    ensures { result ≡ refused_step h number }
+fn refused_step(h: Head, refusal: Refusal) -> AdvanceStep
+    ensures { result ≡ refused_step h refusal }
 {
-    let answer = AdvanceAnswer::Refused(number);
+    let answer = Err(refusal);
     AdvanceStep {
         answer,
         head: h,
@@ -169,7 +170,7 @@ fn next_step<'a>(
     let phase = h.phase;
     let may = may_advance(phase);
     if !allowed(may, h, nodes, labels, roots, states) {
-        return refused_step(h, 1);
+        return refused_step(h, Refusal::SessionState);
     }
     let n = h.sizes.n as usize;
     let s = h.sizes.s as usize;
@@ -183,7 +184,7 @@ fn next_step<'a>(
         node_table.len(),
         state_table.len(),
     ) {
-        return refused_step(h, 17);
+        return refused_step(h, Refusal::LentLength);
     }
     match next_part(
         h,
@@ -200,7 +201,7 @@ fn next_step<'a>(
             return handled(h, rules, found.state, found.links, found.passed);
         }
         Climbed::OutOfRange => {
-            return refused_step(h, 18);
+            return refused_step(h, Refusal::LentValue);
         }
     }
 }

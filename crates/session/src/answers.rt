@@ -1,26 +1,12 @@
 // What the calls answer, and what an advance finds.
 use crate::state::{Head, Session};
+use formats::refusals::Refusal;
 
-// Load and Cancel: accepted, or a refusal's number.
+// Whether there is more after an advance.
 #[derive(Clone, Copy)]
-pub enum CallAnswer {
-    Accepted,
-    Refused(u8),
-}
-
-// Start: the number of parts, or a refusal's number.
-#[derive(Clone, Copy)]
-pub enum StartAnswer {
-    Parts(u8),
-    Refused(u8),
-}
-
-// Advance: whether there is more, or a refusal's number.
-#[derive(Clone, Copy)]
-pub enum AdvanceAnswer {
+pub enum Progress {
     More,
     Finished,
-    Refused(u8),
 }
 
 // What Read returns of a finished question: the root's state, the yes or no, the number of parts, the links of all
@@ -34,36 +20,31 @@ pub struct Outcome {
     pub passed: u32,
 }
 
-// Read: the outcome, or a refusal's number.
-#[derive(Clone, Copy)]
-pub enum ReadAnswer {
-    Outcome(Outcome),
-    Refused(u8),
-}
-
-// An answer with the record that the call leaves.
+// What Load or Cancel answers, with the record that the call leaves.
 #[derive(Clone, Copy)]
 pub struct Called {
-    pub answer: CallAnswer,
+    pub answer: Result<(), Refusal>,
     pub session: Session,
 }
 
+// The same of Start: the number of parts.
 #[derive(Clone, Copy)]
 pub struct Started {
-    pub answer: StartAnswer,
+    pub answer: Result<u8, Refusal>,
     pub session: Session,
 }
 
+// The same of an advance.
 #[derive(Clone, Copy)]
 pub struct Advanced {
-    pub answer: AdvanceAnswer,
+    pub answer: Result<Progress, Refusal>,
     pub session: Session,
 }
 
 // What an advance finds: its answer, the record's head after it, whether it stores a state, and which.
 #[derive(Clone, Copy)]
 pub struct AdvanceStep {
-    pub answer: AdvanceAnswer,
+    pub answer: Result<Progress, Refusal>,
     pub head: Head,
     pub stored: bool,
     pub state: u8,

@@ -7,8 +7,9 @@ ghost use Rattle.session.specs.Answers.{call_answer, start_answer, advance_answe
 ghost use Rattle.session.specs.Promises.{CallDone, LoadDone, answer_on};
 ghost use Rattle.formats.specs.Inputs.{inputs_of};
 
-use crate::answers::{AdvanceAnswer, CallAnswer, ReadAnswer, StartAnswer};
+use crate::answers::{Outcome, Progress};
 use crate::state::Session;
+use formats::refusals::Refusal;
 
 // Builds the tables of a plan and rules into the caller's buffers.
 pub fn load(
@@ -17,7 +18,7 @@ pub fn load(
     rules: &[u8],
     node_table: &mut [u16],
     state_table: &mut [u8],
-) -> CallAnswer
+) -> Result<(), Refusal>
     ensures { LoadDone s.old
         (inputs_of plan.now rules.now node_table.old state_table.old)
         (call_answer result) s.new node_table.new state_table.new }
@@ -37,7 +38,7 @@ pub fn start(
     state_table: &[u8],
     nodes: &[u16],
     labels: &[u8],
-) -> StartAnswer
+) -> Result<u8, Refusal>
     ensures { CallDone s.old
         (calls.start (inputs_of plan.now rules.now node_table.now state_table.now)
         nodes.now labels.now)
@@ -56,7 +57,7 @@ pub fn advance(
     rules: &[u8],
     node_table: &[u16],
     state_table: &[u8],
-) -> AdvanceAnswer
+) -> Result<Progress, Refusal>
     ensures { CallDone s.old
         (calls.advance (inputs_of plan.now rules.now node_table.now state_table.now))
         (advance_answer result) s.new }
@@ -68,7 +69,7 @@ pub fn advance(
 }
 
 // Ends a question: the record is as after a first Load, but for the last finished answer, which is kept.
-pub fn cancel(s: &mut Session) -> CallAnswer
+pub fn cancel(s: &mut Session) -> Result<(), Refusal>
     ensures { CallDone s.old calls.cancel (call_answer result) s.new }
 {
     let old = *s;
@@ -78,7 +79,7 @@ pub fn cancel(s: &mut Session) -> CallAnswer
 }
 
 // Returns the last finished answer: the root's state, the yes or no, the parts, the links and the nodes passed over.
-pub fn read(s: &Session) -> ReadAnswer
+pub fn read(s: &Session) -> Result<Outcome, Refusal>
     ensures { read_answer result ≡ answer_on s.now calls.read }
 {
     let rec = *s;

@@ -3,11 +3,11 @@ ghost use Rattle.session.specs.Answers.{call_answer};
 ghost use Rattle.session.specs.Promises.{LoadDone};
 ghost use Rattle.formats.specs.Inputs.{inputs_of};
 
-use crate::answers::{CallAnswer, Called};
+use crate::answers::Called;
 use crate::loaded::loaded_from;
 use crate::may::{allowed, may_load};
 use crate::state::Session;
-use tables::answers::Building;
+use formats::refusals::Refusal;
 use tables::build::build_tables;
 
 impl Session {
@@ -28,21 +28,21 @@ impl Session {
         let may = may_load(phase);
         if !allowed(may, h, &self.nodes, &self.labels, &self.roots, &self.states) {
             return Called {
-                answer: CallAnswer::Refused(1),
+                answer: Err(Refusal::SessionState),
                 session: self,
             };
         }
         match build_tables(plan, rules, node_table, state_table) {
-            Building::Built => {
+            Ok(()) => {
                 let session = loaded_from(plan, rules);
                 return Called {
-                    answer: CallAnswer::Accepted,
+                    answer: Ok(()),
                     session,
                 };
             }
-            Building::Refused(n) => {
+            Err(refusal) => {
                 return Called {
-                    answer: CallAnswer::Refused(n),
+                    answer: Err(refusal),
                     session: self,
                 };
             }

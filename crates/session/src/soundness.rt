@@ -7,7 +7,6 @@ ghost use Rattle.session.specs.inner.Shapes.{HeaderArgs, sizes_by};
 use formats::bytes::read32;
 use formats::layout::LABEL_COUNT_AT;
 use table_checks::check::check_tables;
-use tables::answers::Checking;
 
 // Whether plan and rules pass 2 to 10 and name N, S and K, and the tables, excess aside, are what the build writes from them.
 pub fn tables_sound(
@@ -33,8 +32,7 @@ pub fn tables_sound(
         return false;
     }
     match check_tables(plan, rules, node_table, state_table) {
-        Checking::Yes => true,
-        Checking::No => false,
-        Checking::Refused(_) => false,
+        Ok(yes) => yes,
+        Err(_) => false,
     }
 }

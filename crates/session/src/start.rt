@@ -7,7 +7,7 @@ ghost use Rattle.session.specs.Promises.{CallDone};
 ghost use Rattle.formats.specs.Inputs.{inputs_of};
 ghost use Rattle.session.specs.inner.Steps.{ListArgs, started_of, not_started};
 
-use crate::answers::{StartAnswer, Started};
+use crate::answers::Started;
 use crate::fill::{padded_labels, padded_nodes};
 use crate::may::{allowed, may_start};
 use crate::soundness::tables_sound;
@@ -15,6 +15,7 @@ use crate::state::{Head, Last, Phase, Session, Sizes};
 use formats::buffers::rule_buffers_fit;
 use formats::limits::PART_LIMIT;
 use formats::lists::check_list;
+use formats::refusals::Refusal;
 use questions::changed_roots::roots_left;
 
 // A running session with its question and no part handled. Nothing of an earlier question is left, but the last finished answer.
@@ -53,12 +54,12 @@ fn started(
     }
 }
 
-// A refusal's number, with the record as it was.
-fn refused(session: Session, number: u8) -> Started
-    ensures { result ≡ not_started session number }
+// A refusal, with the record as it was.
+fn refused(session: Session, refusal: Refusal) -> Started
+    ensures { result ≡ not_started session refusal }
 {
     Started {
-        answer: StartAnswer::Refused(number),
+        answer: Err(refusal),
         session,
     }
 }
@@ -83,7 +84,7 @@ impl Session {
         let phase = h.phase;
         let may = may_start(phase);
         if !allowed(may, h, &self.nodes, &self.labels, &self.roots, &self.states) {
-            return refused(self, 1);
+            return refused(self, Refusal::SessionState);
         }
         let n = h.sizes.n as usize;
         let s = h.sizes.s as usize;
@@ -97,21 +98,20 @@ impl Session {
             node_table.len(),
             state_table.len(),
         ) {
-            return refused(self, 17);
+            return refused(self, Refusal::LentLength);
         }
-        let no = check_list(n, k, nodes, labels);
-        if no != 0 {
-            return refused(self, no);
+        if let Err(refusal) = check_list(n, k, nodes, labels) {
+            return refused(self, refusal);
         }
         if !tables_sound(n, s, k, plan, rules, node_table, state_table) {
-            return refused(self, 18);
+            return refused(self, Refusal::LentValue);
         }
         let found = roots_left(n, plan, node_table, nodes, labels);
         let parts = found.count as u8;
         let roots = found.nodes;
         let session = started(h.sizes, h.last, nodes, labels, parts, roots);
         Started {
-            answer: StartAnswer::Parts(parts),
+            answer: Ok(parts),
             session,
         }
     }

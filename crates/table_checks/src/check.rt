@@ -9,8 +9,8 @@ use crate::compare::tables_match;
 use formats::bytes::read32;
 use formats::inputs::check_build;
 use formats::layout::{LABEL_COUNT_AT, PLAN_HEAD, RULES_HEAD};
+use formats::refusals::Refusal;
 use formats::rules::inner_count;
-use tables::answers::Checking;
 
 // Whether both buffers begin with the tables of a plan and a rule table that pass their checks. Labels, kinds and
 // states are handed on as parts.
@@ -42,22 +42,16 @@ fn both_match(
 }
 
 // The full check: 2 to 11, then whether the tables are what the build writes. Nothing is written.
-pub fn check_tables(plan: &[u8], rules: &[u8], node_table: &[u16], state_table: &[u8]) -> Checking
+pub fn check_tables(plan: &[u8], rules: &[u8], node_table: &[u16], state_table: &[u8]) -> Result<bool, Refusal>
     ensures { CheckDone (first_no
         (build_checks plan.now rules.now (length node_table.now)
         (length state_table.now))) (built_node_table plan.now)
         (built_state_table plan.now rules.now) node_table.now
         state_table.now result }
 {
-    let refused = check_build(plan, rules, node_table.len(), state_table.len());
-    if refused != 0 {
-        return Checking::Refused(refused);
-    }
+    check_build(plan, rules, node_table.len(), state_table.len())?;
     let n = read32(plan, 0);
     let s = read32(rules, 0);
     let k = read32(rules, LABEL_COUNT_AT);
-    if both_match(plan, rules, n, s, k, node_table, state_table) {
-        return Checking::Yes;
-    }
-    Checking::No
+    Ok(both_match(plan, rules, n, s, k, node_table, state_table))
 }

@@ -30,9 +30,11 @@ use Rattle.formats.proofs.InputLaws.{rule-table-passes, label_below, build-passe
 use Rattle.tables.specs.node_tables.Cells.{NodeTableArgs}
 use Rattle.tables.specs.node_tables.NodeCells.{NodeCells}
 use Rattle.tables.proofs.node_tables.CellLaws.{length-node_table_of, link-cells}
-use Rattle.tables.specs.declared.answers.Building.{Building}
-use Rattle.tables.specs.declared.answers.Building.TheVariants.{Built, Refused}
-use Rattle.tables.specs.Answers.{building_number, build_answer, written, BuildDone}
+use Rattle.std.specs.Prelude.{Result, Ok, IsErrAnd}
+use Rattle.formats.proofs.RefusalLaws.{number-not-0, handed-on}
+use Rattle.formats.specs.declared.refusals.Refusal.{Refusal}
+use Rattle.formats.specs.Refusals.{refusal_number, answer_number}
+use Rattle.tables.specs.Answers.{written, BuildDone}
 use Rattle.tables.specs.inner.States.{RuleRuns}
 use Rattle.tables.specs.inner.Written.{TableArgs, StatesOver, Passed, BuildArgs, BothWritten}
 use Rattle.tables.proofs.TableLoop.{length-state_table_of}
@@ -183,19 +185,17 @@ module _ (p r node_table state_table : List ℕ) (n s k : ℕ) (B : BuildArgs p 
 -- ---- the two answers of a build
 
 module _ (links states node_table state_table : List ℕ) where
-  refused : (n : ℕ) → (n ≡ 0 → ⊥) → BuildDone n links states node_table state_table (Refused n) node_table state_table
-  unfolding build_answer building_number written
-  refused zero e = absurd (e refl)
-  refused (suc n) e = record { result = refl; number = refl; node_table_written = refl; state_table_written = refl }
-
-  -- x is the number that a check returned
-  pub build-refused : (n x : ℕ) → x ≡ n → (x ≡ 0 → ⊥) → BuildDone n links states node_table state_table (Refused x) node_table state_table
-  build-refused n x e z = rw (← e) (refused x z)
+  -- a is what `?` hands on of a check's refusal r
+  pub build-refused : (n : ℕ) (r : Refusal) (a : Result Unit Refusal) → IsErrAnd a (λ e. e ≡ r) → refusal_number r ≡ n
+      → BuildDone n links states node_table state_table a node_table state_table
+  unfolding written
+  build-refused zero r a h e = absurd (number-not-0 r e)
+  build-refused (suc n) r a h e = record { number = handed-on r a h ∙ e; node_table_written = refl; state_table_written = refl }
 
   pub build-done : (n : ℕ) (node_table' state_table' : List ℕ) → n ≡ 0 → node_table' ≡ links ++ drop (length links) node_table
-      → state_table' ≡ states ++ drop (length states) state_table → BuildDone n links states node_table state_table Built node_table' state_table'
-  unfolding build_answer building_number written
-  build-done zero node_table' state_table' e l s = record { result = refl; number = refl; node_table_written = l; state_table_written = s }
+      → state_table' ≡ states ++ drop (length states) state_table → BuildDone n links states node_table state_table (Ok _) node_table' state_table'
+  unfolding written
+  build-done zero node_table' state_table' e l s = record { number = refl; node_table_written = l; state_table_written = s }
   build-done (suc n) node_table' state_table' e l s = absurd (omega arith)
 
 -- ---- as built
@@ -206,8 +206,8 @@ written-zero zero h table entry = refl
 written-zero (suc n) h table entry = absurd (omega arith)
 
 -- what an accepted build leaves, for rule tables and branch tables
-pub built-lists : (n : ℕ) (links states node_table state_table : List ℕ) (answer : Building) (node_table' state_table' : List ℕ)
-    → BuildDone n links states node_table state_table answer node_table' state_table' → building_number answer ≡ 0
+pub built-lists : (n : ℕ) (links states node_table state_table : List ℕ) (answer : Result Unit Refusal) (node_table' state_table' : List ℕ)
+    → BuildDone n links states node_table state_table answer node_table' state_table' → answer_number answer ≡ 0
     → (n ≡ 0) × (node_table' ≡ links ++ drop (length links) node_table) × (state_table' ≡ states ++ drop (length states) state_table)
 built-lists n links states node_table state_table answer node_table' state_table' D e =
     let z : n ≡ 0 = sym D.number ∙ e in
@@ -225,10 +225,10 @@ module _ (p r : List ℕ) where
       }
 
   -- an accepted build leaves any buffers as built
-  pub built-as-built : (node_table state_table node_table' state_table' : List ℕ) (answer : Building)
+  pub built-as-built : (node_table state_table node_table' state_table' : List ℕ) (answer : Result Unit Refusal)
       → BuildDone (first_no (build_checks p r (length node_table) (length state_table))) (built_node_table p) (built_state_table p r) node_table state_table
       answer node_table' state_table'
-      → building_number answer ≡ 0 → AsBuilt p r node_table' state_table'
+      → answer_number answer ≡ 0 → AsBuilt p r node_table' state_table'
   built-as-built node_table state_table node_table' state_table' answer D e =
       let q = built-lists _ (built_node_table p) (built_state_table p r) node_table state_table answer node_table' state_table' D e in
       rw (q.1, q.2) (written-as-built (build-table p r (length node_table) (length state_table) q.0) (drop (length (built_node_table p)) node_table)

@@ -1,5 +1,5 @@
 -- The answers of a full check, of rule tables or of branch tables.
---     check-refused, check-matches, check-differs   the promise from each of its three answers
+--     check-refused, check-matches          the promise from a refusal, and from yes or no
 --     begins-room                            a buffer that begins with a table has room for it
 --     same-begins, begins-same               the test for both tables, by the lists
 --     done-yes, yes-done, done-no, no-done   what a full check's yes and no mean, by the lists
@@ -12,58 +12,27 @@ use lib.ListN.{length, take, length-take}
 use Rattle.list_laws.specs.Tests.{same_list}
 use Rattle.list_laws.proofs.BoolLaws.{true-false, and_both, and_left, and_right}
 use Rattle.list_laws.proofs.TestLaws.{same_list-is, same_list-true}
-use Rattle.tables.specs.declared.answers.Checking.{Checking}
-use Rattle.tables.specs.declared.answers.Checking.TheVariants.{Yes, No, Refused}
-use Rattle.tables.specs.Answers.{check_number, check_answer, same_tables, CheckDone}
-
-answer-number : (n : ℕ) (same : Bool) → check_number (check_answer n same) ≡ n
-unfolding check_number check_answer
-answer-number zero true = refl
-answer-number zero false = refl
-answer-number (suc n) same = refl
-
-answer-yes : (n : ℕ) (same : Bool) → check_answer n same ≡ Yes → (n ≡ 0) × (same ≡ true)
-unfolding check_answer
-answer-yes zero true e = (refl, refl)
-answer-yes zero false e = absurd (let z : ◌≡◌ {A = ℕ} 0 1 = cc in omega arith)
-answer-yes (suc n) same e = absurd (let z : ◌≡◌ {A = ℕ} 0 1 = cc in omega arith)
-
-answer-no : (n : ℕ) (same : Bool) → check_answer n same ≡ No → (n ≡ 0) × (same ≡ false)
-unfolding check_answer
-answer-no zero true e = absurd (let z : ◌≡◌ {A = ℕ} 0 1 = cc in omega arith)
-answer-no zero false e = (refl, refl)
-answer-no (suc n) same e = absurd (let z : ◌≡◌ {A = ℕ} 0 1 = cc in omega arith)
-
-yes_answer : (n : ℕ) (same : Bool) → n ≡ 0 → same ≡ true → check_answer n same ≡ Yes
-unfolding check_answer
-yes_answer n same d e = rw (d, e)
-
-no_answer : (n : ℕ) (same : Bool) → n ≡ 0 → same ≡ false → check_answer n same ≡ No
-unfolding check_answer
-no_answer n same d e = rw (d, e)
-
-refused-answer : (n : ℕ) (same : Bool) → (n ≡ 0 → ⊥) → check_answer n same ≡ Refused n
-unfolding check_answer
-refused-answer zero same h = absurd (h refl)
-refused-answer (suc n) same h = refl
+use Rattle.std.specs.Prelude.{Result, Ok, Err, IsErrAnd}
+use Rattle.formats.specs.declared.refusals.Refusal.{Refusal}
+use Rattle.formats.specs.Refusals.{refusal_number, told, told_as}
+use Rattle.formats.proofs.RefusalLaws.{told-number, told-refused, told-answered, value-told, told-value}
+use Rattle.tables.specs.Answers.{same_tables, CheckDone}
 
 module _ (n : ℕ) (links states node_table state_table : List ℕ) where
   -- the promise from its first part
-  check_done : (answer : Checking) → answer ≡ check_answer n (same_tables links states node_table state_table)
-      → CheckDone n links states node_table state_table answer
-  check_done answer e =
-      record { result = e; number = ap check_number e ∙ answer-number n (same_tables links states node_table state_table) }
+  check_done : (a : Result Bool Refusal) → told a ≡ told_as n (same_tables links states node_table state_table)
+      → CheckDone n links states node_table state_table a
+  check_done a e = record { result = e; number = told-number a n _ e }
 
-  pub check-refused : (m : ℕ) → m ≡ n → (m ≡ 0 → ⊥) → CheckDone n links states node_table state_table (Refused m)
-  check-refused m e h =
-      check_done (Refused m) (rw e (sym (refused-answer n (same_tables links states node_table state_table) (λ z. h (e ∙ z)))))
+  -- a is what `?` hands on of a check's refusal r
+  pub check-refused : (r : Refusal) (a : Result Bool Refusal) → IsErrAnd a (λ e. e ≡ r) → refusal_number r ≡ n
+      → CheckDone n links states node_table state_table a
+  check-refused r (Ok b) h e = absurd h
+  check-refused r (Err x) h e = check_done (Err x) (told-refused x n _ (ap refusal_number h ∙ e))
 
-  module _ (pass : n ≡ 0) (same : Bool) (e : same ≡ same_tables links states node_table state_table) where
-    pub check-matches : same ≡ true → CheckDone n links states node_table state_table Yes
-    check-matches h = check_done Yes (sym (yes_answer n (same_tables links states node_table state_table) pass (sym e ∙ h)))
-
-    pub check-differs : same ≡ false → CheckDone n links states node_table state_table No
-    check-differs h = check_done No (sym (no_answer n (same_tables links states node_table state_table) pass (sym e ∙ h)))
+  pub check-matches : (same : Bool) → n ≡ 0 → same ≡ same_tables links states node_table state_table
+      → CheckDone n links states node_table state_table (Ok same)
+  check-matches same pass e = check_done (Ok same) (rw e (told-answered n _ pass))
 
 pub begins-room : (n : ℕ) (b l : List ℕ) → take n b ≡ l → length l ≡ n → n ≤ length b
 begins-room n b l e z = omega (arith, simp length-take at (ap length e))
@@ -94,27 +63,26 @@ module _ (links states node_table state_table : List ℕ) where
       and_both one two (same_list-is (take (length links) node_table) links b.0)
       (same_list-is (take (length states) state_table) states b.1)
 
-module _ (n : ℕ) (links states node_table state_table : List ℕ) (answer : Checking)
+module _ (n : ℕ) (links states node_table state_table : List ℕ) (answer : Result Bool Refusal)
     (done : CheckDone n links states node_table state_table answer) where
-  pub done-yes : answer ≡ Yes → (n ≡ 0) × Begins links states node_table state_table
+  pub done-yes : answer ≡ Ok true → (n ≡ 0) × Begins links states node_table state_table
   done-yes e =
       let q : (n ≡ 0) × (same_tables links states node_table state_table ≡ true) =
-      answer-yes n (same_tables links states node_table state_table) (sym done.result ∙ e) in
+      value-told true n (same_tables links states node_table state_table) (sym (ap told e) ∙ done.result) in
       (q.0, same-begins links states node_table state_table q.1)
 
-  pub yes-done : n ≡ 0 → Begins links states node_table state_table → answer ≡ Yes
-  yes-done pass b = done.result ∙ yes_answer n (same_tables links states node_table state_table) pass
-      (begins-same links states node_table state_table b)
+  pub yes-done : n ≡ 0 → Begins links states node_table state_table → answer ≡ Ok true
+  yes-done pass b = told-value answer n _ done.result pass ∙ ap Ok (begins-same links states node_table state_table b)
 
-  pub done-no : answer ≡ No → (n ≡ 0) × (Begins links states node_table state_table → ⊥)
+  pub done-no : answer ≡ Ok false → (n ≡ 0) × (Begins links states node_table state_table → ⊥)
   done-no e =
       let q : (n ≡ 0) × (same_tables links states node_table state_table ≡ false) =
-      answer-no n (same_tables links states node_table state_table) (sym done.result ∙ e) in
+      value-told false n (same_tables links states node_table state_table) (sym (ap told e) ∙ done.result) in
       (q.0, λ b. true-false (sym (begins-same links states node_table state_table b) ∙ q.1))
 
-  pub no-done : n ≡ 0 → (Begins links states node_table state_table → ⊥) → answer ≡ No
-  no-done pass not = done.result ∙ go (same_tables links states node_table state_table) refl
+  pub no-done : n ≡ 0 → (Begins links states node_table state_table → ⊥) → answer ≡ Ok false
+  no-done pass not = told-value answer n _ done.result pass ∙ ap Ok (go (same_tables links states node_table state_table) refl)
     where
-      go : (same : Bool) → same_tables links states node_table state_table ≡ same → check_answer n same ≡ No
+      go : (same : Bool) → same_tables links states node_table state_table ≡ same → same ≡ false
       go true e = absurd (not (same-begins links states node_table state_table e))
-      go false e = no_answer n false pass refl
+      go false e = refl

@@ -13,10 +13,10 @@ use Rattle.formats.specs.Rules.{state_count}
 use Rattle.formats.specs.Checks.{first_no, rule_table_checks, build_checks, node_table_length, state_table_length}
 use Rattle.formats.specs.Built.{built_node_table, built_state_table, AsBuilt}
 use Rattle.formats.proofs.InputLaws.{rule-table-passes, build-table, passes-build}
-use Rattle.tables.specs.declared.answers.Building.{Building}
-use Rattle.tables.specs.declared.answers.Checking.{Checking}
-use Rattle.tables.specs.declared.answers.Checking.TheVariants.{Yes, No}
-use Rattle.tables.specs.Answers.{building_number, BuildDone, CheckDone}
+use Rattle.std.specs.Prelude.{Bool, true, false, Result, Ok}
+use Rattle.formats.specs.declared.refusals.Refusal.{Refusal}
+use Rattle.formats.specs.Refusals.{answer_number}
+use Rattle.tables.specs.Answers.{BuildDone, CheckDone}
 use Rattle.tables.proofs.BuildLaws.{length-built_node_table, length-built_states, built-as-built}
 use Rattle.tables.proofs.CheckAnswers.{Begins, begins-room, done-yes, yes-done, done-no, no-done}
 
@@ -55,34 +55,34 @@ module _ (p r node_table state_table : List ℕ) where
       (begins-room (node_table_length (node_count p)) node_table (built_node_table p) B.links (links-length B.accepted))
       (begins-room s state_table (built_state_table p r) B.states (states_length B.accepted))
 
-  module _ (answer : Checking)
+  module _ (answer : Result Bool Refusal)
       (done : CheckDone (build_number p r node_table state_table) (built_node_table p) (built_state_table p r) node_table state_table answer) where
-    pub check-yes : answer ≡ Yes → AsBuilt p r node_table state_table
+    pub check-yes : answer ≡ Ok true → AsBuilt p r node_table state_table
     check-yes e =
         let q : (build_number p r node_table state_table ≡ 0) × Begins (built_node_table p) (built_state_table p r) node_table state_table =
         done-yes (build_number p r node_table state_table) (built_node_table p) (built_state_table p r) node_table state_table answer done e in
         begins-built (build-table p r (length node_table) (length state_table) q.0) q.1
 
-    pub yes-check : AsBuilt p r node_table state_table → answer ≡ Yes
+    pub yes-check : AsBuilt p r node_table state_table → answer ≡ Ok true
     yes-check B =
         yes-done (build_number p r node_table state_table) (built_node_table p) (built_state_table p r) node_table state_table answer done (built-passes B)
         (built-begins B)
 
-    pub check-no : answer ≡ No → (build_number p r node_table state_table ≡ 0) × (AsBuilt p r node_table state_table → ⊥)
+    pub check-no : answer ≡ Ok false → (build_number p r node_table state_table ≡ 0) × (AsBuilt p r node_table state_table → ⊥)
     check-no e =
         let q : (build_number p r node_table state_table ≡ 0) × (Begins (built_node_table p) (built_state_table p r) node_table state_table → ⊥) =
         done-no (build_number p r node_table state_table) (built_node_table p) (built_state_table p r) node_table state_table answer done e in
         (q.0, λ B. q.1 (built-begins B))
 
-    pub no-check : build_number p r node_table state_table ≡ 0 → (AsBuilt p r node_table state_table → ⊥) → answer ≡ No
+    pub no-check : build_number p r node_table state_table ≡ 0 → (AsBuilt p r node_table state_table → ⊥) → answer ≡ Ok false
     no-check pass not-built =
         no-done (build_number p r node_table state_table) (built_node_table p) (built_state_table p r) node_table state_table answer done pass
         (λ b. not-built (begins-built (build-table p r (length node_table) (length state_table) pass) b))
 
 -- node_table and bytes before an accepted build, node_table' and bytes' after it
-pub build-then-check : (p r node_table state_table node_table' state_table' : List ℕ) (built : Building) (checked : Checking)
+pub build-then-check : (p r node_table state_table node_table' state_table' : List ℕ) (built : Result Unit Refusal) (checked : Result Bool Refusal)
     → BuildDone (build_number p r node_table state_table) (built_node_table p) (built_state_table p r) node_table state_table built node_table' state_table'
-    → building_number built ≡ 0
-    → CheckDone (build_number p r node_table' state_table') (built_node_table p) (built_state_table p r) node_table' state_table' checked → checked ≡ Yes
+    → answer_number built ≡ 0
+    → CheckDone (build_number p r node_table' state_table') (built_node_table p) (built_state_table p r) node_table' state_table' checked → checked ≡ Ok true
 build-then-check p r node_table state_table node_table' state_table' built checked B e C =
     yes-check p r node_table' state_table' checked C (built-as-built p r node_table state_table node_table' state_table' built B e)

@@ -1,18 +1,3 @@
-// The answer of a build: done, or the number of the first check that failed.
-#[derive(Clone, Copy)]
-pub enum Building {
-    Built,
-    Refused(u8),
-}
-
-// The answer of a full check: whether the tables are what the build writes, or the number of the first check that failed.
-#[derive(Clone, Copy)]
-pub enum Checking {
-    Yes,
-    No,
-    Refused(u8),
-}
-
 // The state that a climb or a part ends in, the links that led to it, and the nodes that they passed over.
 #[derive(Clone, Copy)]
 pub struct Reached {

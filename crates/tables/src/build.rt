@@ -5,12 +5,12 @@ ghost use Rattle.formats.specs.Built.{built_node_table, built_state_table};
 ghost use Rattle.tables.specs.Answers.{BuildDone};
 ghost use Rattle.tables.specs.inner.Written.{BuildArgs, BothWritten};
 
-use crate::answers::Building;
 use crate::node_tables::build::build_node_table;
 use crate::tables::write_states;
 use formats::bytes::read32;
 use formats::inputs::check_build;
 use formats::layout::{LABEL_COUNT_AT, PLAN_HEAD, RULES_HEAD};
+use formats::refusals::Refusal;
 use formats::rules::inner_count;
 
 // Writes both tables of a plan of n nodes and a rule table of s states and k labels that pass their checks.
@@ -48,20 +48,17 @@ pub fn build_tables(
     rules: &[u8],
     node_table: &mut [u16],
     state_table: &mut [u8],
-) -> Building
+) -> Result<(), Refusal>
     ensures { BuildDone
         (first_no (build_checks plan.now rules.now
         (length node_table.old) (length state_table.old)))
         (built_node_table plan.now) (built_state_table plan.now rules.now)
         node_table.old state_table.old result node_table.new state_table.new }
 {
-    let refused = check_build(plan, rules, node_table.len(), state_table.len());
-    if refused != 0 {
-        return Building::Refused(refused);
-    }
+    check_build(plan, rules, node_table.len(), state_table.len())?;
     let n = read32(plan, 0);
     let s = read32(rules, 0);
     let k = read32(rules, LABEL_COUNT_AT);
     write_tables(plan, rules, n, s, k, node_table, state_table);
-    Building::Built
+    Ok(())
 }

@@ -44,8 +44,8 @@ use Rattle.reference.proofs.WrittenSound.{loaded, written-sound, written-fits, s
 use Rattle.session.specs.declared.state.Session.{Session}
 use Rattle.session.specs.Records.{fresh_session}
 use Rattle.formats.specs.Inputs.{inputs_of}
-use Rattle.session.specs.declared.answers.CallAnswer.{CallAnswer}
-use Rattle.session.specs.declared.answers.CallAnswer.TheVariants.{Accepted}
+use Rattle.std.specs.Prelude.{Result, Ok}
+use Rattle.formats.specs.declared.refusals.Refusal.{Refusal}
 use Rattle.session.specs.Answers.{call_answer}
 use Rattle.session.specs.Promises.{LoadDone, answer_on, record_on, refusal_on}
 use Rattle.session.proofs.ActLaws.{Narrow}
@@ -267,10 +267,10 @@ fresh-refusal y e =
     rw fresh-seen.passes
     (ap (λ (r : Record). refusal (stage_of r) (load y)) fresh-seen.holds ∙ load-passed y e)
 
-fresh-cleared : (s : Session) (p r n b n' b' : List ℕ) (t : CallAnswer) → t ≡ Accepted
+fresh-cleared : (s : Session) (p r n b n' b' : List ℕ) (t : Result Unit Refusal) (u : Unit) → t ≡ Ok u
     → LoadDone fresh_session (inputs_of p r n b) (call_answer t) s n' b' → Cleared s (inputs_of p r n' b')
 unfolding call_answer
-fresh-cleared s p r n b n' b' t e L =
+fresh-cleared s p r n b n' b' t u e L =
     let y = inputs_of p r n b in
     let a : answer_on fresh_session (load y) ≡ accepted = sym L.call.tells ∙ ap call_answer e in
     let z = fresh-refusal y a in
@@ -284,7 +284,7 @@ fresh-cleared s p r n b n' b' t e L =
       state_table = L.state_table_written ∙ ap (λ (k : ℕ). written k (built_state_table p r) b) z;
     }
 
-pub load-cleared : (f s : Session) (p r n b n' b' : List ℕ) (t : CallAnswer) → f ≡ fresh_session → t ≡ Accepted
+pub load-cleared : (f s : Session) (p r n b n' b' : List ℕ) (t : Result Unit Refusal) (u : Unit) → f ≡ fresh_session → t ≡ Ok u
     → LoadDone f (inputs_of p r n b) (call_answer t) s n' b' → Cleared s (inputs_of p r n' b')
-load-cleared f s p r n b n' b' t d e L =
-    fresh-cleared s p r n b n' b' t e (subst (λ (g : Session). LoadDone g (inputs_of p r n b) (call_answer t) s n' b') d L)
+load-cleared f s p r n b n' b' t u d e L =
+    fresh-cleared s p r n b n' b' t u e (subst (λ (g : Session). LoadDone g (inputs_of p r n b) (call_answer t) s n' b') d L)

@@ -30,8 +30,9 @@ use Rattle.model.specs.Calls.{load, may_load}
 use Rattle.model.specs.Refusals.{refusal}
 use Rattle.reference.specs.Reference.{phase, new_reference, stage_of as reference_stage}
 use Rattle.session.specs.declared.state.Session.{Session}
-use Rattle.session.specs.declared.answers.CallAnswer.{CallAnswer}
-use Rattle.session.specs.declared.answers.CallAnswer.TheVariants.{Accepted, Refused}
+use Rattle.std.specs.Prelude.{Result, Ok, Err}
+use Rattle.formats.specs.Refusals.{refusal_number}
+use Rattle.formats.specs.declared.refusals.Refusal.{Refusal}
 use Rattle.session.specs.Records.{fresh_session}
 use Rattle.session.specs.Answers.{call_answer}
 use Rattle.session.specs.Promises.{LoadDone, answer_on}
@@ -172,21 +173,22 @@ module _ (p r n b : List ℕ) where
   unfolding refusal phase new_reference may_load
   load-refusal = first_no-yes 1 true (build_checks p r (length n) (length b)) refl
 
-  module _ (f s : Session) (n' b' : List ℕ) (t : CallAnswer) (d : f ≡ fresh_session)
+  module _ (f s : Session) (n' b' : List ℕ) (t : Result Unit Refusal) (d : f ≡ fresh_session)
       (L : LoadDone f (inputs_of p r n b) (call_answer t) s n' b') where
     told : call_answer t ≡ answer_on fresh_session (load (inputs_of p r n b))
     told = L.call.tells ∙ ap (λ (g : Session). answer_on g (load (inputs_of p r n b))) d
 
-    pub loaded-said : t ≡ Accepted → (qs : List ℕ) → said_on p r qs ≡ lines_by (question_line p r) [] qs
+    pub loaded-said : (u : Unit) → t ≡ Ok u → (qs : List ℕ) → said_on p r qs ≡ lines_by (question_line p r) [] qs
     unfolding call_answer said_by
-    loaded-said e qs =
+    loaded-said u e qs =
         let a = load-passed (inputs_of p r n b) (sym told ∙ ap call_answer e) in
         ap (λ (k : ℕ). said_by k p r qs) (build-table p r (length n) (length b) (sym load-refusal ∙ a))
 
-    pub refused-said : (k : ℕ) → t ≡ Refused k → length p ≤ 2014 → length n ≡ 4004 → length b ≡ 17017 → (qs : List ℕ)
-        → said_on p r qs ≡ refused_line k
+    pub refused-said : (y : Refusal) → t ≡ Err y → length p ≤ 2014 → length n ≡ 4004 → length b ≡ 17017 → (qs : List ℕ)
+        → said_on p r qs ≡ refused_line (refusal_number y)
     unfolding call_answer said_by
-    refused-said k e h i j qs =
+    refused-said y e h i j qs =
+        let k = refusal_number y in
         let a = load-number (inputs_of p r n b) k (sym told ∙ ap call_answer e) in
         let c : k ≡ first_no (rule_table_checks p r) =
         a.0 ∙ (load-refusal ∙ (ap (λ (x : ℕ). first_no (build_checks p r x (length b))) i

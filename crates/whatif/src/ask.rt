@@ -4,7 +4,8 @@ ghost use Rattle.session.specs.Answers.{read_answer};
 ghost use Rattle.formats.specs.Inputs.{inputs_of};
 ghost use Rattle.whatif.specs.Asked.{most_parts, finished_in, asked_on};
 
-use session::answers::{AdvanceAnswer, ReadAnswer, StartAnswer};
+use formats::refusals::Refusal;
+use session::answers::{Outcome, Progress};
 use session::state::Session;
 
 // Advances until finished, and reads.
@@ -14,7 +15,7 @@ fn finish(
     rules: &[u8],
     node_table: &[u16],
     state_table: &[u8],
-) -> ReadAnswer
+) -> Result<Outcome, Refusal>
     ensures { read_answer result
         ≡ finished_in most_parts started (inputs_of plan.now rules.now node_table.now state_table.now) }
 {
@@ -22,10 +23,10 @@ fn finish(
     for _parts in 0..254u8 {
         let next = rec.advance(plan, rules, node_table, state_table);
         rec = next.session;
-        match next.answer {
-            AdvanceAnswer::More => {}
-            AdvanceAnswer::Finished => return rec.read(),
-            AdvanceAnswer::Refused(n) => return ReadAnswer::Refused(n),
+        let progress = next.answer?;
+        match progress {
+            Progress::More => {}
+            Progress::Finished => return rec.read(),
         }
     }
     rec.read()
@@ -40,20 +41,12 @@ pub fn ask(
     state_table: &[u8],
     nodes: &[u16],
     labels: &[u8],
-) -> ReadAnswer
+) -> Result<Outcome, Refusal>
     ensures { read_answer result
         ≡ asked_on loaded (inputs_of plan.now rules.now node_table.now state_table.now)
         nodes.now labels.now }
 {
     let started = loaded.start(plan, rules, node_table, state_table, nodes, labels);
-    let answer = started.answer;
-    match answer {
-        StartAnswer::Parts(_) => {
-            let rec = started.session;
-            return finish(rec, plan, rules, node_table, state_table);
-        }
-        StartAnswer::Refused(n) => {
-            return ReadAnswer::Refused(n);
-        }
-    }
+    started.answer?;
+    finish(started.session, plan, rules, node_table, state_table)
 }

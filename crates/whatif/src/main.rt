@@ -20,19 +20,20 @@ mod send;
 mod text;
 
 ghost use Rattle.std.specs.Prelude.{◌≡◌, List, ℕ, ◌≤◌, length, take, IfOk};
+ghost use Rattle.formats.specs.Refusals.{refusal_number};
 ghost use Rattle.whatif.specs.Line.{refused_line};
 ghost use Rattle.whatif.specs.Said.{said_on, said_after, said};
 ghost use Rattle.whatif.specs.Told.{Says, Writes};
 ghost use Rattle.whatif.specs.Turns.{Answered, AnsweredOn, AskedFor};
 
 use asking::put_questions;
+use formats::refusals::Refusal;
 use input::{
     ReadCount, head_space, is_too_large, length_at, line_space, node_table_space, plan_space,
     read_whole, rules_space, state_table_space,
 };
 use line::put_refused;
 use send::{send_refusal, send_too_large};
-use session::answers::CallAnswer;
 use session::state::Session;
 use std::io;
 use std::io::{Read, Write};
@@ -58,14 +59,14 @@ fn send_load_refusal<W: Write>(
     output: &mut W,
     plan: &[u8],
     rules: &[u8],
-    n: u8,
+    refusal: Refusal,
 ) -> io::Result<usize>
-    requires { (qs : List ℕ) → said_on plan.now rules.now qs ≡ refused_line n }
-    ensures len { IfOk result (λ k. k ≡ length (refused_line n)) }
-    ensures written { Writes result (W.contents output.old) (W.contents output.new) (refused_line n) }
+    requires { (qs : List ℕ) → said_on plan.now rules.now qs ≡ refused_line (refusal_number refusal) }
+    ensures len { IfOk result (λ k. k ≡ length (refused_line (refusal_number refusal))) }
+    ensures written { Writes result (W.contents output.old) (W.contents output.new) (refused_line (refusal_number refusal)) }
 {
     let mut out = line_space();
-    let end = put_refused(&mut out, 0, n);
+    let end = put_refused(&mut out, 0, refusal);
     send_refusal(output, plan, rules, &out[..end])
 }
 
@@ -90,7 +91,7 @@ fn clear<R: Read, W: Write>(
     let done = fresh.load(plan, rules, &mut node_table, &mut state_table);
     let answer = done.answer;
     match answer {
-        CallAnswer::Accepted => {
+        Ok(()) => {
             let loaded = done.session;
             let turn = put_questions(
                 input,
@@ -102,14 +103,14 @@ fn clear<R: Read, W: Write>(
                 &state_table,
                 stated,
             )?;
-            return Ok(QuestionBytes {
+            Ok(QuestionBytes {
                 came: stated - turn.left,
                 sent: turn.sent,
-            });
+            })
         }
-        CallAnswer::Refused(n) => {
-            let sent = send_load_refusal(output, plan, rules, n)?;
-            return Ok(QuestionBytes { came: 0, sent });
+        Err(refusal) => {
+            let sent = send_load_refusal(output, plan, rules, refusal)?;
+            Ok(QuestionBytes { came: 0, sent })
         }
     }
 }

@@ -26,8 +26,7 @@ use Rattle.questions.specs.RootsAnswers.{roots_given}
 use Rattle.questions.specs.Promises.{RootsAre, RootsDone}
 use Rattle.questions.proofs.PlaceLaws.{to_below, to_some, below-entry}
 use Rattle.questions.proofs.RootedLaws.{rooted_none, RootedIs, rooted-some, roots-most, left-most}
-use Rattle.whole_questions.specs.declared.answers.Asking.{Asking}
-use Rattle.whole_questions.specs.declared.answers.Asking.TheVariants.{Answered, Refused}
+use Rattle.whole_questions.specs.declared.answers.Asked.{Asked}
 use Rattle.whole_questions.specs.Question.{handled_from, whole_with, whole_on, left_lent, view_lent, answer_for}
 use Rattle.whole_questions.specs.inner.Args.{RootArgs, LentArgs, answered_for, answered_on}
 use Rattle.whole_questions.proofs.AskChecks.{Passed, passed_are}
@@ -46,7 +45,7 @@ module _ (n s k : ℕ) (p r node_table state_table ms vs bs : List ℕ)
 
   module _ (t : Climbed)
       (D : t ≡ climbed_of (handled_from (view_in n s k p r node_table state_table) vs bs [] [] (reached 0 0 0) ms)) where
-    pub roots-lost : t ≡ OutOfRange → Refused 18 ≡ answered_for n s k p r node_table state_table ms vs bs
+    pub roots-lost : t ≡ OutOfRange → ◌≡◌ {A = ℕ × Option Asked} (18, none) (answered_for n s k p r node_table state_table ms vs bs)
     unfolding answer_for
     roots-lost e =
         ap (λ (o : Option Reached). answer_for r 0 (and_then o (λ x. some (whole_with x (length ms)))))
@@ -71,12 +70,15 @@ module _ (n s k : ℕ) (p r node_table state_table ms vs bs : List ℕ)
           ∙ get_or-take s (drop (20 + k + s * k * s) r) x.state 0 climbed-state
           ∙ get_or-drop (20 + k + s * k * s) r x.state 0))
 
+      abbrev pub answered-as : Bool → Asked
+      answered-as b = record { state = x.state; marked = b; parts = length ms; links = x.links; passed = x.passed }
+
       pub roots-answer : (c : ℕ) → c ≡ s * k * s
-          → Answered x.state (eqb (get_or r (20 + k + c + x.state) 0) 1) (length ms) x.links x.passed
+          → (0, some (answered-as (eqb (get_or r (20 + k + c + x.state) 0) 1)))
           ≡ answered_for n s k p r node_table state_table ms vs bs
       unfolding answer_for
       roots-answer c f =
-          ap (λ (b : Bool). Answered x.state b (length ms) x.links x.passed) (marked c f)
+          ap (λ (b : Bool). (0, some (answered-as b))) (marked c f)
           ∙ ap (λ (o : Option Reached). answer_for r 0 (and_then o (λ y. some (whole_with y (length ms))))) (sym is_found)
 
 -- ---- the roots that were found
@@ -99,7 +101,7 @@ module _ (p r node_table state_table vs bs : List ℕ) (A : LentArgs p r node_ta
       sym (ap₂ (λ (i : ℕ) (l : List ℕ). roots_given i (take (node_table_length i) node_table) l) n_is left_is) ∙ e
 
   module _ (q : Rooted) (R : RootsDone n (take (n * 4) node_table) (given_differing (take n (drop 12 p)) vs bs) q) where
-    pub lent-lost : q.ok ≡ false → Refused 18 ≡ answered_on p r node_table state_table vs bs
+    pub lent-lost : q.ok ≡ false → ◌≡◌ {A = ℕ × Option Asked} (18, none) (answered_on p r node_table state_table vs bs)
     unfolding answer_for whole_on
     lent-lost f = rw (roots-are none (rooted_none q _ R.result f))
 
@@ -143,7 +145,7 @@ module _ (p r node_table state_table vs bs : List ℕ) (A : LentArgs p r node_ta
             some_root = to_some (n - 1) found.list are.to;
           })
 
-      pub lent-answer : (a : Asking)
+      pub lent-answer : (a : ℕ × Option Asked)
           → a ≡ answered_for n s k p r node_table state_table (take q.count q.nodes) vs bs
           → a ≡ answered_on p r node_table state_table vs bs
       unfolding whole_on

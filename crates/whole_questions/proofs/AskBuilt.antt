@@ -87,7 +87,7 @@ module _ (p r node_table state_table vs bs : List ℕ) where
           (roots-are p r node_table state_table U.accepted U.links vs bs ok)
           ∙ ap (λ (o : Option Reached). and_then o (λ y. some (whole_with y (length (roots_left p vs bs))))) whole
 
-      pub ask-usable : ask_answer p r node_table state_table vs bs ≡ ruled_answer p r node_table state_table vs bs
+      pub ask-usable : ask_answer p r node_table state_table vs bs ≡ (0, some (ruled_answer p r node_table state_table vs bs))
       unfolding answer_for
       ask-usable =
           sym (lent_is p r node_table state_table vs bs _ (sym listed-passes ∙ ok) refl)
@@ -114,12 +114,12 @@ module _ (p r node_table state_table vs bs : List ℕ) where
     }
 
     pub ask-built : first_no (list_checks (node_count p) (label_count r) vs bs) ≡ 0
-        → ask_answer p r node_table state_table vs bs ≡ fresh_answer p r vs bs
+        → ask_answer p r node_table state_table vs bs ≡ (0, some (fresh_answer p r vs bs))
     ask-built ok =
         let parts = length (roots_left p vs bs) in
         let ps = parts_lent p r node_table state_table vs bs in
         ask-usable built-usable ok
-        ∙ ap (λ (y : ℕ). answered_with r (reached y (all_links ps) (all_passed ps)) parts)
+        ∙ ap (λ (y : ℕ). (0, some (answered_with r (reached y (all_links ps) (all_passed ps)) parts)))
         (whole-state z x vs bs built-inputs table-built)
-        ∙ ap₂ (λ (l d : ℕ). answered_with r (reached (root_state p r vs bs) l d) parts)
+        ∙ ap₂ (λ (l d : ℕ). (0, some (answered_with r (reached (root_state p r vs bs) l d) parts)))
         (whole-links z x vs bs built-inputs x) (whole-over z x vs bs built-inputs x)

@@ -1,7 +1,7 @@
 -- The number of a whole question, and the answer by it.
 --     number-listed, number-last   the number of the first check that fails: before 18, and 18
 --     refused-is, lent_is          so the code's answers are the named ones
---     on-number                    the number of the named answer
+--     told-asked, on-number        the number of the named answer
 use Prim.Native.Nat.{ℕ, zero, suc}
 use mathlib.Core.Path.{◌≡◌, refl, sym, ap, ◌∙◌}
 use mathlib.Core.Bool.{cond}
@@ -11,14 +11,21 @@ use native.Mathlib.Omega.{arith}
 use lib.ListN.{length}
 use Rattle.formats.specs.Plan.{node_count}
 use Rattle.formats.specs.Rules.{label_count}
+use Rattle.std.specs.Prelude.{Result, Ok, Err, IsErrAnd}
 use Rattle.formats.specs.Checks.{Check, check, first_no}
+use Rattle.formats.specs.Refusals.{refusal_number, answer_number, told}
+use Rattle.formats.specs.declared.refusals.Refusal.{Refusal}
 use Rattle.formats.proofs.CheckLaws.{first_no-append-zero, first_no-append-no, Numbered}
 use Rattle.formats.proofs.InputLaws.{list-numbered}
-use Rattle.whole_questions.specs.declared.answers.Asking.{Asking}
-use Rattle.whole_questions.specs.declared.answers.Asking.TheVariants.{Refused}
+use Rattle.formats.proofs.RefusalLaws.{number-not-0}
+use Rattle.whole_questions.specs.declared.answers.Asked.{Asked}
 use Rattle.whole_questions.specs.Question.{Whole, is_whole, whole_lent, listed_checks, ask_checks, ask_number, answer_for, ask_answer}
-use Rattle.whole_questions.specs.Question.{asking_number}
 use Rattle.whole_questions.specs.inner.Args.{answered_on}
+
+-- an answer tells its number
+pub told-asked : (a : Result Asked Refusal) → answer_number a ≡ (told a).0
+told-asked (Ok x) = refl
+told-asked (Err e) = refl
 
 module _ (p r node_table state_table vs bs : List ℕ) where
   abbrev listed : List Check
@@ -45,16 +52,22 @@ module _ (p r node_table state_table vs bs : List ℕ) where
       one : first_no last ≡ cond (is_whole on) 0 18
       one = unfold first_no in refl
 
-  pub refused-is : (m : ℕ) → m ≡ first_no listed → (m ≡ 0 → ⊥) → Refused m ≡ ask_answer p r node_table state_table vs bs
-  unfolding ask_answer answer_for
-  refused-is m e h =
-      go m h ∙ ap (λ (n : ℕ). answer_for r n on) (sym (number-listed (λ z. h (e ∙ z)) ∙ sym e))
-    where
-      go : (n : ℕ) → (n ≡ 0 → ⊥) → Refused n ≡ answer_for r n on
-      go zero f = absurd (f refl)
-      go (suc n) f = refl
+  no-answer : (n : ℕ) → (n ≡ 0 → ⊥) → ◌≡◌ {A = ℕ × Option Asked} (n, none) (answer_for r n on)
+  unfolding answer_for
+  no-answer zero f = absurd (f refl)
+  no-answer (suc n) f = refl
 
-  pub lent_is : (a : Asking) → first_no listed ≡ 0 → a ≡ answered_on p r node_table state_table vs bs
+  -- a is what `?` hands on of the checks' refusal x
+  pub refused-is : (x : Refusal) (a : Result Asked Refusal) → IsErrAnd a (λ e. e ≡ x) → refusal_number x ≡ first_no listed
+      → told a ≡ ask_answer p r node_table state_table vs bs
+  unfolding ask_answer
+  refused-is x (Ok y) h e = absurd h
+  refused-is x (Err y) h e =
+      let i : refusal_number y ≡ first_no listed = ap refusal_number h ∙ e in
+      no-answer (refusal_number y) (number-not-0 y)
+      ∙ ap (λ (n : ℕ). answer_for r n on) (i ∙ sym (number-listed (λ z. number-not-0 y (i ∙ z))))
+
+  pub lent_is : (a : ℕ × Option Asked) → first_no listed ≡ 0 → a ≡ answered_on p r node_table state_table vs bs
       → a ≡ ask_answer p r node_table state_table vs bs
   unfolding ask_answer answer_for
   lent_is a z e = e ∙ sym (ap (λ (n : ℕ). answer_for r n on) (number-last z) ∙ go on)
@@ -64,11 +77,11 @@ module _ (p r node_table state_table vs bs : List ℕ) where
       go (some w) = refl
 
   -- the number of the named answer is the first check's that fails
-  pub on-number : asking_number (ask_answer p r node_table state_table vs bs) ≡ ask_number p r node_table state_table vs bs
-  unfolding ask_answer answer_for asking_number
+  pub on-number : (ask_answer p r node_table state_table vs bs).0 ≡ ask_number p r node_table state_table vs bs
+  unfolding ask_answer answer_for
   on-number = go (first_no listed) refl
     where
-      named : (n : ℕ) (o : Option Whole) → (n ≡ 0 → (x : Whole) × (o ≡ some x)) → asking_number (answer_for r n o) ≡ n
+      named : (n : ℕ) (o : Option Whole) → (n ≡ 0 → (x : Whole) × (o ≡ some x)) → (answer_for r n o).0 ≡ n
       named zero none f = absurd (let y = (f refl).1 in let w : ◌≡◌ {A = ℕ} 0 1 = cc in omega arith)
       named zero (some w) f = refl
       named (suc n) none f = refl
@@ -79,7 +92,7 @@ module _ (p r node_table state_table vs bs : List ℕ) where
       found (some w) e = (w, refl)
 
       go : (n : ℕ) → first_no listed ≡ n
-          → asking_number (answer_for r (ask_number p r node_table state_table vs bs) on)
+          → (answer_for r (ask_number p r node_table state_table vs bs) on).0
           ≡ ask_number p r node_table state_table vs bs
       go zero z = named _ on (λ e. found on (sym (number-last z) ∙ e))
       go (suc n) z =

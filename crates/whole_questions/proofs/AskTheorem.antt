@@ -1,25 +1,29 @@
 -- The promise of a whole question.
 --     ask-kept   what holds of an answer for any inputs
---     ask-done   the whole promise, for any answer equal to askAnswer's
+--     ask-done   the whole promise, for any answer that tells what ask_answer says
 use Prim.Native.Nat.{ℕ, zero, suc, ◌+◌}
 use mathlib.Core.Path.{◌≡◌, refl, sym, ap, ◌∙◌, subst}
 use mathlib.Core.List.{List, []}
 use mathlib.Core.Option.{Option, none, some, some-injective}
 use native.Mathlib.Omega.{arith}
 use lib.ListN.{length}
+use Rattle.std.specs.Prelude.{Result, Ok, Err}
 use Rattle.trees.specs.Climb.{and_then}
 use Rattle.trees.proofs.MoveLaws.{none-some}
+use Rattle.formats.specs.Refusals.{answer_number, told}
+use Rattle.formats.specs.declared.refusals.Refusal.{Refusal}
+use Rattle.formats.proofs.RefusalLaws.{told-value}
 use Rattle.tables.specs.declared.answers.Reached.{Reached}
 use Rattle.tables.specs.Climbs.{View, reached}
 use Rattle.questions.specs.RootsAnswers.{roots_given}
 use Rattle.questions.proofs.FitLaws.{given-are}
 use Rattle.questions.proofs.PlaceLaws.{to_some}
-use Rattle.whole_questions.specs.declared.answers.Asking.{Asking}
+use Rattle.whole_questions.specs.declared.answers.Asked.{Asked}
 use Rattle.whole_questions.specs.Question.{view_lent, left_lent, handled_from, Whole, whole_with, whole_on, whole_lent}
-use Rattle.whole_questions.specs.Question.{ask_number, answer_for, ask_answer, asking_number}
-use Rattle.whole_questions.specs.Promise.{TotalKept, AskKept, AskDone}
+use Rattle.whole_questions.specs.Question.{answered_with, ask_number, answer_for, ask_answer}
+use Rattle.whole_questions.specs.Promise.{TotalKept, AskKept, ruled_answer, fresh_answer, AskDone}
 use Rattle.whole_questions.proofs.TotalLaws.{bounds-none, handled-bounds}
-use Rattle.whole_questions.proofs.AskNumbers.{on-number}
+use Rattle.whole_questions.proofs.AskNumbers.{told-asked, on-number}
 use Rattle.whole_questions.proofs.AskRange.{ask-range}
 use Rattle.whole_questions.proofs.AskBuilt.{ask-usable, ask-built}
 
@@ -55,24 +59,33 @@ on-kept X left vs bs w e = go (roots_given X.n X.node_table left) refl e
     go (some ms) q i = inside ms q (handled_from X vs bs [] [] (reached 0 0 0) ms) refl i
 
 module _ (p r node_table state_table vs bs : List ℕ) where
-  ask-kept : AskKept p r node_table state_table vs bs (ask_answer p r node_table state_table vs bs)
+  ask-kept : (a : Result Asked Refusal) → told a ≡ ask_answer p r node_table state_table vs bs
+      → AskKept p r node_table state_table vs bs a
   unfolding ask_answer answer_for
-  ask-kept = go (ask_number p r node_table state_table vs bs) (whole_lent p r node_table state_table vs bs) refl
+  ask-kept (Err e) h = tt
+  ask-kept (Ok x) h = go (ask_number p r node_table state_table vs bs) (whole_lent p r node_table state_table vs bs) refl h
     where
       go : (n : ℕ) (o : Option Whole) → whole_lent p r node_table state_table vs bs ≡ o
-          → AskKept p r node_table state_table vs bs (answer_for r n o)
-      go zero none e = tt
-      go zero (some w) e = (refl, on-kept (view_lent p r node_table state_table) (left_lent p vs bs) vs bs w e)
-      go (suc n) o e = tt
+          → ◌≡◌ {A = ℕ × Option Asked} (0, some x) (answer_for r n o) → AskKept p r node_table state_table vs bs (Ok x)
+      go zero none e i = absurd (let z : ◌≡◌ {A = ℕ} 0 18 = ap (λ t. t.0) i in omega arith)
+      go zero (some w) e i =
+          subst (λ (y : Asked). AskKept p r node_table state_table vs bs (Ok y))
+          (some-injective (answered_with r w.total w.parts) x (sym (ap (λ t. t.1) i)))
+          (refl, on-kept (view_lent p r node_table state_table) (left_lent p vs bs) vs bs w e)
+      go (suc n) o e i = absurd (let z : ◌≡◌ {A = ℕ} 0 (suc n) = ap (λ t. t.0) i in omega arith)
 
-  pub ask-done : (answer : Asking) → answer ≡ ask_answer p r node_table state_table vs bs
+  pub ask-done : (answer : Result Asked Refusal) → told answer ≡ ask_answer p r node_table state_table vs bs
       → AskDone p r node_table state_table vs bs answer
-  ask-done answer e = record {
-    result = e;
-    number = ap asking_number e ∙ on-number p r node_table state_table vs bs;
-    properties = subst (AskKept p r node_table state_table vs bs) (sym e) ask-kept;
-    out_of_range = λ i. ask-range p r node_table state_table vs bs
-        (sym (ap asking_number e ∙ on-number p r node_table state_table vs bs) ∙ i);
-    usable = λ U ok. e ∙ ask-usable p r node_table state_table vs bs U ok;
-    built = λ B ok. e ∙ ask-built p r node_table state_table vs bs B ok;
-  }
+  ask-done answer e =
+      let n : answer_number answer ≡ ask_number p r node_table state_table vs bs =
+      told-asked answer ∙ ap (λ t. t.0) e ∙ on-number p r node_table state_table vs bs in
+      record {
+        result = e;
+        number = n;
+        properties = ask-kept answer e;
+        out_of_range = λ i. ask-range p r node_table state_table vs bs (sym n ∙ i);
+        usable = λ U ok. told-value answer 0 (ruled_answer p r node_table state_table vs bs)
+            (e ∙ ask-usable p r node_table state_table vs bs U ok) refl;
+        built = λ B ok. told-value answer 0 (fresh_answer p r vs bs)
+            (e ∙ ask-built p r node_table state_table vs bs B ok) refl;
+      }

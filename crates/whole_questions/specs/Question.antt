@@ -8,7 +8,7 @@
 -- whole_on X left vs bs == that of a list vs, bs that leaves the nodes `left` in W; none: 18
 -- ask_checks .. == 17, 12, 13, 14 and 18, in this order; listed_checks == those before 18
 -- ask_number .. == the first that fails, 0 where none does
--- ask_answer .. == the answer, for any inputs; asking_number a == document 01's number of an answer
+-- ask_answer .. == what is told: that number, and the answer where none does
 --
 -- Each part is the session's own (part_on, crate questions): what an advance stores and counts. Superseding and equal
 -- labels are as in S-4 and S-5.
@@ -25,8 +25,7 @@ use Rattle.tables.specs.Climbs.{View, reached}
 use Rattle.questions.specs.Part.{part_on}
 use Rattle.questions.specs.PartAnswers.{view_in}
 use Rattle.questions.specs.RootsAnswers.{roots_given}
-use Rattle.whole_questions.specs.declared.answers.Asking.{Asking}
-use Rattle.whole_questions.specs.declared.answers.Asking.TheVariants.{Answered, Refused}
+use Rattle.whole_questions.specs.declared.answers.Asked.{Asked}
 
 abbrev pub view_lent : List ℕ → List ℕ → List ℕ → List ℕ → View
 view_lent p r node_table state_table = view_in (node_count p) (state_count r) (label_count r) p r node_table state_table
@@ -85,20 +84,22 @@ ask_number p r node_table state_table vs bs = first_no (ask_checks p r node_tabl
 
 -- ---- the answer
 
-unfoldable pub asking_number : Asking → ℕ
-asking_number (Answered q marked parts links passed) = 0
-asking_number (Refused n) = n
-
 -- "state, yes or no, parts, links"; document 02, S-7: and last the nodes passed over
-abbrev pub answered_with : List ℕ → Reached → ℕ → Asking
-answered_with r x parts = Answered x.state ((rule_automaton r).accepting x.state) parts x.links x.passed
+abbrev pub answered_with : List ℕ → Reached → ℕ → Asked
+answered_with r x parts = record {
+  state = x.state;
+  marked = (rule_automaton r).accepting x.state;
+  parts = parts;
+  links = x.links;
+  passed = x.passed;
+}
 
 -- "The first no gives its number; nothing else is returned and nothing is altered."
-unfoldable pub answer_for : List ℕ → ℕ → Option Whole → Asking
-answer_for r zero none = Refused 18
-answer_for r zero (some w) = answered_with r w.total w.parts
-answer_for r (suc n) o = Refused (suc n)
+unfoldable pub answer_for : List ℕ → ℕ → Option Whole → ℕ × Option Asked
+answer_for r zero none = (18, none)
+answer_for r zero (some w) = (0, some (answered_with r w.total w.parts))
+answer_for r (suc n) o = (suc n, none)
 
-unfoldable pub ask_answer : List ℕ → List ℕ → List ℕ → List ℕ → List ℕ → List ℕ → Asking
+unfoldable pub ask_answer : List ℕ → List ℕ → List ℕ → List ℕ → List ℕ → List ℕ → ℕ × Option Asked
 ask_answer p r node_table state_table vs bs =
     answer_for r (ask_number p r node_table state_table vs bs) (whole_lent p r node_table state_table vs bs)

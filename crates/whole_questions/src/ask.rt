@@ -1,13 +1,15 @@
 // The whole question: the state of the plan's root with the listed labels changed, whether it is marked, the parts,
 // their links and the nodes that these passed over.
 ghost use Rattle.std.specs.Prelude.{◌≡◌};
+ghost use Rattle.formats.specs.Refusals.{told};
 ghost use Rattle.whole_questions.specs.Promise.{AskDone};
 ghost use Rattle.whole_questions.specs.inner.Args.{RootArgs, LentArgs, answered_for, answered_on};
 
-use crate::answers::Asking;
+use crate::answers::Asked;
 use crate::checks::check_asked;
 use crate::parts::all_parts;
 use formats::bytes::read32;
+use formats::refusals::Refusal;
 use formats::rules::inner_count;
 use questions::changed_roots::roots_left;
 use tables::answers::Climbed;
@@ -24,10 +26,10 @@ fn answer_roots(
     roots: &[u16],
     nodes: &[u16],
     labels: &[u8],
-) -> Asking
+) -> Result<Asked, Refusal>
     requires { RootArgs n s k plan.now rules.now node_table.now state_table.now roots.now nodes.now
         labels.now }
-    ensures { result ≡ answered_for n s k plan.now rules.now node_table.now
+    ensures { told result ≡ answered_for n s k plan.now rules.now node_table.now
         state_table.now roots.now nodes.now labels.now }
 {
     match all_parts(
@@ -45,10 +47,16 @@ fn answer_roots(
         Climbed::Reached(x) => {
             let q = x.state;
             let yes = rules[20 + k + inner_count(s, k) + q as usize] == 1;
-            return Asking::Answered(q, yes, roots.len() as u32, x.links, x.passed);
+            return Ok(Asked {
+                state: q,
+                marked: yes,
+                parts: roots.len() as u32,
+                links: x.links,
+                passed: x.passed,
+            });
         }
         Climbed::OutOfRange => {
-            return Asking::Refused(18);
+            return Err(Refusal::LentValue);
         }
     }
 }
@@ -61,9 +69,9 @@ fn answer_lent(
     state_table: &[u8],
     nodes: &[u16],
     labels: &[u8],
-) -> Asking
+) -> Result<Asked, Refusal>
     requires { LentArgs plan.now rules.now node_table.now state_table.now nodes.now labels.now }
-    ensures { result ≡ answered_on plan.now rules.now node_table.now
+    ensures { told result ≡ answered_on plan.now rules.now node_table.now
         state_table.now nodes.now labels.now }
 {
     let n = read32(plan, 0);
@@ -71,7 +79,7 @@ fn answer_lent(
     let k = read32(rules, 4);
     let found = roots_left(n, plan, node_table, nodes, labels);
     if !found.ok {
-        return Asking::Refused(18);
+        return Err(Refusal::LentValue);
     }
     let p = found.count;
     let list = found.nodes;
@@ -98,20 +106,17 @@ pub fn ask(
     state_table: &[u8],
     nodes: &[u16],
     labels: &[u8],
-) -> Asking
+) -> Result<Asked, Refusal>
     ensures { AskDone plan.now rules.now node_table.now
         state_table.now nodes.now labels.now result }
 {
-    let no = check_asked(
+    check_asked(
         plan,
         rules,
         node_table.len(),
         state_table.len(),
         nodes,
         labels,
-    );
-    if no != 0 {
-        return Asking::Refused(no);
-    }
+    )?;
     answer_lent(plan, rules, node_table, state_table, nodes, labels)
 }

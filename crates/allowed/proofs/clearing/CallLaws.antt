@@ -11,6 +11,10 @@ use Rattle.formats.specs.Plan.{node_count, labels_within, kinds_in, plan_tree}
 use Rattle.formats.specs.Rules.{state_count, label_count, leaf_states, inner_states, rule_marks, rule_automaton}
 use Rattle.formats.specs.Checks.{first_no}
 use Rattle.formats.specs.Passing.{PlanPasses}
+use Rattle.formats.specs.Refusals.{refusal_number, answer_number}
+use Rattle.formats.specs.declared.refusals.Refusal.{Refusal}
+use Rattle.formats.proofs.RefusalLaws.{handed-on, number-not-0}
+use Rattle.std.specs.Prelude.{Result, IsErrAnd}
 use Rattle.formats.proofs.PlanLaws.{kinds-plan_tree, labels-plan_tree, size-plan_tree}
 use Rattle.formats.proofs.InputLaws.{rule-table-passes}
 use Rattle.allowed.specs.Clearing.{clearing_set, clearing_sets}
@@ -39,8 +43,12 @@ module _ {p r : List ℕ} {n s k m : ℕ} (a : CallArgs p r n s k m) (c : ℕ) (
 -- ---- the call's answers
 
 module _ (p r before : List ℕ) where
-  pub done_refused : (x : ℕ) → x ≡ first_no (node_room_checks p r (length before)) → (x ≡ 0 → ⊥) → ClearingDone p r before x before
-  done_refused x e h = record { number = e; written = λ z. absurd (h z); kept = λ _. refl }
+  -- a is what `?` hands on of a check's refusal x
+  pub done_refused : (x : Refusal) (a : Result Unit Refusal) → IsErrAnd a (λ e. e ≡ x)
+      → refusal_number x ≡ first_no (node_room_checks p r (length before)) → ClearingDone p r before (answer_number a) before
+  done_refused x a h e =
+      let z : answer_number a ≡ refusal_number x = handed-on x a h in
+      record { number = z ∙ e; written = λ w. absurd (number-not-0 x (sym z ∙ w)); kept = λ _. refl }
 
   pub done-written : (after : List ℕ) → first_no (node_room_checks p r (length before)) ≡ 0 → after ≡ clearing_over p r before
       → ClearingDone p r before 0 after

@@ -1,5 +1,6 @@
 // The call: the clearing states of each node of a plan, from plan and rules alone.
 ghost use Rattle.std.specs.Prelude.{◌≡◌, ◌≤◌, length};
+ghost use Rattle.formats.specs.Refusals.{answer_number};
 ghost use Rattle.allowed.specs.Answers.{clearing_over, ClearingDone};
 ghost use Rattle.allowed.specs.inner.Inputs.{PassArgs, MarksGiven, CallArgs};
 ghost use Rattle.allowed.specs.inner.clearing.Down.{SetsWritten};
@@ -9,6 +10,7 @@ use crate::clearing::down::sets_down;
 use crate::clearing::up::pairs_up;
 use crate::sets::marked_set;
 use formats::bytes::read32;
+use formats::refusals::Refusal;
 use formats::rules::inner_count;
 
 // Writes each node's clearing states: up, then down from the marked states.
@@ -51,18 +53,14 @@ fn write_clearing(plan: &[u8], rules: &[u8], n: usize, s: usize, k: usize, sets:
 }
 
 // For each node the states with which the plan is cleared, as the bits of a number: bit q is 1 exactly where the plan is
-// cleared with state q at this node, all else as it is. It returns the number of the first check that fails, of 2 to 11;
-// then nothing is written.
-pub fn clearing_states(plan: &[u8], rules: &[u8], sets: &mut [u16]) -> u8
-    ensures { ClearingDone plan.now rules.now sets.old result sets.new }
+// cleared with state q at this node, all else as it is. It asks 2 to 11; refused, nothing is written.
+pub fn clearing_states(plan: &[u8], rules: &[u8], sets: &mut [u16]) -> Result<(), Refusal>
+    ensures { ClearingDone plan.now rules.now sets.old (answer_number result) sets.new }
 {
-    let refused = check_node_room(plan, rules, sets.len());
-    if refused != 0 {
-        return refused;
-    }
+    check_node_room(plan, rules, sets.len())?;
     let n = read32(plan, 0);
     let s = read32(rules, 0);
     let k = read32(rules, 4);
     write_clearing(plan, rules, n, s, k, sets);
-    0
+    Ok(())
 }

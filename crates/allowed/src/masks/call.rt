@@ -1,5 +1,6 @@
 // The call: the labels that each node of a plan may take, from plan and rules alone.
 ghost use Rattle.std.specs.Prelude.{◌≡◌, ◌≤◌, length};
+ghost use Rattle.formats.specs.Refusals.{answer_number};
 ghost use Rattle.allowed.specs.Answers.{allowed_over, AllowedDone};
 ghost use Rattle.allowed.specs.inner.Inputs.{PassArgs, MarksGiven, CallArgs};
 ghost use Rattle.allowed.specs.inner.masks.Down.{DownWritten};
@@ -10,6 +11,7 @@ use crate::masks::down::come_down;
 use crate::masks::up::run_up;
 use crate::sets::marked_set;
 use formats::bytes::read32;
+use formats::refusals::Refusal;
 use formats::rules::inner_count;
 
 // The root's set: the marked states.
@@ -62,18 +64,14 @@ fn write_allowed(plan: &[u8], rules: &[u8], n: usize, s: usize, k: usize, masks:
 }
 
 // For each node the labels that it may take, as the bits of a number: bit a is 1 exactly where the plan with this node
-// alone relabelled to a is cleared. It returns the number of the first check that fails, of 2 to 11; then nothing is
-// written.
-pub fn allowed_labels(plan: &[u8], rules: &[u8], masks: &mut [u64]) -> u8
-    ensures { AllowedDone plan.now rules.now masks.old result masks.new }
+// alone relabelled to a is cleared. It asks 2 to 11; refused, nothing is written.
+pub fn allowed_labels(plan: &[u8], rules: &[u8], masks: &mut [u64]) -> Result<(), Refusal>
+    ensures { AllowedDone plan.now rules.now masks.old (answer_number result) masks.new }
 {
-    let refused = check_node_room(plan, rules, masks.len());
-    if refused != 0 {
-        return refused;
-    }
+    check_node_room(plan, rules, masks.len())?;
     let n = read32(plan, 0);
     let s = read32(rules, 0);
     let k = read32(rules, 4);
     write_allowed(plan, rules, n, s, k, masks);
-    0
+    Ok(())
 }

@@ -17,11 +17,12 @@
 -- The promises of the calls themselves, on every input, are the contracts in src/ (this crate's and those below).
 use Prim.Native.Nat.{ℕ, ◌+◌, ◌-◌, ◌≤◌, ◌<◌}
 use mathlib.Core.Path.{◌≡◌}
-use mathlib.Core.Bool.{true}
+use mathlib.Core.Bool.{Bool, true}
 use mathlib.Core.List.{List, [], ◌∷◌}
 use mathlib.Core.Logic.{◌↔◌}
 use mathlib.Core.Option.{Option, some}
 use lib.ListN.{length}
+use Rattle.std.specs.Prelude.{Result, Ok}
 use Rattle.trees.specs.Tree.{Tree, leaf, size, label_at}
 use Rattle.trees.specs.Automaton.{Automaton, run, state}
 use Rattle.trees.specs.Numbering.{sub, depth, word, lower_word, AtOrBelow}
@@ -38,15 +39,13 @@ use Rattle.formats.specs.Rules.{branch_automaton}
 use Rattle.formats.specs.Checks.{first_no, plan_checks, build_checks, branch_build_checks}
 use Rattle.formats.specs.Built.{built_node_table, built_state_table, built_branch_table, AsBuilt, BranchBuilt}
 use Rattle.formats.proofs.PlanTheorems as plan-theorems
-use Rattle.tables.specs.declared.answers.Building.{Building}
-use Rattle.tables.specs.declared.answers.Checking.{Checking}
-use Rattle.tables.specs.declared.answers.Checking.TheVariants.{Yes}
-use Rattle.tables.specs.Answers.{building_number, BuildDone, CheckDone}
+use Rattle.formats.specs.Refusals.{answer_number}
+use Rattle.formats.specs.declared.refusals.Refusal.{Refusal}
+use Rattle.tables.specs.Answers.{BuildDone, CheckDone}
 use Rattle.tables.proofs.BuildLaws.{built-as-built}
 use Rattle.tables.proofs.CheckTheorems.{check-yes, yes-check}
 use Rattle.branches.specs.declared.answers.Reading.{Reading}
 use Rattle.branches.specs.declared.answers.Reading.TheVariants.{BelowUpper}
-use Rattle.branches.specs.declared.answers.Branching.TheVariants.{Answered}
 use Rattle.branches.specs.Question.{branched, ask_number, ask_answer}
 use Rattle.branches.specs.OutOfRange.{BranchOutOfRange}
 use Rattle.branches.specs.Promise.{word_answer}
@@ -68,26 +67,26 @@ two-nodes : (p : List ℕ) → length p ≡ 16 → node_count p ≡ 2 → le32 p
 two-nodes = plan-theorems.two-nodes
 
 -- for any contents of the buffers: what a build that answers 0 leaves in them
-builds : (p r node_table state_table node_table' state_table' : List ℕ) (a : Building)
+builds : (p r node_table state_table node_table' state_table' : List ℕ) (a : Result Unit Refusal)
     → BuildDone (first_no (build_checks p r (length node_table) (length state_table))) (built_node_table p) (built_state_table p r) node_table state_table
     a node_table' state_table'
-    → building_number a ≡ 0 → AsBuilt p r node_table' state_table'
+    → answer_number a ≡ 0 → AsBuilt p r node_table' state_table'
 builds = built-as-built
 
-branch-builds : (p r node_table state_table node_table' state_table' : List ℕ) (a : Building)
+branch-builds : (p r node_table state_table node_table' state_table' : List ℕ) (a : Result Unit Refusal)
     → BuildDone (first_no (branch_build_checks p r (length node_table) (length state_table))) (built_node_table p) (built_branch_table p r)
     node_table state_table a node_table' state_table'
-    → building_number a ≡ 0 → BranchBuilt p r node_table' state_table'
+    → answer_number a ≡ 0 → BranchBuilt p r node_table' state_table'
 branch-builds = branch-theorems.built-branch-built
 
-full-checks : (p r node_table state_table : List ℕ) (a : Checking)
+full-checks : (p r node_table state_table : List ℕ) (a : Result Bool Refusal)
     → CheckDone (first_no (build_checks p r (length node_table) (length state_table))) (built_node_table p) (built_state_table p r) node_table state_table a
-    → (a ≡ Yes) ↔ AsBuilt p r node_table state_table
+    → (a ≡ Ok true) ↔ AsBuilt p r node_table state_table
 full-checks p r node_table state_table a D = (check-yes p r node_table state_table a D, yes-check p r node_table state_table a D)
 
-branch-full-checks : (p r node_table state_table : List ℕ) (a : Checking)
+branch-full-checks : (p r node_table state_table : List ℕ) (a : Result Bool Refusal)
     → CheckDone (first_no (branch_build_checks p r (length node_table) (length state_table))) (built_node_table p) (built_branch_table p r) node_table state_table a
-    → (a ≡ Yes) ↔ BranchBuilt p r node_table state_table
+    → (a ≡ Ok true) ↔ BranchBuilt p r node_table state_table
 branch-full-checks p r node_table state_table a D =
     (branch-theorems.check-yes p r node_table state_table a D, branch-theorems.yes-check p r node_table state_table a D)
 
@@ -110,7 +109,7 @@ two-words = word_below
 
 -- "the same node twice is the empty word, and the mark of state 0 decides"
 empty-word : (p r node_table state_table : List ℕ) → BranchBuilt p r node_table state_table → (u : ℕ) → u < node_count p
-    → ask_answer BelowUpper p r node_table state_table u u ≡ Answered (branched (branch_automaton r) 0 0 0)
+    → ask_answer BelowUpper p r node_table state_table u u ≡ Ok (branched (branch_automaton r) 0 0 0)
 empty-word = ask-theorem.empty-word
 
 branch-in-range : (p r node_table state_table : List ℕ) (reading : Reading) (u l : ℕ)

@@ -13,14 +13,14 @@
 --     branch-told, branch-apart     on tables as built: the word automaton's state and mark, the links of the climb
 --                         from the lower node to the upper's depth, the nodes passed over; 16 where it is not at or
 --                         below
-use Prim.Native.Nat.{ℕ, zero, suc, ◌-◌, ◌<◌}
+use Prim.Native.Nat.{ℕ, ◌-◌, ◌<◌}
 use mathlib.Core.Path.{◌≡◌, refl, sym, ap, ◌∙◌, subst}
-use mathlib.Core.Bool.{Bool, true, false}
+use mathlib.Core.Bool.{Bool}
 use mathlib.Core.List.{List}
 use mathlib.Core.Logic.{◌↔◌}
 use mathlib.Core.Option.{some}
-use native.Mathlib.Omega.{arith}
 use lib.ListN.{length}
+use Rattle.std.specs.Prelude.{Result, Ok, Err}
 use contract.Lifetimes.{Lfts}
 use borrow.Fn.World.{ArgsD, ResD}
 use borrow.Fn.Kinds.{ended_of}
@@ -35,19 +35,18 @@ use Rattle.formats.specs.Plan.{node_count, plan_tree}
 use Rattle.formats.specs.Rules.{branch_automaton}
 use Rattle.formats.specs.Checks.{first_no, branch_build_checks}
 use Rattle.formats.specs.Built.{built_node_table, built_branch_table, BranchBuilt}
-use Rattle.tables.specs.declared.answers.Checking.{Checking}
-use Rattle.tables.specs.declared.answers.Checking.TheVariants.{Yes, No, Refused as NotChecked}
-use Rattle.tables.specs.Answers.{check_number, check_answer, same_tables}
+use Rattle.formats.specs.Refusals.{answer_number}
+use Rattle.formats.specs.declared.refusals.Refusal.{Refusal}
 use Rattle.branches.specs.declared.answers.Reading.{Reading}
 use Rattle.branches.specs.declared.answers.Reading.TheVariants.{BelowUpper}
-use Rattle.branches.specs.declared.answers.Branching.{Branching}
-use Rattle.branches.specs.declared.answers.Branching.TheVariants.{Answered, Refused}
-use Rattle.branches.specs.Question.{branch_number, ask_checks, ask_number}
+use Rattle.branches.specs.declared.answers.Branched.{Branched}
+use Rattle.branches.specs.Question.{ask_checks, ask_number}
 use Rattle.branches.specs.Promise.{word_of, word_answer}
 use Rattle.branches.proofs.AskBuilt.{size_is}
 use Rattle.branches.proofs.BranchTheorems as branch-theorems
 use Rattle.capi.specs.numbers.Numbers.{bit_of, yes_of, BuildExported, CheckExported}
 use Rattle.capi.proofs.numbers.BuildExportedLaws.{exported-number, exported-kept}
+use Rattle.capi.proofs.numbers.CheckExportedLaws.{checked-number, checked-yes, checked-kept}
 use Rattle.capi.specs.branch_calls.BranchExported.{end_of, accepted_of, links_of, passed_of, AskExported}
 use Rattle.capi.specs.contracts.branch_calls.whatif_branch_build as build-fn
 use Rattle.capi.proofs.branch_calls.whatif_branch_build.Kinds as build-kinds
@@ -101,37 +100,24 @@ module _ (p r node_table state_table : List ℕ) (n yes₀ yes₁ : ℕ)
     (E : CheckExported (first_no (branch_build_checks p r (length node_table) (length state_table))) (built_node_table p)
     (built_branch_table p r) node_table state_table n yes₀ yes₁) where
   pub branch-check-number : n ≡ first_no (branch_build_checks p r (length node_table) (length state_table))
-  branch-check-number = E.number.result ∙ E.done.number
+  branch-check-number =
+      checked-number _ (built_node_table p) (built_branch_table p r) node_table state_table n yes₀ yes₁ E
 
   -- "a full check of lent tables, whose yes holds exactly when they are what the build writes"
   pub branch-check-exactly : ((n ≡ 0) × (yes₁ ≡ 1)) ↔ BranchBuilt p r node_table state_table
-  unfolding check_answer
   branch-check-exactly = (
     λ z. branch-theorems.check-yes p r node_table state_table E.answer E.done
-        (is-yes (first_no (branch_build_checks p r (length node_table) (length state_table)))
-        (same_tables (built_node_table p) (built_branch_table p r) node_table state_table) E.answer E.done.result
-        (sym branch-check-number ∙ z.0) (sym E.number.yes_answer ∙ z.1)),
+        (checked-yes _ (built_node_table p) (built_branch_table p r) node_table state_table n yes₀ yes₁ E z.0 z.1),
     λ B. (
       branch-check-number ∙ branch-theorems.branch-built-passes p r node_table state_table B,
-      E.number.yes_answer ∙ ap (λ (a : Checking). yes_of a yes₀)
+      E.number.yes_answer ∙ ap (λ (a : Result Bool Refusal). yes_of a yes₀)
           (branch-theorems.yes-check p r node_table state_table E.answer E.done B),
     ),
   )
-    where
-      is-yes : (k : ℕ) (same : Bool) (a : Checking) → a ≡ check_answer k same → k ≡ 0 → yes_of a yes₀ ≡ 1 → a ≡ Yes
-      is-yes zero true a e z y = e
-      is-yes zero false a e z y =
-          let q : ◌≡◌ {A = ℕ} 0 1 = sym (ap (λ (x : Checking). yes_of x yes₀) e) ∙ y in absurd (omega arith)
-      is-yes (suc k) same a e z y = absurd (omega arith)
 
   pub branch-check-kept : (n ≡ 0 → ⊥) → yes₁ ≡ yes₀
-  unfolding check_number
-  branch-check-kept h = E.number.yes_answer ∙ kept E.answer (λ e. h (E.number.result ∙ e))
-    where
-      kept : (a : Checking) → (check_number a ≡ 0 → ⊥) → yes_of a yes₀ ≡ yes₀
-      kept Yes z = absurd (z refl)
-      kept No z = absurd (z refl)
-      kept (NotChecked m) z = refl
+  branch-check-kept =
+      checked-kept _ (built_node_table p) (built_branch_table p r) node_table state_table n yes₀ yes₁ E
 
 -- ---- the question
 
@@ -155,17 +141,16 @@ module _ (reading : Reading) (p r node_table state_table : List ℕ)
 
     pub branch_kept : (n ≡ 0 → ⊥)
         → (state₁ ≡ state₀) × (yes₁ ≡ yes₀) × (links₁ ≡ links₀) × (passed₁ ≡ passed₀)
-    unfolding branch_number
     branch_kept h =
         let N = E.number in
         let w = not-answered E.answer (λ e. h (N.result ∙ e)) in
         (N.state_answer ∙ w.0, N.yes_answer ∙ w.1, N.links_answer ∙ w.2, N.passed_answer ∙ w.3)
       where
-        not-answered : (a : Branching) → (branch_number a ≡ 0 → ⊥)
+        not-answered : (a : Result Branched Refusal) → (answer_number a ≡ 0 → ⊥)
             → (end_of a state₀ ≡ state₀) × (accepted_of a yes₀ ≡ yes₀) × (links_of a links₀ ≡ links₀)
             × (passed_of a passed₀ ≡ passed₀)
-        not-answered (Answered b) z = absurd (z refl)
-        not-answered (Refused m) z = (refl, refl, refl, refl)
+        not-answered (Ok b) z = absurd (z refl)
+        not-answered (Err e) z = (refl, refl, refl, refl)
 
     -- "It tells state, yes or no, and the links of the climb from the lower node to the upper's depth"
     pub record WordTold : Type 0 where
@@ -179,26 +164,25 @@ module _ (reading : Reading) (p r node_table state_table : List ℕ)
 
     module _ (B : BranchBuilt p r node_table state_table) (hu : u < node_count p) (hl : l < node_count p) where
       pub branch-told : AtOrBelow (plan_tree p) u l → WordTold
-      unfolding branch_number word_answer
+      unfolding word_answer
       branch-told A =
           let i : E.answer ≡ word_answer reading p r u l = E.done.built B hu hl A in
           let h : l < size (plan_tree p) =
           subst (λ (x : ℕ). l < x) (sym (size_is p r node_table state_table B)) hl in
           let c : Climbed (plan_tree p) l (depth (plan_tree p) u) =
           climb-tree (plan_tree p) l (depth (plan_tree p) u) h (above_at (plan_tree p) u l h A).0 in
-          let s = E.number.state_answer ∙ ap (λ (x : Branching). end_of x state₀) i in
+          let s = E.number.state_answer ∙ ap (λ (x : Result Branched Refusal). end_of x state₀) i in
           record {
-            accepted = E.number.result ∙ ap branch_number i;
+            accepted = E.number.result ∙ ap answer_number i;
             state = s;
-            yes = E.number.yes_answer ∙ ap (λ (x : Branching). accepted_of x yes₀) i
+            yes = E.number.yes_answer ∙ ap (λ (x : Result Branched Refusal). accepted_of x yes₀) i
                 ∙ ap (λ (q : ℕ). bit_of ((branch_automaton r).accepting q)) (sym s);
             moves = c.moves;
             climbed = c.found;
-            links_are = E.number.links_answer ∙ ap (λ (x : Branching). links_of x links₀) i ∙ sym c.count;
-            passed_are = E.number.passed_answer ∙ ap (λ (x : Branching). passed_of x passed₀) i;
+            links_are = E.number.links_answer ∙ ap (λ (x : Result Branched Refusal). links_of x links₀) i ∙ sym c.count;
+            passed_are = E.number.passed_answer ∙ ap (λ (x : Result Branched Refusal). passed_of x passed₀) i;
           }
 
       -- "lower node at or below upper? 16"
       pub branch-apart : (AtOrBelow (plan_tree p) u l → ⊥) → n ≡ 16
-      unfolding branch_number
-      branch-apart h = E.number.result ∙ ap branch_number (E.done.apart B hu hl h)
+      branch-apart h = E.number.result ∙ ap answer_number (E.done.apart B hu hl h)

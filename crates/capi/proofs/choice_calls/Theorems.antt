@@ -3,7 +3,7 @@
 --                       definition by trying all"
 --     count-sum         "and their sum is K to the power m"
 --     count-as-asked    "the parts and links told are those of a question whose W is these nodes and the root"
-use Prim.Native.Nat.{ℕ, ◌-◌, ◌^◌, ◌≤◌}
+use Prim.Native.Nat.{ℕ, ◌^◌, ◌≤◌}
 use mathlib.Core.Path.{◌≡◌, refl, sym, ap, ◌∙◌}
 use mathlib.Core.List.{List, [], ◌∷◌, ◌++◌}
 use native.Mathlib.Omega.{arith}
@@ -17,15 +17,15 @@ use Rattle.formats.specs.Rules.{state_count, label_count, rule_automaton}
 use Rattle.formats.specs.Checks.{check, first_no}
 use Rattle.formats.specs.Built.{AsBuilt}
 use Rattle.formats.proofs.CheckLaws.{first_no-append-left}
+use Rattle.formats.proofs.RefusalLaws.{value-told}
 use Rattle.questions.specs.ready.Members.{roots}
 use Rattle.questions.specs.ready.Parts.{question_links}
 use Rattle.choices.specs.assignments.Assignments.{counted}
 use Rattle.choices.specs.assignments.Sums.{sum_to}
-use Rattle.choices.specs.question_counts.CountOn.{count_view, is_countable, listed_checks, count_checks}
+use Rattle.choices.specs.question_counts.CountOn.{count_view, is_countable, listed_checks, count_checks, count_number}
 use Rattle.choices.proofs.question_counts.BuiltCounts.{rp, built-sum}
 use Rattle.choices.specs.declared.count.Counted.{Counted}
-use Rattle.choices.specs.Promise.{count_result, tried_count}
-use Rattle.choices.proofs.Theorem.{count-done}
+use Rattle.choices.specs.Promise.{count_value, count_result, tried_count}
 use Rattle.capi.specs.choice_calls.CountExported.{exported_checks, CountExported}
 use Rattle.capi.proofs.choice_calls.ExportCases.{listed-numbered, checks-numbered}
 
@@ -47,8 +47,11 @@ module _ (p r node_table state_table vs counts : List ℕ) (parts links : ℕ) (
       (check 11 (leb (state_count r) (length counts)) ∷ []) (checks-numbered p r node_table state_table vs)
       (sym E.number))
 
-  tried : count_result p r node_table state_table vs ≡ tried_count p r vs
-  tried = (count-done p r node_table state_table vs (count_result p r node_table state_table vs) refl).built B accepted
+  tried : count_value p r node_table state_table vs ≡ tried_count p r vs
+  unfolding count_result
+  tried =
+      (value-told (tried_count p r vs) (count_number p r node_table state_table vs)
+      (count_value p r node_table state_table vs) (sym (E.done.built B accepted))).1
 
   pub count-tried : counts' ≡ tabulate (state_count r) (counted (rule_automaton r) (label_count r) (plan_tree p) vs)
       ++ drop (state_count r) counts

@@ -11,6 +11,7 @@ use Prim.Native.Nat.{ℕ, ◌+◌, ◌-◌, ◌<◌}
 use mathlib.Core.Path.{◌≡◌, refl, sym, ap, ◌∙◌, subst}
 use mathlib.Core.Bool.{Bool, true, false, cond, ◌&&◌, ◌||◌}
 use mathlib.Core.List.{List, [], ◌∷◌, ◌++◌}
+use mathlib.Core.Option.{some}
 use native.Mathlib.Omega.{arith}
 use lib.Dec.{eqb, leb, ltb}
 use lib.ListN.{length, get_or, drop, get_or-append}
@@ -31,6 +32,7 @@ use Rattle.formats.specs.Plan.{plan_tree}
 use Rattle.formats.specs.Rules.{state_count, label_count, rule_automaton}
 use Rattle.formats.specs.Checks.{check, first_no}
 use Rattle.formats.specs.Built.{AsBuilt}
+use Rattle.formats.specs.Refusals.{told_as}
 use Rattle.formats.proofs.CheckLaws.{first_no-append-left}
 use Rattle.questions.specs.ready.Ready.{left_child, right_child}
 use Rattle.questions.specs.ready.Members.{roots}
@@ -40,7 +42,8 @@ use Rattle.choices.specs.assignments.Sums.{one}
 use Rattle.choices.specs.assignments.Assignments.{counted}
 use Rattle.choices.proofs.assignments.Theorems.{none_open}
 use Rattle.choices.specs.question_counts.CountOn.{count_checks, count_number}
-use Rattle.choices.specs.Promise.{count_result, CountDone}
+use Rattle.choices.specs.declared.count.Counted.{Counted}
+use Rattle.choices.specs.Promise.{count_value, count_result, CountDone}
 use Rattle.choices.proofs.Theorems as choices
 use Rattle.capi.specs.choice_calls.CountExported.{exported_checks, CountExported}
 use Rattle.capi.proofs.choice_calls.ExportCases.{checks-numbered}
@@ -110,20 +113,26 @@ module _ (p r node_table state_table counts : List ℕ) (parts links : ℕ) (cou
   D : CountDone p r node_table state_table [] (count_result p r node_table state_table [])
   D = E.done
 
-  accepted : (count_result p r node_table state_table []).answer ≡ 0
+  abbrev value : Counted
+  value = count_value p r node_table state_table []
+
+  passed : count_number p r node_table state_table [] ≡ 0
   unfolding exported_checks count_number
-  accepted = D.number
-      ∙ first_no-append-left (count_checks p r node_table state_table [])
+  passed =
+      first_no-append-left (count_checks p r node_table state_table [])
       (check 11 (leb (state_count r) (length counts)) ∷ []) (checks-numbered p r node_table state_table [])
       (sym E.number)
+
+  accepted : count_result p r node_table state_table [] ≡ (0, some value)
+  unfolding count_result
+  accepted = ap (λ (n : ℕ). told_as n value) passed
 
   -- "With no open node the run's own state has count 1"
   pub count-none-open : (parts' ≡ 1) × (links' ≡ 0)
       × ((c : ℕ) → c < state_count r → get_or counts' c 0 ≡ one c (state (rule_automaton r) (plan_tree p)))
   count-none-open =
-      let single = (choices.count-none-open p r node_table state_table (count_result p r node_table state_table []) D B accepted
-      ).0 in
-      let asked = choices.count-parts p r node_table state_table [] (count_result p r node_table state_table []) D B accepted in
+      let single = (choices.count-none-open p r node_table state_table _ D B value accepted).0 in
+      let asked = choices.count-parts p r node_table state_table [] _ D B value accepted in
       let top : size (plan_tree p) - 1 + 1 ≡ size (plan_tree p) = omega (arith, size-pos (plan_tree p)) in (
         E.parts_are refl ∙ single,
         E.links_are refl ∙ asked.1

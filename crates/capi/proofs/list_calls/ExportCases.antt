@@ -8,13 +8,17 @@ use mathlib.Core.List.{List, [], ◌∷◌, ◌++◌}
 use native.Mathlib.Omega.{arith}
 use lib.Dec.{leb}
 use lib.ListN.{length, take, drop}
+use Rattle.std.specs.Prelude.{Ok, Err}
 use borrow.Author.Tests.{le-leb, lt-leb}
 use Rattle.list_laws.proofs.BoolLaws.{and_both, and-no-left, and-no-right}
 use Rattle.formats.specs.Checks.{check, first_no}
+use Rattle.formats.specs.Refusals.{refusal_number}
+use Rattle.formats.specs.declared.refusals.Refusal.{Refusal}
+use Rattle.formats.proofs.RefusalLaws.{number-not-0, value-told}
 use Rattle.formats.proofs.CheckLaws.{Numbered, first_no-append-zero, first_no-append-no, first_no-yes, first_no-no, first_no-none}
 use Rattle.changes.specs.Entries.{nodes_listed, labels_listed}
-use Rattle.changes.specs.LayOver.{padded, laid, lay_checks, lay_number, laid_reply, lay_reply, laying_number, LayDone}
-use Rattle.changes.specs.declared.LaidOver.{LaidOver}
+use Rattle.changes.specs.LayOver.{padded, laid, lay_checks, lay_number, laid_list, LayDone}
+use Rattle.changes.specs.declared.ChangeList.{ChangeList}
 use Rattle.changes.proofs.EntryLaws.{length-nodes, length-labels}
 use Rattle.changes.proofs.StoredLaws.{take-padded}
 use Rattle.changes.proofs.Theorems.{lay-zero}
@@ -25,93 +29,109 @@ checks-numbered : (lvs lbs uvs ubs : List ℕ) → Numbered (lay_checks lvs lbs 
 unfolding lay_checks
 checks-numbered lvs lbs uvs ubs = (omega arith, (omega arith, (omega arith, tt)))
 
-module _ (lvs lbs uvs ubs : List ℕ) (r : LaidOver) (D : LayDone lvs lbs uvs ubs r) (m : ℕ) (is : m ≡ laying_number r.answer) where
-  -- ---- an accepted reply
+module _ (lvs lbs uvs ubs : List ℕ) where
+  -- whether buffers of these lengths are long enough
+  abbrev room : ℕ → ℕ → Bool
+  room nodes labels = leb (length (laid lvs lbs uvs ubs)) nodes && leb (length (laid lvs lbs uvs ubs)) labels
 
-  passed : m ≡ 0 → lay_number lvs lbs uvs ubs ≡ 0
-  passed z = sym D.number ∙ sym is ∙ z
+  -- a number that is not 0, and all as it was
+  kept : (nodes labels : List ℕ) (count n : ℕ) → (n ≡ 0 → ⊥)
+      → n ≡ first_no (exported_checks lvs lbs uvs ubs (length nodes) (length labels))
+      → LayExported lvs lbs uvs ubs nodes labels count n nodes labels count
+  kept nodes labels count n z e = record {
+    number = e;
+    nodes_are = λ q. absurd (z q);
+    labels_are = λ q. absurd (z q);
+    count_is = λ q. absurd (z q);
+    nodes_kept = λ _. refl;
+    labels_kept = λ _. refl;
+    count_kept = λ _. refl;
+  }
 
-  pub accepted-is : m ≡ 0 → r ≡ laid_reply (laid lvs lbs uvs ubs)
-  accepted-is z = D.reply ∙ ap (λ (n : ℕ). lay_reply n (laid lvs lbs uvs ubs)) (passed z)
+  -- ---- a refused call, whose refusal r is told as m
 
-  count-length : m ≡ 0 → r.count ≡ length (laid lvs lbs uvs ubs)
-  count-length z = ap (λ (x : LaidOver). x.count) (accepted-is z)
+  pub refused-exported : (r : Refusal) → LayDone lvs lbs uvs ubs (Err r) → (nodes labels : List ℕ) (count m : ℕ)
+      → m ≡ refusal_number r → LayExported lvs lbs uvs ubs nodes labels count m nodes labels count
+  unfolding exported_checks
+  refused-exported r D nodes labels count m is =
+      kept nodes labels count m (λ q. number-not-0 r (sym is ∙ q))
+      (is ∙ D.number
+      ∙ sym (first_no-append-no (lay_checks lvs lbs uvs ubs) (check 11 (room (length nodes) (length labels)) ∷ [])
+      (λ q. number-not-0 r (D.number ∙ q))))
 
-  pub count_most : m ≡ 0 → r.count ≤ 64
-  count_most z = omega (arith, count-length z, (lay-zero lvs lbs uvs ubs (passed z)).remain)
+  -- ---- the list t of an accepted one
 
-  nodes-over : m ≡ 0 → (d : List ℕ)
-      → over_buffer r.count r.nodes d ≡ nodes_listed (laid lvs lbs uvs ubs) ++ drop (length (laid lvs lbs uvs ubs)) d
-  nodes-over z d =
-      ap (λ (x : LaidOver). over_buffer x.count x.nodes d) (accepted-is z)
-      ∙ ap (λ (x : List ℕ). x ++ drop (length (laid lvs lbs uvs ubs)) d)
-      (ap (λ (n : ℕ). take n (padded (nodes_listed (laid lvs lbs uvs ubs)))) (sym (length-nodes (laid lvs lbs uvs ubs)))
-      ∙ take-padded (nodes_listed (laid lvs lbs uvs ubs)))
+  module _ (t : ChangeList) (D : LayDone lvs lbs uvs ubs (Ok t)) where
+    passed : lay_number lvs lbs uvs ubs ≡ 0
+    passed = sym D.number
 
-  labels-over : m ≡ 0 → (d : List ℕ)
-      → over_buffer r.count r.labels d ≡ labels_listed (laid lvs lbs uvs ubs) ++ drop (length (laid lvs lbs uvs ubs)) d
-  labels-over z d =
-      ap (λ (x : LaidOver). over_buffer x.count x.labels d) (accepted-is z)
-      ∙ ap (λ (x : List ℕ). x ++ drop (length (laid lvs lbs uvs ubs)) d)
-      (ap (λ (n : ℕ). take n (padded (labels_listed (laid lvs lbs uvs ubs)))) (sym (length-labels (laid lvs lbs uvs ubs)))
-      ∙ take-padded (labels_listed (laid lvs lbs uvs ubs)))
+    pub accepted-is : t ≡ laid_list (laid lvs lbs uvs ubs)
+    accepted-is = sym (value-told t (lay_number lvs lbs uvs ubs) (laid_list (laid lvs lbs uvs ubs)) D.reply).1
 
-  -- ---- the ways out
+    count-length : t.count ≡ length (laid lvs lbs uvs ubs)
+    count-length = ap (λ (x : ChangeList). x.count) accepted-is
 
-  module _ (nodes labels : List ℕ) (count : ℕ) where
-    -- whether the buffers are long enough
-    abbrev room : Bool
-    room = leb (length (laid lvs lbs uvs ubs)) (length nodes) && leb (length (laid lvs lbs uvs ubs)) (length labels)
+    pub count_most : t.count ≤ 64
+    count_most = omega (arith, count-length, (lay-zero lvs lbs uvs ubs passed).remain)
 
-    -- a number that is not 0, and all as it was
-    kept : (n : ℕ) → (n ≡ 0 → ⊥) → n ≡ first_no (exported_checks lvs lbs uvs ubs (length nodes) (length labels))
-        → LayExported lvs lbs uvs ubs nodes labels count n nodes labels count
-    kept n z e = record {
-      number = e;
-      nodes_are = λ q. absurd (z q);
-      labels_are = λ q. absurd (z q);
-      count_is = λ q. absurd (z q);
-      nodes_kept = λ _. refl;
-      labels_kept = λ _. refl;
-      count_kept = λ _. refl;
-    }
+    nodes-over : (d : List ℕ)
+        → over_buffer t.count t.nodes d ≡ nodes_listed (laid lvs lbs uvs ubs) ++ drop (length (laid lvs lbs uvs ubs)) d
+    nodes-over d =
+        ap (λ (x : ChangeList). over_buffer x.count x.nodes d) accepted-is
+        ∙ ap (λ (x : List ℕ). x ++ drop (length (laid lvs lbs uvs ubs)) d)
+        (ap (λ (n : ℕ). take n (padded (nodes_listed (laid lvs lbs uvs ubs)))) (sym (length-nodes (laid lvs lbs uvs ubs)))
+        ∙ take-padded (nodes_listed (laid lvs lbs uvs ubs)))
 
-    pub refused-exported : (m ≡ 0 → ⊥) → LayExported lvs lbs uvs ubs nodes labels count m nodes labels count
-    unfolding exported_checks
-    refused-exported z =
-        let e : m ≡ lay_number lvs lbs uvs ubs = is ∙ D.number in
-        kept m z (e ∙ sym (first_no-append-no (lay_checks lvs lbs uvs ubs) (check 11 room ∷ []) (λ q. z (e ∙ q))))
+    labels-over : (d : List ℕ)
+        → over_buffer t.count t.labels d ≡ labels_listed (laid lvs lbs uvs ubs) ++ drop (length (laid lvs lbs uvs ubs)) d
+    labels-over d =
+        ap (λ (x : ChangeList). over_buffer x.count x.labels d) accepted-is
+        ∙ ap (λ (x : List ℕ). x ++ drop (length (laid lvs lbs uvs ubs)) d)
+        (ap (λ (n : ℕ). take n (padded (labels_listed (laid lvs lbs uvs ubs)))) (sym (length-labels (laid lvs lbs uvs ubs)))
+        ∙ take-padded (labels_listed (laid lvs lbs uvs ubs)))
 
-    last : m ≡ 0 → first_no (exported_checks lvs lbs uvs ubs (length nodes) (length labels)) ≡ first_no (check 11 room ∷ [])
-    unfolding exported_checks
-    last z =
-        first_no-append-zero (lay_checks lvs lbs uvs ubs) (check 11 room ∷ []) (checks-numbered lvs lbs uvs ubs) (passed z)
+    module _ (nodes labels : List ℕ) (count : ℕ) where
+      last : first_no (exported_checks lvs lbs uvs ubs (length nodes) (length labels))
+          ≡ first_no (check 11 (room (length nodes) (length labels)) ∷ [])
+      unfolding exported_checks
+      last =
+          first_no-append-zero (lay_checks lvs lbs uvs ubs) (check 11 (room (length nodes) (length labels)) ∷ [])
+          (checks-numbered lvs lbs uvs ubs) passed
 
-    short : m ≡ 0 → room ≡ false → LayExported lvs lbs uvs ubs nodes labels count 11 nodes labels count
-    short z e = kept 11 (λ q. omega arith) (sym (last z ∙ first_no-no 11 room [] e))
+      -- m is 11
+      short : (m : ℕ) → m ≡ 11 → room (length nodes) (length labels) ≡ false
+          → LayExported lvs lbs uvs ubs nodes labels count m nodes labels count
+      short m is e =
+          kept nodes labels count m (λ q. omega arith)
+          (is ∙ sym (last ∙ first_no-no 11 (room (length nodes) (length labels)) [] e))
 
-    pub nodes-short : m ≡ 0 → length nodes < r.count → LayExported lvs lbs uvs ubs nodes labels count 11 nodes labels count
-    nodes-short z h =
-        short z (and-no-left (leb (length (laid lvs lbs uvs ubs)) (length nodes)) (leb (length (laid lvs lbs uvs ubs)) (length labels))
-        (lt-leb (length (laid lvs lbs uvs ubs)) (length nodes) (omega (arith, count-length z))))
-
-    pub labels-short : m ≡ 0 → length labels < r.count → LayExported lvs lbs uvs ubs nodes labels count 11 nodes labels count
-    labels-short z h =
-        short z (and-no-right (leb (length (laid lvs lbs uvs ubs)) (length nodes)) (leb (length (laid lvs lbs uvs ubs)) (length labels))
-        (lt-leb (length (laid lvs lbs uvs ubs)) (length labels) (omega (arith, count-length z))))
-
-    pub laid-exported : m ≡ 0 → r.count ≤ length nodes → r.count ≤ length labels → (nodes' labels' : List ℕ) (count' : ℕ)
-        → nodes' ≡ over_buffer r.count r.nodes nodes → labels' ≡ over_buffer r.count r.labels labels → count' ≡ r.count
-        → LayExported lvs lbs uvs ubs nodes labels count 0 nodes' labels' count'
-    laid-exported z h k nodes' labels' count' a b c = record {
-      number = sym (last z ∙ first_no-yes 11 room [] (and_both (leb (length (laid lvs lbs uvs ubs)) (length nodes))
+      pub nodes-short : (m : ℕ) → m ≡ 11 → length nodes < t.count
+          → LayExported lvs lbs uvs ubs nodes labels count m nodes labels count
+      nodes-short m is h =
+          short m is (and-no-left (leb (length (laid lvs lbs uvs ubs)) (length nodes))
           (leb (length (laid lvs lbs uvs ubs)) (length labels))
-          (le-leb (length (laid lvs lbs uvs ubs)) (length nodes) (omega (arith, count-length z)))
-          (le-leb (length (laid lvs lbs uvs ubs)) (length labels) (omega (arith, count-length z)))) ∙ first_no-none);
-      nodes_are = λ _. a ∙ nodes-over z nodes;
-      labels_are = λ _. b ∙ labels-over z labels;
-      count_is = λ _. c ∙ count-length z;
-      nodes_kept = λ q. absurd (q refl);
-      labels_kept = λ q. absurd (q refl);
-      count_kept = λ q. absurd (q refl);
-    }
+          (lt-leb (length (laid lvs lbs uvs ubs)) (length nodes) (omega (arith, count-length))))
+
+      pub labels-short : (m : ℕ) → m ≡ 11 → length labels < t.count
+          → LayExported lvs lbs uvs ubs nodes labels count m nodes labels count
+      labels-short m is h =
+          short m is (and-no-right (leb (length (laid lvs lbs uvs ubs)) (length nodes))
+          (leb (length (laid lvs lbs uvs ubs)) (length labels))
+          (lt-leb (length (laid lvs lbs uvs ubs)) (length labels) (omega (arith, count-length))))
+
+      pub laid-exported : t.count ≤ length nodes → t.count ≤ length labels → (nodes' labels' : List ℕ) (count' : ℕ)
+          → nodes' ≡ over_buffer t.count t.nodes nodes → labels' ≡ over_buffer t.count t.labels labels
+          → count' ≡ t.count → LayExported lvs lbs uvs ubs nodes labels count 0 nodes' labels' count'
+      laid-exported h k nodes' labels' count' a b c = record {
+        number = sym (last ∙ first_no-yes 11 (room (length nodes) (length labels)) []
+            (and_both (leb (length (laid lvs lbs uvs ubs)) (length nodes))
+            (leb (length (laid lvs lbs uvs ubs)) (length labels))
+            (le-leb (length (laid lvs lbs uvs ubs)) (length nodes) (omega (arith, count-length)))
+            (le-leb (length (laid lvs lbs uvs ubs)) (length labels) (omega (arith, count-length)))) ∙ first_no-none);
+        nodes_are = λ _. a ∙ nodes-over nodes;
+        labels_are = λ _. b ∙ labels-over labels;
+        count_is = λ _. c ∙ count-length;
+        nodes_kept = λ q. absurd (q refl);
+        labels_kept = λ q. absurd (q refl);
+        count_kept = λ q. absurd (q refl);
+      }

@@ -10,11 +10,12 @@ use Prim.Native.Nat.{ℕ, ◌*◌}
 use mathlib.Core.Path.{◌≡◌, refl, sym, ap, ◌∙◌}
 use mathlib.Core.Bool.{Bool, true, false, cond}
 use mathlib.Core.List.{List, [], ◌∷◌, ◌++◌}
-use native.Mathlib.Decide.{ℕ_discrete}
 use native.Mathlib.Omega.{arith}
 use lib.Dec.{leb}
 use lib.ListN.{length}
-use borrow.Author.Tests.{eq-eqb, ne_eqb}
+use Rattle.std.specs.Prelude.{Result, Ok, Err}
+use Rattle.formats.specs.declared.refusals.Refusal.{Refusal}
+use Rattle.formats.proofs.RefusalLaws.{number-not-0}
 use contract.Lifetimes.{Lfts}
 use borrow.Fn.World.{ArgsD, ResD}
 use borrow.Fn.Kinds.{ended_of}
@@ -24,7 +25,7 @@ use Rattle.formats.proofs.CheckLaws.{Numbered, first_no-append-zero, first_no-ap
 use Rattle.products.specs.merging.Merged.{merge_checks}
 use Rattle.products.specs.agreement.Answer.{agree_checks}
 use Rattle.products.specs.declared.agreement.Agreement.{Agreement}
-use Rattle.products.specs.agreement.Reply.{shown_reply}
+use Rattle.products.specs.agreement.Reply.{shown_reply, AgreeDone}
 use Rattle.capi.specs.product_calls.Exported.{MergeExported, agree_number, AgreeExported}
 use Rattle.capi.specs.contracts.product_calls.whatif_merge as merge-fn
 use Rattle.capi.proofs.product_calls.whatif_merge.Kinds as merge-kinds
@@ -69,28 +70,24 @@ unfolding first_no
 one-check true = refl
 one-check false = refl
 
+-- the number of a reply, by the checks
+of-reply : (first second : List ℕ) (m : ℕ) (a : Result Agreement Refusal) → AgreeDone first second a
+    → agree_number a m ≡ first_no (agree_room_checks first second m)
+unfolding agree_number
+of-reply first second m (Ok r) D =
+    ap (λ (x : Agreement). cond (leb (x.count * 4) m) 0 11) D.replied.named
+    ∙ one-check (leb (length (shown_reply first second) * 4) m)
+    ∙ sym (first_no-append-zero (agree_checks first second)
+    (check 11 (leb (length (shown_reply first second) * 4) m) ∷ []) (agree-numbered first second) (sym D.number))
+of-reply first second m (Err e) D =
+    D.number
+    ∙ sym (first_no-append-no (agree_checks first second)
+    (check 11 (leb (length (shown_reply first second) * 4) m) ∷ []) (λ q. number-not-0 e (D.number ∙ q)))
+
 module _ (first second lines : List ℕ) (agreed count r : ℕ) (lines' : List ℕ) (agreed' count' : ℕ)
     (E : AgreeExported first second lines agreed count r lines' agreed' count') where
   pub agree-number : r ≡ first_no (agree_room_checks first second (length lines))
-  unfolding agree_number
-  agree-number = elim (ℕ_discrete E.reply.number 0) [
-    | yes z ↦ (let c : E.reply.count ≡ length (shown_reply first second) =
-        ap (λ (x : Agreement). x.count) (E.done.named z) in
-        E.number
-        ∙ ap (λ (b : Bool). cond b (cond (leb (E.reply.count * 4) (length lines)) 0 11) E.reply.number)
-        (eq-eqb E.reply.number 0 z)
-        ∙ ap (λ (n : ℕ). cond (leb (n * 4) (length lines)) 0 11) c
-        ∙ one-check (leb (length (shown_reply first second) * 4) (length lines))
-        ∙ sym (first_no-append-zero (agree_checks first second)
-        (check 11 (leb (length (shown_reply first second) * 4) (length lines)) ∷ []) (agree-numbered first second)
-        (sym E.done.number ∙ z)))
-    | no z ↦ E.number
-        ∙ ap (λ (b : Bool). cond b (cond (leb (E.reply.count * 4) (length lines)) 0 11) E.reply.number)
-        (ne_eqb E.reply.number 0 z)
-        ∙ E.done.number
-        ∙ sym (first_no-append-no (agree_checks first second)
-        (check 11 (leb (length (shown_reply first second) * 4) (length lines)) ∷ []) (λ q. z (E.done.number ∙ q)))
-  ]
+  agree-number = E.number ∙ of-reply first second (length lines) E.reply E.done
 
   pub agree-kept : (r ≡ 0 → ⊥) → (lines' ≡ lines) × (agreed' ≡ agreed) × (count' ≡ count)
   agree-kept h = (E.lines_kept h, E.agreed_kept h, E.count_kept h)

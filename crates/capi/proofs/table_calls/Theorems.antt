@@ -5,30 +5,26 @@
 --                            the tables passed in are what the build writes; refused, the output parameter is unchanged
 --     run-number, run-answers, run-kept   the first check of 2 to 10 and 12 to 14 that fails; accepted, source document
 --                            002's run of the changed plan; refused, the output parameters are unchanged
-use Prim.Native.Nat.{ℕ, zero, suc}
+use Prim.Native.Nat.{ℕ}
 use mathlib.Core.Path.{◌≡◌, refl, sym, ap, ◌∙◌}
-use mathlib.Core.Bool.{Bool, true, false}
+use mathlib.Core.Bool.{Bool}
 use mathlib.Core.List.{List}
 use mathlib.Core.Logic.{◌↔◌}
-use native.Mathlib.Omega.{arith}
 use lib.ListN.{length}
+use Rattle.std.specs.Prelude.{Result, Ok, Err}
 use Rattle.formats.specs.Checks.{first_no, build_checks, fresh_run_checks}
 use Rattle.formats.specs.Built.{built_node_table, built_state_table, AsBuilt}
-use Rattle.tables.specs.declared.answers.Checking.{Checking}
-use Rattle.tables.specs.declared.answers.Checking.TheVariants.{Yes, No, Refused as NotChecked}
-use Rattle.tables.specs.Answers.{check_number, check_answer, same_tables}
+use Rattle.formats.specs.Refusals.{answer_number}
+use Rattle.formats.specs.declared.refusals.Refusal.{Refusal}
+use Rattle.formats.proofs.RefusalLaws.{told-value}
 use Rattle.tables.proofs.BuildLaws.{built-as-built}
 use Rattle.tables.proofs.CheckTheorems.{check-yes, yes-check, built-passes}
-use Rattle.runs.specs.declared.answer.Running.{Running}
-use Rattle.runs.specs.declared.answer.Running.TheVariants.{Ended, Refused as NotRun}
-use Rattle.runs.specs.FreshRun.{running_number, run_answer, root_state, root_accepted, fresh_run}
+use Rattle.runs.specs.declared.answer.Verdict.{Verdict}
+use Rattle.runs.specs.FreshRun.{root_state, root_accepted, verdict, fresh_run}
 use Rattle.capi.specs.numbers.Numbers.{bit_of, yes_of, BuildExported, CheckExported}
 use Rattle.capi.proofs.numbers.BuildExportedLaws.{exported-number, exported-kept}
+use Rattle.capi.proofs.numbers.CheckExportedLaws.{checked-number, checked-yes, checked-kept}
 use Rattle.capi.specs.table_calls.RunExported.{state_of, marked_of, RunExported}
-
--- the number of the first check of 2 to 11 that fails
-abbrev first : List ℕ → List ℕ → List ℕ → List ℕ → ℕ
-first p r node_table state_table = first_no (build_checks p r (length node_table) (length state_table))
 
 -- ---- the build
 
@@ -51,37 +47,22 @@ module _ (p r node_table state_table : List ℕ) (n yes₀ yes₁ : ℕ)
     (E : CheckExported (first_no (build_checks p r (length node_table) (length state_table))) (built_node_table p)
     (built_state_table p r) node_table state_table n yes₀ yes₁) where
   pub check-number : n ≡ first_no (build_checks p r (length node_table) (length state_table))
-  check-number = E.number.result ∙ E.done.number
+  check-number = checked-number _ (built_node_table p) (built_state_table p r) node_table state_table n yes₀ yes₁ E
 
   -- "a full check of lent tables, whose yes holds exactly when they are what the build writes"
   pub check-exactly : ((n ≡ 0) × (yes₁ ≡ 1)) ↔ AsBuilt p r node_table state_table
-  unfolding check_answer
   check-exactly = (
     λ z. check-yes p r node_table state_table E.answer E.done
-        (is-yes (first p r node_table state_table)
-        (same_tables (built_node_table p) (built_state_table p r) node_table state_table) E.answer E.done.result
-        (sym check-number ∙ z.0) (sym E.number.yes_answer ∙ z.1)),
+        (checked-yes _ (built_node_table p) (built_state_table p r) node_table state_table n yes₀ yes₁ E z.0 z.1),
     λ B. (
       check-number ∙ built-passes p r node_table state_table B,
-      E.number.yes_answer ∙ ap (λ (a : Checking). yes_of a yes₀) (yes-check p r node_table state_table E.answer
-          E.done B),
+      E.number.yes_answer ∙ ap (λ (a : Result Bool Refusal). yes_of a yes₀)
+          (yes-check p r node_table state_table E.answer E.done B),
     ),
   )
-    where
-      is-yes : (k : ℕ) (same : Bool) (a : Checking) → a ≡ check_answer k same → k ≡ 0 → yes_of a yes₀ ≡ 1 → a ≡ Yes
-      is-yes zero true a e z y = e
-      is-yes zero false a e z y =
-          let q : ◌≡◌ {A = ℕ} 0 1 = sym (ap (λ (x : Checking). yes_of x yes₀) e) ∙ y in absurd (omega arith)
-      is-yes (suc k) same a e z y = absurd (omega arith)
 
   pub check-kept : (n ≡ 0 → ⊥) → yes₁ ≡ yes₀
-  unfolding check_number
-  check-kept h = E.number.yes_answer ∙ kept E.answer (λ e. h (E.number.result ∙ e))
-    where
-      kept : (a : Checking) → (check_number a ≡ 0 → ⊥) → yes_of a yes₀ ≡ yes₀
-      kept Yes z = absurd (z refl)
-      kept No z = absurd (z refl)
-      kept (NotChecked m) z = refl
+  check-kept = checked-kept _ (built_node_table p) (built_state_table p r) node_table state_table n yes₀ yes₁ E
 
 -- ---- the fresh run
 
@@ -91,25 +72,21 @@ module _ (p r vs bs : List ℕ) (n state₀ yes₀ state₁ yes₁ : ℕ) (E : R
     run-number = E.number.result ∙ E.done.number
 
     pub run-answers : n ≡ 0 → (state₁ ≡ root_state p r vs bs) × (yes₁ ≡ bit_of (root_accepted p r vs bs))
-    unfolding fresh_run run_answer
+    unfolding fresh_run
     run-answers e =
-        let i : E.answer ≡ Ended (root_state p r vs bs) (root_accepted p r vs bs) =
-        E.done.result ∙ ended (first_no (fresh_run_checks p r vs bs)) (sym run-number ∙ e) in (
-          E.number.state_answer ∙ ap (λ (a : Running). state_of a state₀) i,
-          E.number.yes_answer ∙ ap (λ (a : Running). marked_of a yes₀) i,
+        let i : E.answer ≡ Ok (verdict p r vs bs) =
+        told-value E.answer (first_no (fresh_run_checks p r vs bs)) (verdict p r vs bs) E.done.result
+        (sym run-number ∙ e) in (
+          E.number.state_answer ∙ ap (λ (a : Result Verdict Refusal). state_of a state₀) i,
+          E.number.yes_answer ∙ ap (λ (a : Result Verdict Refusal). marked_of a yes₀) i,
         )
-      where
-        ended : (k : ℕ) → k ≡ 0 → run_answer k (root_state p r vs bs) (root_accepted p r vs bs)
-            ≡ Ended (root_state p r vs bs) (root_accepted p r vs bs)
-        ended zero z = refl
-        ended (suc k) z = absurd (omega arith)
 
     pub run-kept : (n ≡ 0 → ⊥) → (state₁ ≡ state₀) × (yes₁ ≡ yes₀)
-    unfolding running_number
     run-kept h =
         let w = kept E.answer (λ e. h (E.number.result ∙ e)) in
         (E.number.state_answer ∙ w.0, E.number.yes_answer ∙ w.1)
       where
-        kept : (a : Running) → (running_number a ≡ 0 → ⊥) → (state_of a state₀ ≡ state₀) × (marked_of a yes₀ ≡ yes₀)
-        kept (Ended q m) z = absurd (z refl)
-        kept (NotRun k) z = (refl, refl)
+        kept : (a : Result Verdict Refusal) → (answer_number a ≡ 0 → ⊥)
+            → (state_of a state₀ ≡ state₀) × (marked_of a yes₀ ≡ yes₀)
+        kept (Ok v) z = absurd (z refl)
+        kept (Err e) z = (refl, refl)

@@ -5,27 +5,28 @@
 --   or old where the call is refused
 -- AskNumber == an answer as a number and values
 -- AskExported reading .. == the promise of the exported function of that reading
-use Rattle.std.specs.Prelude.{ℕ, ◌≡◌, List}
+use Rattle.std.specs.Prelude.{ℕ, ◌≡◌, List, Result}
+use Rattle.formats.specs.Refusals.{answer_number, told}
+use Rattle.formats.specs.declared.refusals.Refusal.{Refusal}
 use Rattle.branches.specs.declared.answers.Reading.{Reading}
-use Rattle.branches.specs.declared.answers.Branching.{Branching}
-use Rattle.branches.specs.Question.{branch_told, branch_number}
+use Rattle.branches.specs.declared.answers.Branched.{Branched}
 use Rattle.branches.specs.Promise.{AskDone}
 use Rattle.capi.specs.numbers.Numbers.{bit_of, on_answer}
 
-abbrev pub end_of : Branching → ℕ → ℕ
-end_of a old = on_answer (branch_told a).1 (λ b. b.state) old
+abbrev pub end_of : Result Branched Refusal → ℕ → ℕ
+end_of a old = on_answer (told a).1 (λ b. b.state) old
 
-abbrev pub accepted_of : Branching → ℕ → ℕ
-accepted_of a old = on_answer (branch_told a).1 (λ b. bit_of b.marked) old
+abbrev pub accepted_of : Result Branched Refusal → ℕ → ℕ
+accepted_of a old = on_answer (told a).1 (λ b. bit_of b.marked) old
 
-abbrev pub links_of : Branching → ℕ → ℕ
-links_of a old = on_answer (branch_told a).1 (λ b. b.links) old
+abbrev pub links_of : Result Branched Refusal → ℕ → ℕ
+links_of a old = on_answer (told a).1 (λ b. b.links) old
 
-abbrev pub passed_of : Branching → ℕ → ℕ
-passed_of a old = on_answer (branch_told a).1 (λ b. b.passed) old
+abbrev pub passed_of : Result Branched Refusal → ℕ → ℕ
+passed_of a old = on_answer (told a).1 (λ b. b.passed) old
 
-pub record AskNumber (a : Branching) (state₀ yes₀ links₀ passed₀ r state₁ yes₁ links₁ passed₁ : ℕ) : Type 0 where
-  pub result : r ≡ branch_number a
+pub record AskNumber (a : Result Branched Refusal) (state₀ yes₀ links₀ passed₀ r state₁ yes₁ links₁ passed₁ : ℕ) : Type 0 where
+  pub result : r ≡ answer_number a
   pub state_answer : state₁ ≡ end_of a state₀
   pub yes_answer : yes₁ ≡ accepted_of a yes₀
   pub links_answer : links₁ ≡ links_of a links₀
@@ -33,6 +34,6 @@ pub record AskNumber (a : Branching) (state₀ yes₀ links₀ passed₀ r state
 
 pub record AskExported (reading : Reading) (p r node_table state_table : List ℕ)
     (u l n state₀ yes₀ links₀ passed₀ state₁ yes₁ links₁ passed₁ : ℕ) : Type 0 where
-  pub answer : Branching
+  pub answer : Result Branched Refusal
   pub done : AskDone reading p r node_table state_table u l answer
   pub number : AskNumber answer state₀ yes₀ links₀ passed₀ n state₁ yes₁ links₁ passed₁

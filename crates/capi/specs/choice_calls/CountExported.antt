@@ -9,22 +9,23 @@ use Rattle.list_laws.specs.Copying.{over_buffer}
 use Rattle.formats.specs.Rules.{state_count}
 use Rattle.formats.specs.Checks.{Check, check, first_no}
 use Rattle.choices.specs.question_counts.CountOn.{count_checks}
-use Rattle.choices.specs.Promise.{count_result, CountDone}
+use Rattle.choices.specs.Promise.{count_value, count_result, CountDone}
 
 unfoldable pub exported_checks : List ℕ → List ℕ → List ℕ → List ℕ → List ℕ → ℕ → List Check
 exported_checks p r node_table state_table vs room =
     count_checks p r node_table state_table vs ++ (check 11 (leb (state_count r) room) ∷ [])
 
--- `count_result`, what the count returns for any inputs, and what it is on tables as built: choices/specs/Promise
+-- `count_value`, what is counted where no check fails, `count_result`, what is told for any inputs, and what they are on
+-- tables as built: choices/specs/Promise
 pub record CountExported (p r node_table state_table vs counts : List ℕ) (parts links n : ℕ) (counts' : List ℕ)
     (parts' links' : ℕ) : Type 0 where
   -- the first check that fails, or 0
   pub number : n ≡ first_no (exported_checks p r node_table state_table vs (length counts))
   -- accepted: a number for each state, behind them what was there; parts and links
   pub counts_are : n ≡ 0
-      → counts' ≡ over_buffer (state_count r) (count_result p r node_table state_table vs).counts counts
-  pub parts_are : n ≡ 0 → parts' ≡ (count_result p r node_table state_table vs).parts
-  pub links_are : n ≡ 0 → links' ≡ (count_result p r node_table state_table vs).links
+      → counts' ≡ over_buffer (state_count r) (count_value p r node_table state_table vs).counts counts
+  pub parts_are : n ≡ 0 → parts' ≡ (count_value p r node_table state_table vs).parts
+  pub links_are : n ≡ 0 → links' ≡ (count_value p r node_table state_table vs).links
   -- refused: all is as it was
   pub counts_kept : (n ≡ 0 → ⊥) → counts' ≡ counts
   pub parts_kept : (n ≡ 0 → ⊥) → parts' ≡ parts

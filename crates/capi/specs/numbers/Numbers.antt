@@ -5,13 +5,13 @@
 -- on_answer o f old == an output parameter afterwards: its value by f where there is an answer, else what it held
 -- yes_of a old == the output parameter of a full check's yes afterwards: the answer's value, or old where the call is
 --   refused
--- BuildNumber, CheckNumber == an answer as a number and values
+-- CheckNumber == an answer as a number and values
 -- BuildExported, CheckExported == the promises of the exported functions
-use Rattle.std.specs.Prelude.{ℕ, ◌≡◌, Bool, true, false, List}
+use Rattle.std.specs.Prelude.{ℕ, ◌≡◌, Bool, true, false, List, Result}
 use Rattle.std.proofs.Math.Option.{Option, none, some}
-use Rattle.tables.specs.declared.answers.Building.{Building}
-use Rattle.tables.specs.declared.answers.Checking.{Checking}
-use Rattle.tables.specs.Answers.{building_number, checking_told, check_number, BuildDone, CheckDone}
+use Rattle.formats.specs.Refusals.{answer_number, told}
+use Rattle.formats.specs.declared.refusals.Refusal.{Refusal}
+use Rattle.tables.specs.Answers.{BuildDone, CheckDone}
 
 abbrev pub bit_of : Bool → ℕ
 bit_of true = 1
@@ -21,22 +21,19 @@ abbrev pub on_answer : {A : Type 0} → Option A → (A → ℕ) → ℕ → ℕ
 on_answer none f old = old
 on_answer (some x) f old = f x
 
-abbrev pub BuildNumber : Building → ℕ → Type 0
-BuildNumber a r = r ≡ building_number a
-
 pub record BuildExported (n : ℕ) (links states node_table state_table : List ℕ) (r : ℕ) (node_table' state_table' : List ℕ) : Type 0 where
-  pub answer : Building
+  pub answer : Result Unit Refusal
   pub done : BuildDone n links states node_table state_table answer node_table' state_table'
-  pub result : r ≡ building_number answer
+  pub result : r ≡ answer_number answer
 
-abbrev pub yes_of : Checking → ℕ → ℕ
-yes_of a old = on_answer (checking_told a).1 bit_of old
+abbrev pub yes_of : Result Bool Refusal → ℕ → ℕ
+yes_of a old = on_answer (told a).1 bit_of old
 
-pub record CheckNumber (a : Checking) (yes₀ r yes₁ : ℕ) : Type 0 where
-  pub result : r ≡ check_number a
+pub record CheckNumber (a : Result Bool Refusal) (yes₀ r yes₁ : ℕ) : Type 0 where
+  pub result : r ≡ answer_number a
   pub yes_answer : yes₁ ≡ yes_of a yes₀
 
 pub record CheckExported (n : ℕ) (links states node_table state_table : List ℕ) (r yes₀ yes₁ : ℕ) : Type 0 where
-  pub answer : Checking
+  pub answer : Result Bool Refusal
   pub done : CheckDone n links states node_table state_table answer
   pub number : CheckNumber answer yes₀ r yes₁

@@ -10,14 +10,16 @@ use mathlib.Core.Bool.{Bool, true, false}
 use mathlib.Core.List.{List, [], ◌∷◌}
 use native.Mathlib.Omega.{arith}
 use lib.ListN.{length}
+use Rattle.std.specs.Prelude.{Result, Ok, Err}
 use Rattle.formats.specs.Plan.{node_count}
 use Rattle.formats.specs.Rules.{label_count, rule_automaton}
 use Rattle.formats.specs.Checks.{check, first_no, list_checks}
+use Rattle.formats.specs.Refusals.{answer_number}
+use Rattle.formats.specs.declared.refusals.Refusal.{Refusal}
 use Rattle.colours.specs.Descents.{sum}
 use Rattle.colours.proofs.DescentLaws.{sum-le}
-use Rattle.colour_questions.specs.declared.rule.answers.RuleDescending.{RuleDescending}
-use Rattle.colour_questions.specs.declared.rule.answers.RuleDescending.TheVariants.{Answered, Refused}
-use Rattle.colour_questions.specs.rule.Question.{rule_descending_number, asked_checks, rule_ask_checks, rule_ask_number}
+use Rattle.colour_questions.specs.declared.rule.answers.RuleAsked.{RuleAsked}
+use Rattle.colour_questions.specs.rule.Question.{asked_checks, rule_ask_checks, rule_ask_number}
 use Rattle.colour_questions.specs.rule.Promise.{RuleColoursBuilt, RuleColourAnswer, searches_left}
 use Rattle.capi.specs.numbers.Numbers.{bit_of}
 use Rattle.capi_colours.specs.rule_calls.RuleExported.{end_of, accepted_of, drops_of, links_of, parts_of, RuleExported, RunAnswered}
@@ -41,21 +43,20 @@ module _ (p r node_table state_table numbers bytes vs bs : List ℕ)
   pub rule-descent-answers : RuleColoursBuilt p r node_table state_table numbers bytes
       → first_no (list_checks (node_count p) (label_count r) vs bs) ≡ 0
       → RunAnswered p r vs bs n state₁ yes₁ drops₁ links₁ parts₁
-  unfolding rule_descending_number
   rule-descent-answers D c =
       let W : RuleColourAnswer p r vs bs E.answer = E.done.built D c in
       let i = W.is in
-      let s = E.number.state_answer ∙ ap (λ (x : RuleDescending). end_of x state₀) i in
+      let s = E.number.state_answer ∙ ap (λ (x : Result RuleAsked Refusal). end_of x state₀) i in
       let d : drops₁ ≡ length (searches_left p r vs bs) =
-      E.number.drops_answer ∙ ap (λ (x : RuleDescending). drops_of x drops₀) i in
+      E.number.drops_answer ∙ ap (λ (x : Result RuleAsked Refusal). drops_of x drops₀) i in
       let k : links₁ ≡ sum (searches_left p r vs bs) =
-      E.number.links_answer ∙ ap (λ (x : RuleDescending). links_of x links₀) i in
+      E.number.links_answer ∙ ap (λ (x : Result RuleAsked Refusal). links_of x links₀) i in
       record {
-        accepted = E.number.result ∙ ap rule_descending_number i;
+        accepted = E.number.result ∙ ap answer_number i;
         state = s;
-        yes = E.number.yes_answer ∙ ap (λ (x : RuleDescending). accepted_of x yes₀) i
+        yes = E.number.yes_answer ∙ ap (λ (x : Result RuleAsked Refusal). accepted_of x yes₀) i
             ∙ ap (λ (q : ℕ). bit_of ((rule_automaton r).accepting q)) (sym s);
-        parts = E.number.parts_answer ∙ ap (λ (x : RuleDescending). parts_of x parts₀) i;
+        parts = E.number.parts_answer ∙ ap (λ (x : Result RuleAsked Refusal). parts_of x parts₀) i;
         drops_are = d;
         links_are = k;
         falls = rw d W.falls;
@@ -71,7 +72,6 @@ module _ (p r node_table state_table numbers bytes vs bs : List ℕ)
 
   pub rule-descent-kept : (n ≡ 0 → ⊥)
       → (state₁ ≡ state₀) × (yes₁ ≡ yes₀) × (drops₁ ≡ drops₀) × (links₁ ≡ links₀) × (parts₁ ≡ parts₀)
-  unfolding rule_descending_number
   rule-descent-kept h =
       let N = E.number in
       let w = not-answered E.answer (λ e. h (N.result ∙ e)) in (
@@ -82,8 +82,8 @@ module _ (p r node_table state_table numbers bytes vs bs : List ℕ)
         N.parts_answer ∙ w.4,
       )
     where
-      not-answered : (a : RuleDescending) → (rule_descending_number a ≡ 0 → ⊥)
+      not-answered : (a : Result RuleAsked Refusal) → (answer_number a ≡ 0 → ⊥)
           → (end_of a state₀ ≡ state₀) × (accepted_of a yes₀ ≡ yes₀) × (drops_of a drops₀ ≡ drops₀)
           × (links_of a links₀ ≡ links₀) × (parts_of a parts₀ ≡ parts₀)
-      not-answered (Answered q marked d k m) z = absurd (z refl)
-      not-answered (Refused m) z = (refl, refl, refl, refl, refl)
+      not-answered (Ok x) z = absurd (z refl)
+      not-answered (Err r) z = (refl, refl, refl, refl, refl)

@@ -8,33 +8,35 @@
 -- WordAnswered reading .. == what it answers on tables as built
 --
 -- "Both are put outside the session and tell state, yes or no, drops and links".
-use Rattle.std.specs.Prelude.{ℕ, ◌-◌, ◌*◌, ◌≤◌, ◌≡◌, List}
+use Rattle.std.specs.Prelude.{ℕ, ◌-◌, ◌*◌, ◌≤◌, ◌≡◌, List, Result}
 use Rattle.std.proofs.Math.Option.{some}
 use Rattle.trees.specs.Automaton.{word_run}
 use Rattle.formats.specs.Plan.{plan_tree}
 use Rattle.formats.specs.Rules.{state_count, branch_automaton}
+use Rattle.formats.specs.Refusals.{answer_number, told}
+use Rattle.formats.specs.declared.refusals.Refusal.{Refusal}
 use Rattle.branches.specs.declared.answers.Reading.{Reading}
 use Rattle.branches.specs.Promise.{word_of}
 use Rattle.colours.specs.Descents.{Descent, links}
-use Rattle.colour_questions.specs.declared.branch.answers.Descending.{Descending}
-use Rattle.colour_questions.specs.branch.Question.{descending_told, descending_number}
+use Rattle.colour_questions.specs.declared.branch.answers.ColourAsked.{ColourAsked}
 use Rattle.colour_questions.specs.branch.Promise.{word_descent, word_drops, ColourAskDone}
 use Rattle.capi.specs.numbers.Numbers.{bit_of, on_answer}
 
-abbrev pub end_of : Descending → ℕ → ℕ
-end_of a old = on_answer (descending_told a).1 (λ c. c.state) old
+abbrev pub end_of : Result ColourAsked Refusal → ℕ → ℕ
+end_of a old = on_answer (told a).1 (λ c. c.state) old
 
-abbrev pub accepted_of : Descending → ℕ → ℕ
-accepted_of a old = on_answer (descending_told a).1 (λ c. bit_of c.marked) old
+abbrev pub accepted_of : Result ColourAsked Refusal → ℕ → ℕ
+accepted_of a old = on_answer (told a).1 (λ c. bit_of c.marked) old
 
-abbrev pub drops_of : Descending → ℕ → ℕ
-drops_of a old = on_answer (descending_told a).1 (λ c. c.drops) old
+abbrev pub drops_of : Result ColourAsked Refusal → ℕ → ℕ
+drops_of a old = on_answer (told a).1 (λ c. c.drops) old
 
-abbrev pub links_of : Descending → ℕ → ℕ
-links_of a old = on_answer (descending_told a).1 (λ c. c.links) old
+abbrev pub links_of : Result ColourAsked Refusal → ℕ → ℕ
+links_of a old = on_answer (told a).1 (λ c. c.links) old
 
-pub record DescentNumber (a : Descending) (state₀ yes₀ drops₀ links₀ r state₁ yes₁ drops₁ links₁ : ℕ) : Type 0 where
-  pub result : r ≡ descending_number a
+pub record DescentNumber (a : Result ColourAsked Refusal) (state₀ yes₀ drops₀ links₀ r state₁ yes₁ drops₁ links₁ : ℕ)
+    : Type 0 where
+  pub result : r ≡ answer_number a
   pub state_answer : state₁ ≡ end_of a state₀
   pub yes_answer : yes₁ ≡ accepted_of a yes₀
   pub drops_answer : drops₁ ≡ drops_of a drops₀
@@ -42,7 +44,7 @@ pub record DescentNumber (a : Descending) (state₀ yes₀ drops₀ links₀ r s
 
 pub record DescentExported (reading : Reading) (p r node_table numbers bytes : List ℕ)
     (u l n state₀ yes₀ drops₀ links₀ state₁ yes₁ drops₁ links₁ : ℕ) : Type 0 where
-  pub answer : Descending
+  pub answer : Result ColourAsked Refusal
   pub done : ColourAskDone reading p r node_table numbers bytes u l answer
   pub number : DescentNumber answer state₀ yes₀ drops₀ links₀ n state₁ yes₁ drops₁ links₁
 

@@ -8,35 +8,36 @@
 -- RunAnswered .. == what it answers on tables as built
 --
 -- "tell state, yes or no, drops and links; a rule question tells its parts too".
-use Rattle.std.specs.Prelude.{ℕ, ◌*◌, ◌≤◌, ◌≡◌, List, length}
+use Rattle.std.specs.Prelude.{ℕ, ◌*◌, ◌≤◌, ◌≡◌, List, length, Result}
 use Rattle.formats.specs.Plan.{plan_tree}
 use Rattle.formats.specs.Rules.{rule_automaton}
+use Rattle.formats.specs.Refusals.{answer_number, told}
+use Rattle.formats.specs.declared.refusals.Refusal.{Refusal}
 use Rattle.runs.specs.FreshRun.{root_state}
 use Rattle.colours.specs.Descents.{sum}
-use Rattle.colour_questions.specs.declared.rule.answers.RuleDescending.{RuleDescending}
-use Rattle.colour_questions.specs.rule.Question.{rule_descending_told, rule_descending_number}
+use Rattle.colour_questions.specs.declared.rule.answers.RuleAsked.{RuleAsked}
 use Rattle.colour_questions.specs.rule.Promise.{roots_left, searches_left, RuleAskDone}
 use Rattle.colour_questions.specs.parts.OneSided.{one_sided}
 use Rattle.capi.specs.numbers.Numbers.{bit_of, on_answer}
 
-abbrev pub end_of : RuleDescending → ℕ → ℕ
-end_of a old = on_answer (rule_descending_told a).1 (λ c. c.state) old
+abbrev pub end_of : Result RuleAsked Refusal → ℕ → ℕ
+end_of a old = on_answer (told a).1 (λ c. c.state) old
 
-abbrev pub accepted_of : RuleDescending → ℕ → ℕ
-accepted_of a old = on_answer (rule_descending_told a).1 (λ c. bit_of c.marked) old
+abbrev pub accepted_of : Result RuleAsked Refusal → ℕ → ℕ
+accepted_of a old = on_answer (told a).1 (λ c. bit_of c.marked) old
 
-abbrev pub drops_of : RuleDescending → ℕ → ℕ
-drops_of a old = on_answer (rule_descending_told a).1 (λ c. c.drops) old
+abbrev pub drops_of : Result RuleAsked Refusal → ℕ → ℕ
+drops_of a old = on_answer (told a).1 (λ c. c.drops) old
 
-abbrev pub links_of : RuleDescending → ℕ → ℕ
-links_of a old = on_answer (rule_descending_told a).1 (λ c. c.links) old
+abbrev pub links_of : Result RuleAsked Refusal → ℕ → ℕ
+links_of a old = on_answer (told a).1 (λ c. c.links) old
 
-abbrev pub parts_of : RuleDescending → ℕ → ℕ
-parts_of a old = on_answer (rule_descending_told a).1 (λ c. c.parts) old
+abbrev pub parts_of : Result RuleAsked Refusal → ℕ → ℕ
+parts_of a old = on_answer (told a).1 (λ c. c.parts) old
 
-pub record RuleNumber (a : RuleDescending) (state₀ yes₀ drops₀ links₀ parts₀ r state₁ yes₁ drops₁ links₁ parts₁ : ℕ)
-    : Type 0 where
-  pub result : r ≡ rule_descending_number a
+pub record RuleNumber (a : Result RuleAsked Refusal)
+    (state₀ yes₀ drops₀ links₀ parts₀ r state₁ yes₁ drops₁ links₁ parts₁ : ℕ) : Type 0 where
+  pub result : r ≡ answer_number a
   pub state_answer : state₁ ≡ end_of a state₀
   pub yes_answer : yes₁ ≡ accepted_of a yes₀
   pub drops_answer : drops₁ ≡ drops_of a drops₀
@@ -45,7 +46,7 @@ pub record RuleNumber (a : RuleDescending) (state₀ yes₀ drops₀ links₀ pa
 
 pub record RuleExported (p r node_table state_table numbers bytes vs bs : List ℕ)
     (n state₀ yes₀ drops₀ links₀ parts₀ state₁ yes₁ drops₁ links₁ parts₁ : ℕ) : Type 0 where
-  pub answer : RuleDescending
+  pub answer : Result RuleAsked Refusal
   pub done : RuleAskDone p r node_table state_table numbers bytes vs bs answer
   pub number : RuleNumber answer state₀ yes₀ drops₀ links₀ parts₀ n state₁ yes₁ drops₁ links₁ parts₁
 

@@ -2,13 +2,14 @@
 ghost use Rattle.capi_colours.specs.rule_calls.RuleExported.{RuleNumber, RuleExported};
 
 use capi::numbers::bit;
-use colour_questions::rule::answers::RuleDescending;
+use colour_questions::rule::answers::RuleAsked;
 use colour_questions::rule::ask::ask_rule_colours;
+use formats::refusals::Refusal;
 
 // The number of a rule question's answer by colours; its state, whether it is marked, its drops, its links and its
 // parts go to `state`, `yes`, `drops`, `links` and `parts`.
 fn rule_number(
-    answer: RuleDescending,
+    answer: Result<RuleAsked, Refusal>,
     state: &mut u32,
     yes: &mut u32,
     drops: &mut u32,
@@ -20,15 +21,15 @@ fn rule_number(
         parts.new }
 {
     match answer {
-        RuleDescending::Answered(q, marked, d, k, m) => {
-            *state = q as u32;
-            *yes = bit(marked);
-            *drops = d;
-            *links = k;
-            *parts = m;
+        Ok(asked) => {
+            *state = asked.state as u32;
+            *yes = bit(asked.marked);
+            *drops = asked.drops;
+            *links = asked.links;
+            *parts = asked.parts;
             0
         }
-        RuleDescending::Refused(n) => n as u32,
+        Err(refusal) => refusal.number() as u32,
     }
 }
 

@@ -4,7 +4,7 @@ ghost use Rattle.formats.specs.Checks.{first_no};
 ghost use Rattle.colour_tables.specs.rule.Build.{rule_colour_checks, built_set_numbers, built_set_bytes};
 ghost use Rattle.capi.specs.numbers.Numbers.{BuildExported};
 
-use capi::numbers::build_number;
+use capi::numbers::number;
 use colour_tables::rule::build::build_rule_colours;
 
 // Builds the tables of colours of a plan for a rule table.
@@ -23,5 +23,5 @@ pub fn whatif_colour_build(
         colour_bytes.new }
 {
     let answer = build_rule_colours(plan, rules, colour_numbers, colour_bytes);
-    build_number(answer)
+    number(answer)
 }

@@ -1,10 +1,10 @@
 -- What fork_counts promises, at each way out.
-use Prim.Native.Nat.{ℕ, zero, suc, ◌+◌, ◌*◌, ◌≤◌, ◌<◌}
+use Prim.Native.Nat.{ℕ, ◌+◌, ◌*◌, ◌≤◌, ◌<◌}
 use mathlib.Core.Path.{◌≡◌, refl, sym, ap, ap₂, ◌∙◌}
 use mathlib.Core.Bool.{true, false}
 use mathlib.Core.List.{List}
 use native.Mathlib.Omega.{arith}
-use lib.ListN.{length, get_or, replicate}
+use lib.ListN.{length, get_or}
 use Rattle.list_laws.proofs.BoolLaws.{and_both, and-no-left, and-no-right}
 use Rattle.tables.specs.Climbs.{View}
 use Rattle.tables.specs.inner.PathViews.{path_view}
@@ -18,13 +18,6 @@ use Rattle.choices.proofs.part_steps.CappedSums.{capped-sum, capped-product}
 
 no-yes : (A : Type 0) → false ≡ true → A
 no-yes A e = absurd (let z : ◌≡◌ {A = ℕ} 0 1 = cc in omega arith)
-
--- an array of zeros
-pub zeros-at : (n a : ℕ) → ◌≡◌ {A = ℕ} (get_or (replicate n 0) a 0) 0
-zeros-at zero zero = refl
-zeros-at zero (suc a) = refl
-zeros-at (suc n) zero = refl
-zeros-at (suc n) (suc a) = zeros-at n a
 
 module _ (n s k : ℕ) (ls inn node_table state_table es cs : List ℕ) (t l r i j b e : ℕ) (m : List ℕ)
     (A : ForkArgs n s k ls inn node_table state_table es cs l r i j b e m) where

@@ -1,25 +1,27 @@
 -- What the functions of the whole count need and promise.
 --
--- counted_for X vs ms == the count for the roots ms, or 18
--- counted_on X vs == the count for those of the list vs, or 18
+-- counted_for X vs ms == the count for the roots ms, or refused where a value leads outside
+-- counted_on X vs == the count for those of the list vs, or refused where a value leads outside
 -- RootArgs, OnArgs, RunArgs == every read is inside: for given roots, for runs, and for whole plan, rules and tables
-use Rattle.std.specs.Prelude.{ℕ, ◌≤◌, ◌<◌, ◌≡◌, true, cond, List, [], length, get_or}
+use Rattle.std.specs.Prelude.{ℕ, ◌≤◌, ◌<◌, ◌≡◌, true, cond, List, [], length, get_or, Result, Ok, Err}
 use Rattle.formats.specs.Limits.{node_limit, change_limit, part_limit}
 use Rattle.formats.specs.Rules.{rule_length}
 use Rattle.formats.specs.Buffers.{limits_fit, buffers_fit}
+use Rattle.formats.specs.declared.refusals.Refusal.{Refusal}
+use Rattle.formats.specs.declared.refusals.Refusal.TheVariants.{LentValue}
 use Rattle.tables.specs.Climbs.{View}
 use Rattle.tables.specs.inner.PathViews.{PathArgs}
 use Rattle.choices.specs.question_counts.PartsOn.{parts_ok}
 use Rattle.choices.specs.question_counts.CountOn.{open_in, roots_in, list_in, is_countable}
 use Rattle.choices.specs.declared.count.Counted.{Counted}
-use Rattle.choices.specs.Promise.{refused_with, counted_at}
+use Rattle.choices.specs.Promise.{counted_at}
 use Rattle.choices.specs.inner.Part.{Runs}
 
-abbrev pub counted_for : View → List ℕ → List ℕ → Counted
-counted_for X vs ms = cond (parts_ok X (open_in vs) [] ms) (counted_at X vs ms) (refused_with 18)
+abbrev pub counted_for : View → List ℕ → List ℕ → Result Counted Refusal
+counted_for X vs ms = cond (parts_ok X (open_in vs) [] ms) (Ok (counted_at X vs ms)) (Err LentValue)
 
-abbrev pub counted_on : View → List ℕ → Counted
-counted_on X vs = cond (is_countable X vs) (counted_at X vs (list_in (roots_in X vs))) (refused_with 18)
+abbrev pub counted_on : View → List ℕ → Result Counted Refusal
+counted_on X vs = cond (is_countable X vs) (Ok (counted_at X vs (list_in (roots_in X vs)))) (Err LentValue)
 
 pub record RootArgs (n s k : ℕ) (ls ks lv inn node_table state_table vs ms : List ℕ) : Type 0 where
   pub runs : Runs n s k ls ks lv inn node_table state_table

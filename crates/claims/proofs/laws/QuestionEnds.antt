@@ -3,9 +3,10 @@
 --     fresh-run-agrees     so it does in any form of the calls
 --     state-over-ends      the second list on the plan changed by the first, and the second laid over the first
 use Prim.Native.Nat.{ℕ}
-use mathlib.Core.Path.{◌≡◌, ap, ap₂, ◌∙◌}
+use mathlib.Core.Path.{◌≡◌, ap₂, ◌∙◌}
 use mathlib.Core.List.{List, ◌∷◌}
 use native.Mathlib.Omega.{arith}
+use Rattle.std.specs.Prelude.{Result, Ok}
 use Rattle.formats.specs.Plan.{node_count}
 use Rattle.formats.specs.Rules.{label_count}
 use Rattle.formats.specs.Checks.{first_no, plan_checks, rule_checks, rule_table_checks, list_checks}
@@ -15,9 +16,10 @@ use Rattle.formats.proofs.CheckLaws.{Numbered, numbered-append, first_no-append-
 use Rattle.formats.proofs.PlanLaws.{plan-numbered}
 use Rattle.formats.proofs.RuleLaws.{rules-numbered}
 use Rattle.formats.proofs.InputLaws.{rule-table-passes}
-use Rattle.runs.specs.declared.answer.Running.{Running}
-use Rattle.runs.specs.declared.answer.Running.TheVariants.{Ended}
-use Rattle.runs.specs.FreshRun.{run_answer, root_state, root_accepted, fresh_run, FreshRunDone}
+use Rattle.formats.proofs.RefusalLaws.{told-value}
+use Rattle.formats.specs.declared.refusals.Refusal.{Refusal}
+use Rattle.runs.specs.declared.answer.Verdict.{Verdict}
+use Rattle.runs.specs.FreshRun.{verdict, fresh_run, FreshRunDone}
 use Rattle.changes.specs.Entries.{entries, nodes_listed, labels_listed, laid_over}
 use Rattle.model.specs.Calls.{Call, start, Answer, parts}
 use Rattle.model.specs.Refusals.{Stage, refusal}
@@ -54,12 +56,14 @@ run-passes t x vs bs e =
     ∙ start-list t x vs bs e
 
 pub fresh-run-ends : (t : Stage) (x : Inputs) (vs bs : List ℕ) → refusal t (start x vs bs) ≡ 0
-    → (r : Running) → FreshRunDone x.plan x.rules vs bs r
-    → r ≡ Ended (answer_state (fresh_answer (asked x vs bs))) (answer_yes (fresh_answer (asked x vs bs)))
-unfolding fresh_run run_answer fresh_answer
+    → (r : Result Verdict Refusal) → FreshRunDone x.plan x.rules vs bs r
+    → r ≡ Ok (record {
+      state = answer_state (fresh_answer (asked x vs bs));
+      accepted = answer_yes (fresh_answer (asked x vs bs));
+    })
+unfolding fresh_run fresh_answer
 fresh-run-ends t x vs bs e r d =
-    d.result
-    ∙ ap (λ (n : ℕ). run_answer n (root_state x.plan x.rules vs bs) (root_accepted x.plan x.rules vs bs))
+    told-value r (first_no (fresh_run_checks x.plan x.rules vs bs)) (verdict x.plan x.rules vs bs) d.result
     (run-passes t x vs bs e)
 
 module _ {R : Type 0} (fresh : R) (Step : R → Call → Answer → R → Type 0) (D : Demand3 fresh Step)

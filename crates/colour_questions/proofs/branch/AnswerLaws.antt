@@ -11,6 +11,7 @@ use mathlib.Core.Option.{Option, none, some}
 use native.Mathlib.Omega.{arith}
 use lib.Dec.{ltb}
 use lib.ListN.{get_or}
+use Rattle.std.specs.Prelude.{Option as Given, Some, None}
 use borrow.Author.Tests.{lt-ltb, le-ltb}
 use Rattle.trees.specs.Automaton.{WordAutomaton}
 use Rattle.trees.specs.Climb.{and_then}
@@ -22,11 +23,10 @@ use Rattle.colours.specs.Descents.{Place, Descent, drops, links, descend}
 use Rattle.colour_tables.specs.ColourCells.{cell_table}
 use Rattle.colour_tables.proofs.RangeLaws.{descend-low}
 use Rattle.colour_questions.specs.declared.path_drops.descend.Descended.{Descended}
-use Rattle.colour_questions.specs.declared.path_drops.descend.Descended.TheVariants.{Reached, NotReached}
 use Rattle.colour_questions.specs.path_drops.Descended.{descended_of}
 use Rattle.colour_questions.proofs.path_drops.DescendedLaws.{descended-none, descended-some}
-use Rattle.colour_questions.specs.declared.branch.answers.Descending.TheVariants.{Refused}
-use Rattle.colour_questions.specs.branch.Question.{start_on, colour_in, Coloured, coloured, coloured_on, colour_answer}
+use Rattle.colour_questions.specs.declared.branch.answers.ColourAsked.{ColourAsked}
+use Rattle.colour_questions.specs.branch.Question.{start_on, colour_in, coloured, coloured_on, colour_answer}
 use Rattle.colour_questions.specs.branch.inner.Steps.{place_at, numbered_place, finish_on}
 
 -- a value that is there is handed on, one that is not ends it
@@ -45,14 +45,14 @@ unfolding below
 below-yes s x h = rw (lt-ltb x s h)
 
 -- the rest of the question, from a copy on, and from a colour on
-abbrev pub from_end : ℕ → WordAutomaton → List ℕ → ℕ → Descent → Option Coloured
+abbrev pub from_end : ℕ → WordAutomaton → List ℕ → ℕ → Descent → Option ColourAsked
 from_end s B bytes l d =
     and_then (below s (get_or bytes (l * s + d.colour) 0)) (λ q. some (coloured B q (drops d) (links d)))
 
-abbrev pub from_colour : ℕ → ℕ → WordAutomaton → List ℕ → List ℕ → ℕ → Place → ℕ → Option Coloured
+abbrev pub from_colour : ℕ → ℕ → WordAutomaton → List ℕ → List ℕ → ℕ → Place → ℕ → Option ColourAsked
 from_colour n s B numbers bytes l z c = and_then (descend (cell_table n numbers) c z l c) (from_end s B bytes l)
 
-abbrev pub from_place_on : ℕ → ℕ → WordAutomaton → List ℕ → List ℕ → ℕ → Place → Option Coloured
+abbrev pub from_place_on : ℕ → ℕ → WordAutomaton → List ℕ → List ℕ → ℕ → Place → Option ColourAsked
 from_place_on n s B numbers bytes l z = and_then (colour_in s bytes z) (from_colour n s B numbers bytes l z)
 
 -- what the code answers at the end is the rest of the question
@@ -75,12 +75,12 @@ module _ (reading : Reading) (p r node_table numbers bytes : List ℕ) (u l n s 
       ap₂ (λ (x y : ℕ). and_then (start_on reading x node_table u) (from_place_on x y B numbers bytes l)) (sym a) (sym b)
 
   refused : coloured_on reading p r node_table numbers bytes u l ≡ none
-      → Refused 18 ≡ colour_answer 0 (coloured_on reading p r node_table numbers bytes u l)
+      → (18, none) ≡ colour_answer 0 (coloured_on reading p r node_table numbers bytes u l)
   unfolding colour_answer
   refused e = sym (ap (colour_answer 0) e)
 
   module _ (z : ℕ) (P : start_on reading n node_table u ≡ numbered_place n z) where
-    pub answer-outside : n < z → Refused 18 ≡ colour_answer 0 (coloured_on reading p r node_table numbers bytes u l)
+    pub answer-outside : n < z → (18, none) ≡ colour_answer 0 (coloured_on reading p r node_table numbers bytes u l)
     answer-outside h =
         let e : start_on reading n node_table u ≡ none =
         P ∙ ap (λ (x : Bool). cond x none (some (place_at n z))) (lt-ltb n z h) in
@@ -95,13 +95,13 @@ module _ (reading : Reading) (p r node_table numbers bytes : List ℕ) (u l n s 
           (from_place_on n s B numbers bytes l) placed
 
       module _ (c : ℕ) (C : colour_in s bytes (place_at n z) ≡ below s c) where
-        pub answer-no-start : s ≤ c → Refused 18 ≡ colour_answer 0 (coloured_on reading p r node_table numbers bytes u l)
+        pub answer-no-start : s ≤ c → (18, none) ≡ colour_answer 0 (coloured_on reading p r node_table numbers bytes u l)
         answer-no-start i =
             refused (from_place ∙ on_none (colour_in s bytes (place_at n z))
             (from_colour n s B numbers bytes l (place_at n z))
             (C ∙ below-no s c i))
 
-        module _ (i : c < s) (d : Descended)
+        module _ (i : c < s) (d : Given Descended)
             (D : d ≡ descended_of (descend (cell_table n numbers) c (place_at n z) l c)) where
           from-colour : coloured_on reading p r node_table numbers bytes u l
               ≡ from_colour n s B numbers bytes l (place_at n z) c
@@ -109,25 +109,25 @@ module _ (reading : Reading) (p r node_table numbers bytes : List ℕ) (u l n s 
               from_place ∙ on_some (colour_in s bytes (place_at n z)) c (from_colour n s B numbers bytes l (place_at n z))
               (C ∙ below-yes s c i)
 
-          pub answer-lost : d ≡ NotReached
-              → Refused 18 ≡ colour_answer 0 (coloured_on reading p r node_table numbers bytes u l)
+          pub answer-lost : d ≡ None
+              → (18, none) ≡ colour_answer 0 (coloured_on reading p r node_table numbers bytes u l)
           answer-lost f =
               refused (from-colour ∙ on_none (descend (cell_table n numbers) c (place_at n z) l c) (from_end s B bytes l)
               (descended-none (descend (cell_table n numbers) c (place_at n z) l c) (sym f ∙ D)))
 
           -- the colour at the end is one of s
-          pub end_low : (e d₁ k₁ : ℕ) → d ≡ Reached e d₁ k₁ → e < s
-          end_low e d₁ k₁ f =
+          pub end_low : (e : Descended) → d ≡ Some e → e.colour < s
+          end_low e f =
               let o : Option Descent = descend (cell_table n numbers) c (place_at n z) l c in
-              let x = descended-some o e d₁ k₁ (sym f ∙ D) in
+              let x = descended-some o e (sym f ∙ D) in
               omega (arith, x.2, descend-low (cell_table n numbers) l c (place_at n z) c x.0 x.1)
 
-          pub answer-end : (e d₁ k₁ : ℕ) → d ≡ Reached e d₁ k₁ → (mk : List ℕ) → mk ≡ branch_marks r
-              → finish_on s mk bytes l e d₁ k₁ ≡ colour_answer 0 (coloured_on reading p r node_table numbers bytes u l)
-          answer-end e d₁ k₁ f mk m =
+          pub answer-end : (e : Descended) → d ≡ Some e → (mk : List ℕ) → mk ≡ branch_marks r
+              → finish_on s mk bytes l e.colour e.drops e.links ≡ colour_answer 0 (coloured_on reading p r node_table numbers bytes u l)
+          answer-end e f mk m =
               let o : Option Descent = descend (cell_table n numbers) c (place_at n z) l c in
-              let x = descended-some o e d₁ k₁ (sym f ∙ D) in
-              finish-same mk (branch_marks r) e x.0.colour d₁ (drops x.0) k₁ (links x.0) m x.2 x.3 x.4
+              let x = descended-some o e (sym f ∙ D) in
+              finish-same mk (branch_marks r) e.colour x.0.colour e.drops (drops x.0) e.links (links x.0) m x.2 x.3 x.4
               ∙ finish-is s r bytes l x.0 (ltb (get_or bytes (l * s + x.0.colour) 0) s) refl
               ∙ sym (ap (colour_answer 0) (from-colour ∙ on_some o x.0 (from_end s B bytes l) x.1))
             where

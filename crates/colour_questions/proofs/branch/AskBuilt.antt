@@ -50,8 +50,7 @@ use Rattle.colour_tables.specs.Layout.{colour_numbers_of, copies_of, colour_numb
 use Rattle.colour_tables.proofs.LayoutLaws.{length-numbers, length-copies, copies-cells}
 use Rattle.colour_tables.proofs.RangeLaws.{descend-low}
 use Rattle.tables.proofs.CheckAnswers.{begins-room}
-use Rattle.colour_questions.specs.branch.Question.{colour_buffers_fit, colour_in, colour_ask_answer}
-use Rattle.colour_questions.specs.declared.branch.answers.Descending.TheVariants.{Answered}
+use Rattle.colour_questions.specs.branch.Question.{colour_buffers_fit, colour_in, asked, colour_ask_answer}
 use Rattle.colour_questions.specs.branch.Promise.{BranchColoursBuilt, BranchColoursUsable, word_start, word_descent, word_drops}
 use Rattle.colour_questions.proofs.branch.FitLaws.{are-fits}
 use Rattle.colour_questions.proofs.branch.AnswerLaws.{below-yes}
@@ -243,9 +242,12 @@ module _ (p r node_table numbers bytes : List ℕ) (D : BranchColoursBuilt p r n
       -- what is given on the copies, with the copies' own states
       pub on-built : (reading : Reading)
           → colour_ask_answer reading p r node_table numbers bytes u l
-          ≡ Answered (word_run (branch_automaton r) 0 (word_of reading (plan_tree p) u l))
-          ((branch_automaton r).accepting (word_run (branch_automaton r) 0 (word_of reading (plan_tree p) u l)))
-          (drops (descent-built reading).way) (links (descent-built reading).way)
+          ≡ (
+            0,
+            some (asked (word_run (branch_automaton r) 0 (word_of reading (plan_tree p) u l))
+                ((branch_automaton r).accepting (word_run (branch_automaton r) 0 (word_of reading (plan_tree p) u l)))
+                (drops (descent-built reading).way) (links (descent-built reading).way)),
+          )
       on-built reading =
           let C = on-copies reading p r node_table numbers bytes built-usable fits-built u l hu hl A in
           let W = descent-built reading in
@@ -260,9 +262,12 @@ module _ (p r node_table numbers bytes : List ℕ) (D : BranchColoursBuilt p r n
           let q : get_or bytes (l * s + W.way.colour) 0 ≡ word_run B 0 (word_of reading t u l) =
           states l W.way.colour lower_in low ∙ W.state in
           C.is
-          ∙ ap (λ (x : Descent). Answered (get_or bytes (l * s + x.colour) 0)
-          (B.accepting (get_or bytes (l * s + x.colour) 0)) (drops x) (links x)) d
-          ∙ ap (λ (x : ℕ). Answered x (B.accepting x) (drops W.way) (links W.way)) q
+          ∙ ap (λ (x : Descent). (
+            0,
+            some (asked (get_or bytes (l * s + x.colour) 0)
+                (B.accepting (get_or bytes (l * s + x.colour) 0)) (drops x) (links x)),
+          )) d
+          ∙ ap (λ (x : ℕ). (0, some (asked x (B.accepting x) (drops W.way) (links W.way)))) q
 
       pub drops-built : (reading : Reading) (d : Descent)
           → word_descent reading (branch_automaton r) (plan_tree p) u l ≡ some d

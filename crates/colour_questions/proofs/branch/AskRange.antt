@@ -4,10 +4,10 @@
 --     ask-out-of-range   so it is where 18 is answered
 --     ask-kept           an answer's state is below S, and yes is its mark, for any inputs
 use Prim.Native.Nat.{ℕ, zero, suc, ◌+◌, ◌*◌, ◌≤◌, ◌<◌}
-use mathlib.Core.Path.{◌≡◌, refl, sym, ap, ◌∙◌}
+use mathlib.Core.Path.{◌≡◌, refl, sym, ap, ◌∙◌, subst}
 use mathlib.Core.Bool.{Bool, true, false, cond, ◌&&◌}
 use mathlib.Core.List.{List}
-use mathlib.Core.Option.{Option, none, some}
+use mathlib.Core.Option.{Option, none, some, some-injective}
 use native.Mathlib.Omega.{arith}
 use lib.Dec.{ltb, eqb}
 use lib.ListN.{length, get_or}
@@ -17,7 +17,10 @@ use Rattle.trees.specs.Climb.{and_then}
 use Rattle.trees.proofs.MoveLaws.{none-some}
 use Rattle.formats.specs.Plan.{node_count}
 use Rattle.formats.specs.Rules.{state_count, branch_automaton}
+use Rattle.std.specs.Prelude.{Result, Ok, Err}
 use Rattle.formats.specs.Checks.{first_no}
+use Rattle.formats.specs.Refusals.{told}
+use Rattle.formats.specs.declared.refusals.Refusal.{Refusal}
 use Rattle.formats.proofs.FourChecks.{four}
 use Rattle.tables.specs.node_tables.Cells.{parent_cell, is_in_subtree_on}
 use Rattle.tables.specs.Climbs.{below}
@@ -29,7 +32,8 @@ use Rattle.colours.specs.Descents.{Place, Descent, drops, links, descend}
 use Rattle.colours.proofs.AgreeLaws.{PlaceIn}
 use Rattle.colour_tables.specs.ColourCells.{copy_row, cell_table}
 use Rattle.colour_tables.proofs.RangeLaws.{descend-cause, descend-low}
-use Rattle.colour_questions.specs.branch.Question.{colour_buffers_fit, start_on, colour_in, Coloured, coloured}
+use Rattle.colour_questions.specs.declared.branch.answers.ColourAsked.{ColourAsked}
+use Rattle.colour_questions.specs.branch.Question.{colour_buffers_fit, start_on, colour_in, coloured}
 use Rattle.colour_questions.specs.branch.Question.{coloured_on}
 use Rattle.colour_questions.specs.branch.Question.{colour_checks, colour_number, colour_answer, colour_ask_answer}
 use Rattle.colour_questions.specs.branch.OutOfRange.{BranchColoursOutOfRange, parent, colour, start, state}
@@ -55,7 +59,7 @@ below-some s x y e = go (ltb x s) refl e
     go false w i = absurd (none-some i)
 
 -- 18 is the last of four
-eighteen : (a b c : Bool) (o : Option Coloured) → first_no (four 16 12 15 17 a b c (is_some o)) ≡ 18
+eighteen : (a b c : Bool) (o : Option ColourAsked) → first_no (four 16 12 15 17 a b c (is_some o)) ≡ 18
     → (a ≡ true) × (b ≡ true) × (o ≡ none)
 unfolding first_no
 eighteen true true true none e = (refl, refl, refl)
@@ -146,7 +150,7 @@ module _ (reading : Reading) (p r node_table numbers bytes : List ℕ) (u l : �
 
   -- ---- what holds of an answer
 
-  kept-end : (d : Descent) (x : Coloured) → from_end (state_count r) (branch_automaton r) bytes l d ≡ some x
+  kept-end : (d : Descent) (x : ColourAsked) → from_end (state_count r) (branch_automaton r) bytes l d ≡ some x
       → (x.state < state_count r) × (x.marked ≡ (branch_automaton r).accepting x.state)
   kept-end d x e = go (below (state_count r) (get_or bytes (l * state_count r + d.colour) 0)) refl e
     where
@@ -165,7 +169,7 @@ module _ (reading : Reading) (p r node_table numbers bytes : List ℕ) (u l : �
   then_some none f y e = absurd (none-some e)
   then_some (some x) f y e = (x, refl, e)
 
-  kept_on : (x : Coloured) → coloured_on reading p r node_table numbers bytes u l ≡ some x
+  kept_on : (x : ColourAsked) → coloured_on reading p r node_table numbers bytes u l ≡ some x
       → (x.state < state_count r) × (x.marked ≡ (branch_automaton r).accepting x.state)
   unfolding coloured_on
   kept_on x e =
@@ -177,13 +181,16 @@ module _ (reading : Reading) (p r node_table numbers bytes : List ℕ) (u l : �
       (from_end (state_count r) (branch_automaton r) bytes l) x b.2 in
       kept-end c.0 x c.2
 
-  pub ask-kept : state_kept r (colour_ask_answer reading p r node_table numbers bytes u l)
+  pub ask-kept : (a : Result ColourAsked Refusal) → told a ≡ colour_ask_answer reading p r node_table numbers bytes u l
+      → state_kept r a
   unfolding colour_ask_answer colour_answer
-  ask-kept = go (colour_number reading p r node_table numbers bytes u l)
-      (coloured_on reading p r node_table numbers bytes u l) refl
+  ask-kept (Err e) h = tt
+  ask-kept (Ok y) h = go (colour_number reading p r node_table numbers bytes u l)
+      (coloured_on reading p r node_table numbers bytes u l) refl h
     where
-      go : (m : ℕ) (o : Option Coloured) → coloured_on reading p r node_table numbers bytes u l ≡ o
-          → state_kept r (colour_answer m o)
-      go zero none e = tt
-      go zero (some x) e = kept_on x e
-      go (suc m) o e = tt
+      go : (m : ℕ) (o : Option ColourAsked) → coloured_on reading p r node_table numbers bytes u l ≡ o
+          → ◌≡◌ {A = ℕ × Option ColourAsked} (0, some y) (colour_answer m o) → state_kept r (Ok y)
+      go zero none e i = absurd (let z : ◌≡◌ {A = ℕ} 0 18 = ap (λ t. t.0) i in omega arith)
+      go zero (some x) e i =
+          subst (λ (z : ColourAsked). state_kept r (Ok z)) (some-injective x y (sym (ap (λ t. t.1) i))) (kept_on x e)
+      go (suc m) o e i = absurd (let z : ◌≡◌ {A = ℕ} 0 (suc m) = ap (λ t. t.0) i in omega arith)

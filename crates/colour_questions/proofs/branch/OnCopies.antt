@@ -31,7 +31,7 @@ use Rattle.colour_tables.specs.ColourCells.{copy_row, cell_table}
 use Rattle.colour_tables.proofs.BuiltLaws.{descend-built}
 use Rattle.colour_tables.proofs.RangeLaws.{descend-low}
 use Rattle.colour_questions.specs.branch.Question.{colour_buffers_fit, start_on, colour_in, coloured, coloured_on, colour_answer}
-use Rattle.colour_questions.specs.branch.Question.{colour_ask_answer, descending_number}
+use Rattle.colour_questions.specs.branch.Question.{colour_ask_answer}
 use Rattle.colour_questions.specs.branch.Promise.{BranchColoursUsable, word_start, OnCopies}
 use Rattle.colour_questions.proofs.branch.AskChecks.{ask-number, ask-on}
 use Rattle.colour_questions.proofs.branch.AskRange.{ask-out-of-range}
@@ -102,12 +102,12 @@ module _ (reading : Reading) (p r node_table numbers bytes : List ℕ) (U : Bran
       (place_of 0 (copy_row s bytes z), below-yes s _ h, h)
 
   never : coloured_on reading p r node_table numbers bytes u l ≡ none → ⊥
-  unfolding colour_answer descending_number
+  unfolding colour_answer
   never e =
       usable.usable-in-range p r node_table numbers bytes U
       (ask-out-of-range reading p r node_table numbers bytes u l
       (sym (ask-number reading p r node_table numbers bytes u l)
-      ∙ ap descending_number (ask-on reading p r node_table numbers bytes u l fits hu hl below-it ∙ ap (colour_answer 0) e)))
+      ∙ ap (λ t. t.0) (ask-on reading p r node_table numbers bytes u l fits hu hl below-it ∙ ap (colour_answer 0) e)))
 
   pub on-copies : OnCopies reading p r bytes u l (colour_ask_answer reading p r node_table numbers bytes u l)
   unfolding coloured_on colour_answer

@@ -17,8 +17,7 @@ use Rattle.tables.specs.node_tables.Cells.{parent_cell}
 use Rattle.tables.specs.Climbs.{below}
 use Rattle.branches.specs.declared.answers.Reading.TheVariants.{WithUpper, BelowUpper}
 use Rattle.colours.specs.Colouring.{place_of}
-use Rattle.colour_questions.specs.declared.branch.answers.Descending.TheVariants.{Answered, Refused}
-use Rattle.colour_questions.specs.branch.Question.{start_on, colour_in}
+use Rattle.colour_questions.specs.branch.Question.{start_on, colour_in, asked}
 use Rattle.colour_questions.specs.branch.inner.Steps.{place_at, numbered_place, finish_on, RowArgs}
 
 module _ (n : ℕ) (T : List ℕ) (u : ℕ) where
@@ -62,12 +61,12 @@ pub place-node : (n z : ℕ) → (z ≡ n → ⊥) → some z ≡ place_at n z
 place-node n z e = rw (ne_eqb z n e)
 
 module _ (s : ℕ) (mk bytes : List ℕ) (l c d n : ℕ) where
-  pub finish-outside : s ≤ get_or bytes (l * s + c) 0 → Refused 18 ≡ finish_on s mk bytes l c d n
+  pub finish-outside : s ≤ get_or bytes (l * s + c) 0 → (18, none) ≡ finish_on s mk bytes l c d n
   unfolding finish_on
   finish-outside h = rw (le-ltb (get_or bytes (l * s + c) 0) s h)
 
   pub finish-answer : get_or bytes (l * s + c) 0 < s
-      → Answered (get_or bytes (l * s + c) 0) (eqb (get_or mk (get_or bytes (l * s + c) 0) 0) 1) d n
+      → (0, some (asked (get_or bytes (l * s + c) 0) (eqb (get_or mk (get_or bytes (l * s + c) 0) 0) 1) d n))
       ≡ finish_on s mk bytes l c d n
   unfolding finish_on
   finish-answer h = rw (lt-ltb (get_or bytes (l * s + c) 0) s h)

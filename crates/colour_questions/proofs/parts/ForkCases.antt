@@ -9,6 +9,7 @@ use native.Mathlib.Decide.{ℕ_discrete}
 use native.Mathlib.Omega.{arith}
 use lib.ListN.{length, get_or, length-append}
 use borrow.Author.Tests.{lt-ltb, le-ltb, le-leb, lt-leb, eq-eqb, ne_eqb}
+use Rattle.std.specs.Prelude.{Option as Given, Some, None}
 use Rattle.trees.specs.Changes.{changed}
 use Rattle.trees.specs.Climb.{and_then}
 use Rattle.tables.specs.node_tables.Cells.{size_cell}
@@ -21,15 +22,14 @@ use Rattle.questions.proofs.ScanLaws.{found-scan}
 use Rattle.colours.specs.Descents.{sum}
 use Rattle.colours.specs.StateSets.{Tried, tried}
 use Rattle.colour_questions.specs.declared.target_states.trials.Trial.{Trial}
-use Rattle.colour_questions.specs.declared.target_states.trials.Trial.TheVariants.{State, NoState}
-use Rattle.colour_questions.specs.target_states.Trials.{trial_of, Few, FewIn}
+use Rattle.colour_questions.specs.target_states.Trials.{trial, trial_of, Few, FewIn}
 use Rattle.colour_questions.proofs.target_states.TrialLoop.{sum-append}
 use Rattle.colour_questions.specs.parts.Part.{ColourView, Sides, sides_of, side_tried, join_tried, fork_tried}
 use Rattle.colour_questions.specs.parts.Part.{leaf_tried, part_tried}
 use Rattle.colour_questions.specs.parts.inner.Args.{Untried, SideDone, PartDone}
 use Rattle.colour_questions.proofs.parts.TrialLaws.{trial-none, Is, trial-some}
 
-lost-part : (s : ℕ) (o : Option Tried) → o ≡ none → PartDone s o NoState
+lost-part : (s : ℕ) (o : Option Tried) → o ≡ none → PartDone s o None
 unfolding trial_of
 lost-part s o e = record { result = ap trial_of (sym e); bounds = tt }
 
@@ -56,14 +56,14 @@ module _ (Y : Sides) (k : ℕ) (inner node_table es qs : List ℕ) (v l a i j : 
       ∙ ap (found_of es qs) (sym is-j) in
       ap₂ (λ (x y : Option Found). join_tried X a (side_tried Y l x y) (side_tried Y (v - 1) y x)) p q
 
-  module _ (x : Trial) (D : SideDone Y.s i j (side_tried Y l (found_of es qs i) (found_of es qs j)) x) where
-    pub fork-left : x ≡ NoState → PartDone Y.s (fork_tried Y k inner node_table es qs v l a) NoState
+  module _ (x : Given Trial) (D : SideDone Y.s i j (side_tried Y l (found_of es qs i) (found_of es qs j)) x) where
+    pub fork-left : x ≡ None → PartDone Y.s (fork_tried Y k inner node_table es qs v l a) None
     unfolding join_tried
     fork-left z =
         let n = trial-none (side_tried Y l f g) (sym z ∙ D.result) in
         lost-part Y.s _ (fork_by ∙ ap (λ (o : Option Tried). join_tried X a o (side_tried Y (v - 1) g f)) n)
 
-    module _ (p b c : ℕ) (z : x ≡ State p b c) (y : Trial)
+    module _ (p b c : ℕ) (z : x ≡ Some (trial p b c)) (y : Given Trial)
         (E : SideDone Y.s j i (side_tried Y (v - 1) (found_of es qs j) (found_of es qs i)) y) where
       left : Is (side_tried Y l (found_of es qs i) (found_of es qs j)) p b c
       left = trial-some (side_tried Y l f g) p b c (sym z ∙ D.result)
@@ -71,13 +71,13 @@ module _ (Y : Sides) (k : ℕ) (inner node_table es qs : List ℕ) (v l a i j : 
       pub left_few : Few Y.s 60 p b c
       left_few = subst (FewIn Y.s 60) z D.bounds.all
 
-      pub fork-right : y ≡ NoState → PartDone Y.s (fork_tried Y k inner node_table es qs v l a) NoState
+      pub fork-right : y ≡ None → PartDone Y.s (fork_tried Y k inner node_table es qs v l a) None
       unfolding join_tried
       fork-right w =
           let n = trial-none (side_tried Y (v - 1) g f) (sym w ∙ E.result) in
           lost-part Y.s _ (fork_by ∙ ap₂ (λ (o u : Option Tried). join_tried X a o u) left.is n)
 
-      module _ (t d e : ℕ) (w : y ≡ State t d e) where
+      module _ (t d e : ℕ) (w : y ≡ Some (trial t d e)) where
         pub right_few : Few Y.s 60 t d e
         right_few = subst (FewIn Y.s 60) w E.bounds.all
 
@@ -98,7 +98,7 @@ module _ (Y : Sides) (k : ℕ) (inner node_table es qs : List ℕ) (v l a i j : 
               ∙ ap (λ (c : Option ℕ). and_then c (λ p. some (tried p both)))
               (ap₂ (λ (m n : ℕ). rule_on X m a n) (sym left.state) (sym right.state) ∙ sym R ∙ h)
 
-          pub fork_rule : Y.s ≤ q → PartDone Y.s (fork_tried Y k inner node_table es qs v l a) NoState
+          pub fork_rule : Y.s ≤ q → PartDone Y.s (fork_tried Y k inner node_table es qs v l a) None
           fork_rule h = lost-part Y.s _ (by-rule none (below-no Y.s q h))
 
           -- one side alone is tried
@@ -111,10 +111,10 @@ module _ (Y : Sides) (k : ℕ) (inner node_table es qs : List ℕ) (v l a i j : 
           pub fork-few : c + e ≤ (b + d) * 65535
           fork-few = omega (arith, left_few.few, right_few.few)
 
-          pub fork-made : q < Y.s → PartDone Y.s (fork_tried Y k inner node_table es qs v l a) (State q (b + d) (c + e))
+          pub fork-made : q < Y.s → PartDone Y.s (fork_tried Y k inner node_table es qs v l a) (Some (trial q (b + d) (c + e)))
           unfolding trial_of
           fork-made h = record {
-            result = sym (ap trial_of (by-rule (some q) (below-yes Y.s q h)) ∙ ap₂ (λ (m n : ℕ). State q m n) number total);
+            result = sym (ap trial_of (by-rule (some q) (below-yes Y.s q h)) ∙ ap₂ (λ (m n : ℕ). Some (trial q m n)) number total);
             bounds = record { state = h; falls = fork-falls; few = fork-few };
           }
             where
@@ -135,7 +135,7 @@ module _ (L : ColourView) (es qs vs bs : List ℕ) (v a : ℕ) (is-a : a ≡ get
   abbrev l : ℕ
   l = v - 1 - size_cell L.view.node_table (v - 1)
 
-  pub part-leaf : (r : Trial) → get_or L.view.kinds v 0 ≡ 0
+  pub part-leaf : (r : Given Trial) → get_or L.view.kinds v 0 ≡ 0
       → r ≡ trial_of (leaf_tried L.view.s L.view.k L.view.leaves a) → FewIn L.view.s 60 r
       → PartDone L.view.s (part_tried L es qs vs bs v) r
   unfolding part_tried label_on
@@ -145,13 +145,13 @@ module _ (L : ColourView) (es qs vs bs : List ℕ) (v a : ℕ) (is-a : a ≡ get
   }
 
   module _ (h : ¬ (get_or L.view.kinds v 0 ≡ 0)) where
-    pub part-first : v ≡ 0 → PartDone L.view.s (part_tried L es qs vs bs v) NoState
+    pub part-first : v ≡ 0 → PartDone L.view.s (part_tried L es qs vs bs v) None
     unfolding part_tried
     part-first z = lost-part W.s _ (rw (ne_eqb (get_or W.kinds v 0) 0 h, le-ltb 0 v (omega arith)))
 
     module _ (i : ¬ (v ≡ 0)) where
       pub part-outside : v - 1 < size_cell L.view.node_table (v - 1)
-          → PartDone L.view.s (part_tried L es qs vs bs v) NoState
+          → PartDone L.view.s (part_tried L es qs vs bs v) None
       unfolding part_tried
       part-outside z =
           lost-part W.s _
@@ -161,7 +161,7 @@ module _ (L : ColourView) (es qs vs bs : List ℕ) (v a : ℕ) (is-a : a ≡ get
             lt-leb (size_cell W.node_table (v - 1)) (v - 1) z,
           ))
 
-      pub part-fork : (m z : ℕ) (r : Trial) → m ≡ 2 ^ L.view.s → z ≡ size_cell L.view.node_table (v - 1) → z ≤ v - 1
+      pub part-fork : (m z : ℕ) (r : Given Trial) → m ≡ 2 ^ L.view.s → z ≡ size_cell L.view.node_table (v - 1) → z ≤ v - 1
           → PartDone L.view.s (fork_tried (sides_of L.view.n L.view.s m L.view.state_table L.numbers L.copies)
           L.view.k L.view.inner L.view.node_table es qs v (v - 1 - z) a) r
           → PartDone L.view.s (part_tried L es qs vs bs v) r

@@ -12,17 +12,17 @@ use native.Mathlib.Omega.{arith}
 use lib.Dec.{ltb}
 use lib.ListN.{length, get_or}
 use borrow.Author.Tests.{lt-ltb, le-ltb}
+use Rattle.std.specs.Prelude.{Option as Given, Some, None}
 use Rattle.tables.specs.Climbs.{below}
 use Rattle.tables.proofs.LookupLaws.{below-yes, below-no, below-state}
 use Rattle.colours.specs.Descents.{ColourTable, sum}
 use Rattle.colours.specs.StateSets.{Tried}
 use Rattle.colour_questions.specs.declared.target_states.trials.Trial.{Trial}
-use Rattle.colour_questions.specs.declared.target_states.trials.Trial.TheVariants.{State, NoState}
-use Rattle.colour_questions.specs.target_states.Trials.{trial_of, FewIn, TargetsDone}
+use Rattle.colour_questions.specs.target_states.Trials.{trial, trial_of, FewIn, TargetsDone}
 use Rattle.colour_questions.specs.parts.Part.{untried, leaf_tried}
 use Rattle.colour_questions.specs.parts.inner.Args.{Untried}
 
-pub trial-none : (o : Option Tried) → NoState ≡ trial_of o → o ≡ none
+pub trial-none : (o : Option Tried) → None ≡ trial_of o → o ≡ none
 unfolding trial_of
 trial-none none e = refl
 trial-none (some x) e = let z : ◌≡◌ {A = ℕ} 0 1 = cc in absurd (omega arith)
@@ -34,33 +34,34 @@ pub record Is (o : Option Tried) (q drops links : ℕ) : Type 0 where
   pub number : drops ≡ length found.searches
   pub total : links ≡ sum found.searches
 
-pub trial-some : (o : Option Tried) (q drops links : ℕ) → State q drops links ≡ trial_of o → Is o q drops links
+pub trial-some : (o : Option Tried) (q drops links : ℕ) → Some (trial q drops links) ≡ trial_of o → Is o q drops links
 unfolding trial_of
 trial-some none q drops links e = let z : ◌≡◌ {A = ℕ} 0 1 = cc in absurd (omega arith)
 trial-some (some x) q drops links e =
-    let a : q ≡ x.state = cc in
-    let b : drops ≡ length x.searches = cc in
-    let c : links ≡ sum x.searches = cc in
+    let y : trial q drops links ≡ trial x.state (length x.searches) (sum x.searches) = cc in
+    let a : q ≡ x.state = ap (λ t. t.state) y in
+    let b : drops ≡ length x.searches = ap (λ t. t.drops) y in
+    let c : links ≡ sum x.searches = ap (λ t. t.links) y in
     record { found = x; is = refl; state = a; number = b; total = c }
 
 -- ---- a number read as a state
 
 module _ (s q : ℕ) where
-  pub untried-no : s ≤ q → NoState ≡ trial_of (untried (below s q))
+  pub untried-no : s ≤ q → None ≡ trial_of (untried (below s q))
   unfolding trial_of
   untried-no h = ap (λ (o : Option ℕ). trial_of (untried o)) (sym (below-no s q h))
 
-  pub untried-yes : q < s → State q 0 0 ≡ trial_of (untried (below s q))
+  pub untried-yes : q < s → Some (trial q 0 0) ≡ trial_of (untried (below s q))
   unfolding trial_of
   untried-yes h = ap (λ (o : Option ℕ). trial_of (untried o)) (sym (below-yes s q h))
 
 -- ---- bounds
 
-pub record Still (s : ℕ) (r : Trial) : Type 0 where
+pub record Still (s : ℕ) (r : Given Trial) : Type 0 where
   pub all : FewIn s 60 r
   pub none-fell : Untried r
 
-pub untried-few : (s q : ℕ) (r : Trial) → r ≡ trial_of (untried (below s q)) → Still s r
+pub untried-few : (s q : ℕ) (r : Given Trial) → r ≡ trial_of (untried (below s q)) → Still s r
 unfolding trial_of
 untried-few s q r e = go (below s q) refl e
   where
@@ -74,18 +75,18 @@ untried-few s q r e = go (below s q) refl e
           none-fell = refl;
         })
 
-fewer : (s a b : ℕ) (r : Trial) → a ≤ b → FewIn s a r → FewIn s b r
-fewer s a b NoState h B = tt
-fewer s a b (State q drops links) h B = record { state = B.state; falls = omega (arith, B.falls); few = B.few }
+fewer : (s a b : ℕ) (r : Given Trial) → a ≤ b → FewIn s a r → FewIn s b r
+fewer s a b None h B = tt
+fewer s a b (Some t) h B = record { state = B.state; falls = omega (arith, B.falls); few = B.few }
 
-pub targets-few : (s : ℕ) (T : ColourTable) (rows : ℕ → List ℕ) (c w q : ℕ) (r : Trial) → s ≤ 4
+pub targets-few : (s : ℕ) (T : ColourTable) (rows : ℕ → List ℕ) (c w q : ℕ) (r : Given Trial) → s ≤ 4
     → TargetsDone s T rows c w q r → FewIn s 60 r
 targets-few s T rows c w q r h D = fewer s (s * 15) 60 r (omega arith) D.bounds
 
 -- ---- leaves
 
 module _ (s k : ℕ) (lv : List ℕ) (a : ℕ) where
-  pub leaf-outside : k ≤ a → NoState ≡ trial_of (leaf_tried s k lv a)
+  pub leaf-outside : k ≤ a → None ≡ trial_of (leaf_tried s k lv a)
   unfolding leaf_tried trial_of
   leaf-outside h = rw (le-ltb a k h)
 
@@ -93,7 +94,7 @@ module _ (s k : ℕ) (lv : List ℕ) (a : ℕ) where
   unfolding leaf_tried
   leaf-at h = rw (lt-ltb a k h)
 
-  pub leaf-few : (r : Trial) → r ≡ trial_of (leaf_tried s k lv a) → FewIn s 60 r
+  pub leaf-few : (r : Given Trial) → r ≡ trial_of (leaf_tried s k lv a) → FewIn s 60 r
   unfolding leaf_tried trial_of
   leaf-few r = go (ltb a k)
     where

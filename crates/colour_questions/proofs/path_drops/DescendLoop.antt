@@ -14,12 +14,12 @@ use lib.ListN.{length, length-append}
 use Rattle.colours.specs.Descents.{ColourTable, Place, Next, done, lost, fell, next_drop, seen, Descent, descent, sum}
 use Rattle.colours.specs.Descents.{with_search, after_next, descend}
 use Rattle.colours.proofs.DescentLaws.{descend-lowest, descend-next, descend-same, fell-lower}
-use Rattle.colour_questions.specs.declared.path_drops.descend.Descended.TheVariants.{Reached, NotReached}
+use Rattle.std.specs.Prelude.{Some, None}
 use Rattle.colour_questions.specs.declared.path_drops.drops.Dropping.{Dropping}
 use Rattle.colour_questions.specs.declared.path_drops.drops.Dropping.TheVariants.{Done, Lost, Fell}
 use Rattle.colour_questions.specs.path_drops.inner.Drops.{dropping_of, NextDone}
 use Rattle.colour_tables.specs.ColourCells.{colour_part, cell_table}
-use Rattle.colour_questions.specs.path_drops.Descended.{start_place, descended_of}
+use Rattle.colour_questions.specs.path_drops.Descended.{start_place, reached, descended_of}
 use Rattle.colour_questions.specs.path_drops.inner.Drops.{DropDone}
 
 -- ---- one colour's table among all
@@ -91,21 +91,21 @@ module _ (n : ℕ) (nums : List ℕ) (z : Place) (l c : ℕ) where
         ≡ with_searches searches (descend (cell_table n nums) colour (start_place above at) l colour)
 
   -- what is answered where no drop is left
-  ended : (ls : List ℕ) (d : ℕ) → descended_of (with_searches ls (some (descent d []))) ≡ Reached d (length ls) (sum ls)
+  ended : (ls : List ℕ) (d : ℕ) → descended_of (with_searches ls (some (descent d []))) ≡ Some (reached d (length ls) (sum ls))
   unfolding descended_of
-  ended ls d = ap (λ (x : List ℕ). Reached d (length x) (sum x)) (append-nil ls)
+  ended ls d = ap (λ (x : List ℕ). Some (reached d (length x) (sum x))) (append-nil ls)
 
   module _ (colour : ℕ) (above : Bool) (at drops links : ℕ) (S : Descends colour above at drops links) where
     finish : descend T colour (start_place above at) l colour ≡ some (descent colour [])
-        → Reached colour drops links ≡ descended_of (descend T c z l c)
+        → Some (reached colour drops links) ≡ descended_of (descend T c z l c)
     finish e =
         sym (ap descended_of (S.rest ∙ ap (with_searches S.searches) e)
         ∙ ended S.searches colour
-        ∙ ap (λ (x : ℕ). Reached colour x (sum S.searches)) S.number
-        ∙ ap (λ (x : ℕ). Reached colour drops x) S.total)
+        ∙ ap (λ (x : ℕ). Some (reached colour x (sum S.searches))) S.number
+        ∙ ap (λ (x : ℕ). Some (reached colour drops x)) S.total)
 
     pub descends-lowest : colour ≡ 0
-        → Reached colour drops links ≡ descended_of (descend (cell_table n nums) c z l c)
+        → Some (reached colour drops links) ≡ descended_of (descend (cell_table n nums) c z l c)
     descends-lowest e =
         finish (subst (λ (x : ℕ). descend T x (start_place above at) l x ≡ some (descent x [])) (sym e)
         (descend-lowest T (start_place above at) l 0))
@@ -125,12 +125,12 @@ module _ (n : ℕ) (nums : List ℕ) (z : Place) (l c : ℕ) where
           go zero h = absurd (omega arith)
           go (suc f) h = (f, refl)
 
-      pub descends-done : r ≡ Done → Reached colour drops links ≡ descended_of (descend (cell_table n nums) c z l c)
+      pub descends-done : r ≡ Done → Some (reached colour drops links) ≡ descended_of (descend (cell_table n nums) c z l c)
       descends-done e =
           finish (step before.0 done before.1
           (gives-done (next_drop T colour (start_place above at) l) (sym e ∙ D.result)))
 
-      pub descends-lost : r ≡ Lost → NotReached ≡ descended_of (descend (cell_table n nums) c z l c)
+      pub descends-lost : r ≡ Lost → None ≡ descended_of (descend (cell_table n nums) c z l c)
       unfolding descended_of
       descends-lost e =
           ap descended_of (sym (S.rest ∙ ap (with_searches S.searches)

@@ -4,13 +4,14 @@
 --     gives-done, gives-outside, gives-stuck, gives-high, gives-fell the answer for the next drop, by the tests on
 --       the way
 use Prim.Native.Nat.{ℕ, ◌+◌, ◌≤◌, ◌<◌}
-use mathlib.Core.Path.{◌≡◌, refl, sym, ap, ap₂, ◌∙◌}
+use mathlib.Core.Path.{◌≡◌, refl, sym, ap, ◌∙◌}
 use mathlib.Core.Bool.{false}
 use mathlib.Core.List.{List}
 use mathlib.Core.Option.{Option, none, some}
 use native.Mathlib.Omega.{arith}
 use lib.Dec.{ltb}
 use lib.ListN.{length}
+use Rattle.std.specs.Prelude.{Option as Given, Some, None}
 use borrow.Author.Tests.{lt-ltb, le-ltb}
 use Rattle.trees.specs.Climb.{Forest, Move, and_then, climb, climb_end}
 use Rattle.trees.proofs.ClimbLaws.{climb-short, climb-inside}
@@ -18,10 +19,9 @@ use Rattle.tables.specs.node_tables.Cells.{depth_cell, size_cell, cell_forest}
 use Rattle.colours.specs.Descents.{Next, lost, fell, fell_at, fell_by, seen_at, lowest_in, next_from}
 use Rattle.colours.proofs.DescentLaws.{next-done, next-search, next-outside}
 use Rattle.colour_questions.specs.declared.path_drops.search.Searched.{Searched}
-use Rattle.colour_questions.specs.declared.path_drops.search.Searched.TheVariants.{Found, NotFound}
 use Rattle.colour_questions.specs.declared.path_drops.drops.Dropping.{Dropping}
 use Rattle.colour_questions.specs.declared.path_drops.drops.Dropping.TheVariants.{Done, Lost, Fell}
-use Rattle.colour_questions.specs.path_drops.inner.Search.{Searching, searching, search_on, searched_of}
+use Rattle.colour_questions.specs.path_drops.inner.Search.{searching, search_on, searched_of}
 use Rattle.colour_questions.specs.path_drops.inner.Drops.{dropping_of, NextDone}
 
 -- ---- one node's numbers
@@ -42,7 +42,7 @@ module _ (F : Forest) (lands : ℕ → ℕ) (c v r : ℕ) (e : r ≡ lands v) wh
 -- ---- a search
 
 -- the next drop by what a search returns
-abbrev fell_on : (ℕ → ℕ) → ℕ → Option Searching → Next
+abbrev fell_on : (ℕ → ℕ) → ℕ → Option Searched → Next
 fell_on lands c none = lost
 fell_on lands c (some s) = fell_at c lands s.node s.links
 
@@ -57,7 +57,7 @@ fell-search F lands c v to = go (climb F v to)
     go (some ms) = refl
 
 -- it ends among the nodes, with few links
-search-ends : (F : Forest) (v to : ℕ) (s : Searching) → v < F.nodes → search_on F v to ≡ some s
+search-ends : (F : Forest) (v to : ℕ) (s : Searched) → v < F.nodes → search_on F v to ≡ some s
     → (s.node < F.nodes) × (s.links ≤ F.depth v)
 unfolding search_on
 search-ends F v to s h e = go (climb F v to) refl e
@@ -71,15 +71,12 @@ search-ends F v to s h e = go (climb F v to) refl e
         let b : length ms ≡ s.links = cc in
         (omega (arith, climb-inside F v to ms h q), omega (arith, climb-short F v to ms q))
 
-gives-some : (o : Option Searching) (x k : ℕ) → Found x k ≡ searched_of o → o ≡ some (searching x k)
+gives-some : (o : Option Searched) (s : Searched) → Some s ≡ searched_of o → o ≡ some s
 unfolding searched_of
-gives-some none x k e = let z : ◌≡◌ {A = ℕ} 0 1 = cc in absurd (omega arith)
-gives-some (some r) x k e =
-    let p : r.node ≡ x = cc in
-    let q : r.links ≡ k = cc in
-    ap₂ (λ (v k : ℕ). some (searching v k)) p q
+gives-some none s e = let z : ◌≡◌ {A = ℕ} 0 1 = cc in absurd (omega arith)
+gives-some (some r) s e = let p : r ≡ s = cc in ap some p
 
-gives_none : (o : Option Searching) → NotFound ≡ searched_of o → o ≡ none
+gives_none : (o : Option Searched) → None ≡ searched_of o → o ≡ none
 unfolding searched_of
 gives_none none e = refl
 gives_none (some r) e = let z : ◌≡◌ {A = ℕ} 0 1 = cc in absurd (omega arith)
@@ -122,36 +119,36 @@ module _ (n : ℕ) (table : List ℕ) (c to l : ℕ) where
         next-search F lands c to l (omega arith) (omega arith)
         ∙ ap (λ (x : ℕ). fell_by F lands c x (climb F x to)) (sym i) ∙ fell-search F lands c v to
 
-    module _ (o : v < n) (r : Searched) (q : r ≡ searched_of (search_on (cell_forest n table) v to)) where
-      pub gives-stuck : r ≡ NotFound → NextDone n table c to l Lost
+    module _ (o : v < n) (r : Given Searched) (q : r ≡ searched_of (search_on (cell_forest n table) v to)) where
+      pub gives-stuck : r ≡ None → NextDone n table c to l Lost
       gives-stuck z = nothing (searched o ∙ ap (fell_on lands c) (gives_none (search_on F v to) (sym z ∙ q)))
 
-      module _ (node links : ℕ) (z : r ≡ Found node links) where
-        is_some : search_on F v to ≡ some (searching node links)
-        is_some = gives-some (search_on F v to) node links (sym z ∙ q)
+      module _ (found : Searched) (z : r ≡ Some found) where
+        is_some : search_on F v to ≡ some found
+        is_some = gives-some (search_on F v to) found (sym z ∙ q)
 
-        pub gives-node : node < n
-        gives-node = (search-ends F v to (searching node links) o is_some).0
+        pub gives-node : found.node < n
+        gives-node = (search-ends F v to found o is_some).0
 
-        fell-here : next_from F lands c to l ≡ fell_at c lands node links
+        fell-here : next_from F lands c to l ≡ fell_at c lands found.node found.links
         fell-here = searched o ∙ ap (fell_on lands c) is_some
 
-        pub gives-high : (d : ℕ) → d ≡ size_cell table node → c ≤ d → NextDone n table c to l Lost
-        gives-high d j k = nothing (fell-here ∙ high (le-ltb (lands node) c (omega arith)))
+        pub gives-high : (d : ℕ) → d ≡ size_cell table found.node → c ≤ d → NextDone n table c to l Lost
+        gives-high d j k = nothing (fell-here ∙ high (le-ltb (lands found.node) c (omega arith)))
           where
-            high : ltb (lands node) c ≡ false → fell_at c lands node links ≡ lost
+            high : ltb (lands found.node) c ≡ false → fell_at c lands found.node found.links ≡ lost
             high w = unfold fell_at in rw w
 
-        pub gives-fell : (d : ℕ) → d ≡ size_cell table node → d < c → depth_cell table v ≤ 65535
-            → NextDone n table c to l (Fell node d links)
+        pub gives-fell : (d : ℕ) → d ≡ size_cell table found.node → d < c → depth_cell table v ≤ 65535
+            → NextDone n table c to l (Fell found.node d found.links)
         unfolding dropping_of fell_at
         gives-fell d j k b =
-            let y : fell_at c lands node links ≡ fell node (lands node) links = rw (lt-ltb (lands node) c (omega arith)) in
+            let y : fell_at c lands found.node found.links ≡ fell found.node (lands found.node) found.links = rw (lt-ltb (lands found.node) c (omega arith)) in
             record {
-              result = ap (λ (x : ℕ). Fell node x links) j ∙ ap dropping_of (sym (fell-here ∙ y));
+              result = ap (λ (x : ℕ). Fell found.node x found.links) j ∙ ap dropping_of (sym (fell-here ∙ y));
               few = λ x y w u.
-                  let a : node ≡ x = cc in
-                  let f : links ≡ w = cc in
-                  let g = search-ends F v to (searching node links) o is_some in
+                  let a : found.node ≡ x = cc in
+                  let f : found.links ≡ w = cc in
+                  let g = search-ends F v to found o is_some in
                   (omega (arith, g.0), omega (arith, g.1));
             }

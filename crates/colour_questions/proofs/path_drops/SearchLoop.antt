@@ -9,24 +9,25 @@ use mathlib.Core.List.{List}
 use mathlib.Core.Option.{Option, none, some}
 use native.Mathlib.Omega.{arith}
 use lib.ListN.{length}
+use Rattle.std.specs.Prelude.{Some, None}
 use Rattle.trees.specs.Climb.{Forest, Move, via_jump, to_parent, target, next_move, and_then, before, climb, climb_end}
 use Rattle.trees.proofs.MoveLaws.{next-inside, next-rises}
 use Rattle.trees.proofs.ClimbLaws.{climb-done, climb-move, climb-stuck}
 use Rattle.tables.specs.declared.node_tables.moves.NextMove.TheVariants.{Jump, Parent, Stuck}
 use Rattle.tables.specs.node_tables.inner.MoveAnswers.{next_move_of}
-use Rattle.colour_questions.specs.declared.path_drops.search.Searched.TheVariants.{Found, NotFound}
-use Rattle.colour_questions.specs.path_drops.inner.Search.{next_node, Searching, searching, search_on, searched_of}
+use Rattle.colour_questions.specs.declared.path_drops.search.Searched.{Searched}
+use Rattle.colour_questions.specs.path_drops.inner.Search.{next_node, searching, search_on, searched_of}
 
 -- k links before
-abbrev pub after : ℕ → Option Searching → Option Searching
+abbrev pub after : ℕ → Option Searched → Option Searched
 after k none = none
 after k (some s) = some (searching s.node (k + s.links))
 
-after-zero : (o : Option Searching) → after 0 o ≡ o
+after-zero : (o : Option Searched) → after 0 o ≡ o
 after-zero none = refl
 after-zero (some s) = let e : 0 + s.links ≡ s.links = omega arith in ap (λ (k : ℕ). some (searching s.node k)) e
 
-after_more : (k : ℕ) (o : Option Searching) → after k (after 1 o) ≡ after (k + 1) o
+after_more : (k : ℕ) (o : Option Searched) → after k (after 1 o) ≡ after (k + 1) o
 after_more k none = refl
 after_more k (some s) =
     let e : k + (1 + s.links) ≡ k + 1 + s.links = omega arith in ap (λ (j : ℕ). some (searching s.node j)) e
@@ -115,11 +116,11 @@ module _ (F : Forest) (from to : ℕ) where
   searches-start h = record { inside = h; few = omega arith; rest = sym (after-zero (search_on F from to)) }
 
   module _ (v links : ℕ) (S : Searches v links) where
-    pub searches-done : F.depth v ≤ to → Found v links ≡ searched_of (search_on F from to)
+    pub searches-done : F.depth v ≤ to → Some (searching v links) ≡ searched_of (search_on F from to)
     unfolding searched_of
     searches-done h =
         let e : links ≡ links + 0 = omega arith in
-        ap (λ (k : ℕ). Found v k) e
+        ap (λ (k : ℕ). Some (searching v k)) e
         ∙ ap searched_of (sym (S.rest ∙ ap (after links) (search-done F v to h)))
 
     module _ (deeper : to < F.depth v) (u : ℕ) (e : u ≡ next_node F (next_move F v to)) where
@@ -139,7 +140,7 @@ module _ (F : Forest) (from to : ℕ) where
                 ∙ after_more links (search_on F u to);
           }
 
-      pub searches-lost : F.nodes ≤ u → NotFound ≡ searched_of (search_on F from to)
+      pub searches-lost : F.nodes ≤ u → None ≡ searched_of (search_on F from to)
       unfolding searched_of
       searches-lost h =
           ap searched_of (sym (S.rest ∙ ap (after links) (search-stuck F v to deeper (stuck F v to u e h))))

@@ -11,6 +11,7 @@ use native.Mathlib.Omega.{arith}
 use lib.Dec.{eqb}
 use lib.ListN.{length, get_or, take, drop, length-take, length-drop}
 use lib.Seq.{get_or-take, get_or-drop}
+use Rattle.std.specs.Prelude.{Option as Given, Some, None}
 use Rattle.list_laws.proofs.SliceLaws.{rest_part}
 use Rattle.trees.specs.Climb.{and_then}
 use Rattle.formats.specs.Plan.{node_count}
@@ -26,13 +27,11 @@ use Rattle.questions.proofs.PlaceLaws.{to_below, to_some, below-entry}
 use Rattle.questions.proofs.RootedLaws.{rooted_none, RootedIs, rooted-some, roots-most, left-most}
 use Rattle.colours.specs.StateSets.{Tried, tried}
 use Rattle.colour_questions.specs.declared.target_states.trials.Trial.{Trial}
-use Rattle.colour_questions.specs.declared.target_states.trials.Trial.TheVariants.{State, NoState}
-use Rattle.colour_questions.specs.target_states.Trials.{Few, FewIn}
+use Rattle.colour_questions.specs.target_states.Trials.{trial, Few, FewIn}
 use Rattle.colour_questions.specs.parts.Part.{ColourView, handled_from}
 use Rattle.colour_questions.specs.parts.inner.Args.{colour_view}
 use Rattle.colour_questions.proofs.parts.TrialLaws.{trial-none, Is, trial-some}
-use Rattle.colour_questions.specs.declared.rule.answers.RuleDescending.{RuleDescending}
-use Rattle.colour_questions.specs.declared.rule.answers.RuleDescending.TheVariants.{Answered, Refused}
+use Rattle.colour_questions.specs.declared.rule.answers.RuleAsked.{RuleAsked}
 use Rattle.colour_questions.specs.rule.Question.{handled, handled_on, left_within, lent_colours, rule_answer}
 use Rattle.colour_questions.specs.rule.inner.Args.{AllArgs, AllDone, RootArgs, LentArgs, lent_as, answered_for, answered_on}
 use Rattle.colour_questions.proofs.rule.AskChecks.{Passed, passed_are}
@@ -126,15 +125,15 @@ module _ (n s k : ℕ) (p r node_table state_table numbers bytes vs bs ms : List
       ∙ ap (λ (l : List ℕ). on (12 + n - 12) (length p - (12 + n)) (20 + k - 20) (20 + k + s * k * s - (20 + k)) l)
       (sym (rest_part bytes (n * (s + 1)))))
 
-  module _ (t : Trial) (D : AllDone given vs bs ms t) where
-    pub roots-lost : t ≡ NoState → Refused 18 ≡ answered_for n s k p r node_table state_table numbers bytes vs bs ms
+  module _ (t : Given Trial) (D : AllDone given vs bs ms t) where
+    pub roots-lost : t ≡ None → (18, none) ≡ answered_for n s k p r node_table state_table numbers bytes vs bs ms
     unfolding rule_answer
     roots-lost f =
         let e : handled_from (lent_as n s k p r node_table state_table numbers bytes) vs bs [] [] (tried 0 []) ms ≡ none =
         sym given_is ∙ trial-none _ (sym f ∙ D.result) in
         ap (λ (o : Option Tried). rule_answer r 0 (and_then o (λ x. some (handled x (length ms))))) (sym e)
 
-    module _ (q d l : ℕ) (f : t ≡ State q d l) where
+    module _ (q d l : ℕ) (f : t ≡ Some (trial q d l)) where
       pub roots_few : Few s (length ms * 60) q d l
       roots_few = subst (FewIn s (length ms * 60)) f (D.bounds A.some_root)
 
@@ -145,7 +144,10 @@ module _ (n s k : ℕ) (p r node_table state_table numbers bytes vs bs ms : List
           ∙ get_or-take s (drop (20 + k + s * k * s) r) q 0 roots_few.state
           ∙ get_or-drop (20 + k + s * k * s) r q 0))
 
-      pub roots-answer : Answered q (eqb (get_or r (20 + k + s * k * s + q) 0) 1) d l (length ms)
+      abbrev answered-as : ℕ → Bool → ℕ → ℕ → ℕ × Option RuleAsked
+      answered-as q b d l = (0, some (record { state = q; marked = b; drops = d; links = l; parts = length ms }))
+
+      pub roots-answer : answered-as q (eqb (get_or r (20 + k + s * k * s + q) 0) 1) d l
           ≡ answered_for n s k p r node_table state_table numbers bytes vs bs ms
       unfolding rule_answer
       roots-answer =
@@ -153,9 +155,9 @@ module _ (n s k : ℕ) (p r node_table state_table numbers bytes vs bs ms : List
           let e : handled_from (lent_as n s k p r node_table state_table numbers bytes) vs bs [] [] (tried 0 []) ms
           ≡ some I.found =
           sym given_is ∙ I.is in
-          ap (λ (b : Bool). Answered q b d l (length ms)) marked
-          ∙ ap (λ (x : ℕ). Answered x ((rule_automaton r).accepting x) d l (length ms)) I.state
-          ∙ ap₂ (λ (d l : ℕ). Answered I.found.state ((rule_automaton r).accepting I.found.state) d l (length ms))
+          ap (λ (b : Bool). answered-as q b d l) marked
+          ∙ ap (λ (x : ℕ). answered-as x ((rule_automaton r).accepting x) d l) I.state
+          ∙ ap₂ (λ (d l : ℕ). answered-as I.found.state ((rule_automaton r).accepting I.found.state) d l)
           I.number I.total
           ∙ ap (λ (o : Option Tried). rule_answer r 0 (and_then o (λ x. some (handled x (length ms))))) (sym e)
 
@@ -180,7 +182,7 @@ module _ (p r node_table state_table numbers bytes vs bs : List ℕ) (A : LentAr
       sym (ap₂ (λ (i : ℕ) (l : List ℕ). roots_given i (take (node_table_length i) node_table) l) n_is left_is) ∙ e
 
   module _ (q : Rooted) (R : RootsDone n (take (n * 4) node_table) (given_differing (take n (drop 12 p)) vs bs) q) where
-    pub lent-lost : q.ok ≡ false → Refused 18 ≡ answered_on p r node_table state_table numbers bytes vs bs
+    pub lent-lost : q.ok ≡ false → (18, none) ≡ answered_on p r node_table state_table numbers bytes vs bs
     unfolding rule_answer handled_on
     lent-lost f = rw (roots-are none (rooted_none q _ R.result f))
 
@@ -228,7 +230,7 @@ module _ (p r node_table state_table numbers bytes vs bs : List ℕ) (A : LentAr
             many_list = P.few-list;
           })
 
-      pub lent-answer : (a : RuleDescending)
+      pub lent-answer : (a : ℕ × Option RuleAsked)
           → a ≡ answered_for n s k p r node_table state_table numbers bytes vs bs (take q.count q.nodes)
           → a ≡ answered_on p r node_table state_table numbers bytes vs bs
       unfolding handled_on

@@ -7,6 +7,7 @@ use mathlib.Core.Path.{◌≡◌, refl, ap₂, ◌∙◌, subst}
 use mathlib.Core.Bool.{Bool, true}
 use mathlib.Core.List.Memᴰ
 use mathlib.Core.List.{List, []}
+use mathlib.Core.Option.{some}
 use native.Mathlib.Omega.{arith}
 use lib.ListN.{length}
 use Rattle.list_laws.specs.Tests.{holds}
@@ -15,7 +16,11 @@ use Rattle.trees.specs.Tree.{Tree, size, height}
 use Rattle.trees.specs.Climb.{digits}
 use Rattle.formats.specs.Plan.{node_count, plan_tree, labels_within}
 use Rattle.formats.specs.Rules.{state_count, label_count}
+use Rattle.std.specs.Prelude.{Result}
 use Rattle.formats.specs.Checks.{first_no, list_checks, state_table_length}
+use Rattle.formats.specs.Refusals.{told}
+use Rattle.formats.specs.declared.refusals.Refusal.{Refusal}
+use Rattle.formats.proofs.RefusalLaws.{told-value}
 use Rattle.formats.specs.Inputs.{Inputs, inputs_of, Sizes, sizes_in, used_state_table, state_table_built}
 use Rattle.formats.specs.Passing.{Built, PlanPasses}
 use Rattle.formats.proofs.PlanLaws.{size-plan_tree}
@@ -35,6 +40,7 @@ use Rattle.colours.proofs.Theorems.{links-limit}
 use Rattle.colour_questions.specs.parts.OneSided.{one_sided}
 use Rattle.colour_questions.specs.parts.Searches.{question_searches}
 use Rattle.colour_questions.specs.parts.Trials.{tried_parts, trials_from}
+use Rattle.colour_questions.specs.declared.rule.answers.RuleAsked.{RuleAsked}
 use Rattle.colour_questions.specs.rule.Question.{asked_checks, rule_ask_answer, answered_with}
 use Rattle.colour_questions.specs.rule.Promise.{RuleColoursBuilt, RuleColoursUsable, roots_left, searches_left, RuleColourAnswer}
 use Rattle.tables.proofs.CheckAnswers.{begins-room}
@@ -101,14 +107,15 @@ module _ (p r node_table state_table numbers bytes vs bs : List ℕ)
         (λ y k. absurd (Memᴰ.not-nil k)) refl in
         record { searches = N.searches; state = N.last ∙ whole-state z x vs bs built table-built }
 
-    pub ask-built : RuleColourAnswer p r vs bs (rule_ask_answer p r node_table state_table numbers bytes vs bs)
-    ask-built =
+    pub ask-built : (answer : Result RuleAsked Refusal)
+        → told answer ≡ rule_ask_answer p r node_table state_table numbers bytes vs bs → RuleColourAnswer p r vs bs answer
+    ask-built answer e =
         let U = built-usable in
         let R : FromRun = from-run in
         let small : size t ≤ 65535 = omega (arith, size-plan_tree p plan-passes, plan-passes.most) in
         record {
-          is = usable.ask-usable p r node_table state_table numbers bytes vs bs U ok
-              ∙ ap₂ (λ (q : ℕ) (ls : List ℕ). answered_with r q ls (length ms)) R.state R.searches;
+          is = told-value answer 0 _ (e ∙ usable.ask-usable p r node_table state_table numbers bytes vs bs U ok
+              ∙ ap₂ (λ (q : ℕ) (ls : List ℕ). (0, some (answered_with r q ls (length ms)))) R.state R.searches) refl;
           falls = subst (λ (ls : List ℕ). length ls ≤ 60 * one_sided t ms ms) R.searches
               (usable.ask-falls p r node_table state_table numbers bytes vs bs U ok);
           few = links-limit t (searches_left p r vs bs) small (subst (AllLe (3 * digits (height t))) R.searches

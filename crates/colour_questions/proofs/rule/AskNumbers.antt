@@ -1,7 +1,8 @@
 -- The number of a rule question by colours, and the answer by it.
 --     number-asked, number-last   the number of the first check that fails: before 18, and 18
 --     refused-is, lent_is         so the code's answers are the named ones
---     on-number                   the number of the named answer
+--     told-asked, on-number       the number of the named answer
+--     refused-few                 a refusal has no links
 use Prim.Native.Nat.{ℕ, zero, suc}
 use mathlib.Core.Path.{◌≡◌, refl, sym, ap, ◌∙◌}
 use mathlib.Core.Bool.{cond}
@@ -11,15 +12,29 @@ use native.Mathlib.Omega.{arith}
 use lib.ListN.{length}
 use Rattle.formats.specs.Plan.{node_count}
 use Rattle.formats.specs.Rules.{label_count}
+use Rattle.std.specs.Prelude.{Result, Ok, Err, IsErrAnd}
 use Rattle.formats.specs.Checks.{Check, check, first_no}
+use Rattle.formats.specs.Refusals.{refusal_number, answer_number, told}
+use Rattle.formats.specs.declared.refusals.Refusal.{Refusal}
 use Rattle.formats.proofs.CheckLaws.{first_no-append-zero, first_no-append-no, Numbered}
 use Rattle.formats.proofs.InputLaws.{list-numbered}
+use Rattle.formats.proofs.RefusalLaws.{number-not-0}
 use Rattle.branches.specs.Question.{is_some}
-use Rattle.colour_questions.specs.declared.rule.answers.RuleDescending.{RuleDescending}
-use Rattle.colour_questions.specs.declared.rule.answers.RuleDescending.TheVariants.{Refused}
+use Rattle.colour_questions.specs.declared.rule.answers.RuleAsked.{RuleAsked}
 use Rattle.colour_questions.specs.rule.Question.{Handled, asked_on, asked_checks, rule_ask_checks, rule_ask_number, rule_answer}
-use Rattle.colour_questions.specs.rule.Question.{rule_ask_answer, rule_descending_number}
+use Rattle.colour_questions.specs.rule.Question.{rule_ask_answer}
+use Rattle.colour_questions.specs.rule.Promise.{links_kept}
 use Rattle.colour_questions.specs.rule.inner.Args.{answered_on}
+
+-- an answer tells its number
+pub told-asked : (a : Result RuleAsked Refusal) → answer_number a ≡ (told a).0
+told-asked (Ok x) = refl
+told-asked (Err e) = refl
+
+-- what `?` hands on has no links
+pub refused-few : (x : Refusal) (a : Result RuleAsked Refusal) → IsErrAnd a (λ e. e ≡ x) → links_kept a
+refused-few x (Ok y) h = absurd h
+refused-few x (Err e) h = tt
 
 module _ (p r node_table state_table numbers bytes vs bs : List ℕ) where
   abbrev asked : List Check
@@ -48,17 +63,22 @@ module _ (p r node_table state_table numbers bytes vs bs : List ℕ) where
       one : first_no last ≡ cond (is_some on) 0 18
       one = unfold first_no in refl
 
-  pub refused-is : (m : ℕ) → m ≡ first_no asked → (m ≡ 0 → ⊥)
-      → Refused m ≡ rule_ask_answer p r node_table state_table numbers bytes vs bs
-  unfolding rule_ask_answer rule_answer
-  refused-is m e h =
-      go m h ∙ ap (λ (n : ℕ). rule_answer r n on) (sym (number-asked (λ z. h (e ∙ z)) ∙ sym e))
-    where
-      go : (n : ℕ) → (n ≡ 0 → ⊥) → Refused n ≡ rule_answer r n on
-      go zero f = absurd (f refl)
-      go (suc n) f = refl
+  no-answer : (n : ℕ) → (n ≡ 0 → ⊥) → ◌≡◌ {A = ℕ × Option RuleAsked} (n, none) (rule_answer r n on)
+  unfolding rule_answer
+  no-answer zero f = absurd (f refl)
+  no-answer (suc n) f = refl
 
-  pub lent_is : (a : RuleDescending) → first_no asked ≡ 0 → a ≡ answered_on p r node_table state_table numbers bytes vs bs
+  -- a is what `?` hands on of the checks' refusal x
+  pub refused-is : (x : Refusal) (a : Result RuleAsked Refusal) → IsErrAnd a (λ e. e ≡ x) → refusal_number x ≡ first_no asked
+      → told a ≡ rule_ask_answer p r node_table state_table numbers bytes vs bs
+  unfolding rule_ask_answer
+  refused-is x (Ok y) h e = absurd h
+  refused-is x (Err y) h e =
+      let i : refusal_number y ≡ first_no asked = ap refusal_number h ∙ e in
+      no-answer (refusal_number y) (number-not-0 y)
+      ∙ ap (λ (n : ℕ). rule_answer r n on) (i ∙ sym (number-asked (λ z. number-not-0 y (i ∙ z))))
+
+  pub lent_is : (a : ℕ × Option RuleAsked) → first_no asked ≡ 0 → a ≡ answered_on p r node_table state_table numbers bytes vs bs
       → a ≡ rule_ask_answer p r node_table state_table numbers bytes vs bs
   unfolding rule_ask_answer rule_answer
   lent_is a z e = e ∙ sym (ap (λ (n : ℕ). rule_answer r n on) (number-last z) ∙ go on)
@@ -68,13 +88,13 @@ module _ (p r node_table state_table numbers bytes vs bs : List ℕ) where
       go (some h) = refl
 
   -- the number of the named answer is the first check's that fails
-  pub on-number : rule_descending_number (rule_ask_answer p r node_table state_table numbers bytes vs bs)
+  pub on-number : (rule_ask_answer p r node_table state_table numbers bytes vs bs).0
       ≡ rule_ask_number p r node_table state_table numbers bytes vs bs
-  unfolding rule_ask_answer rule_answer rule_descending_number
+  unfolding rule_ask_answer rule_answer
   on-number = go (first_no asked) refl
     where
       named : (n : ℕ) (o : Option Handled) → (n ≡ 0 → (x : Handled) × (o ≡ some x))
-          → rule_descending_number (rule_answer r n o) ≡ n
+          → (rule_answer r n o).0 ≡ n
       named zero none f = absurd (let y = (f refl).1 in let w : ◌≡◌ {A = ℕ} 0 1 = cc in omega arith)
       named zero (some h) f = refl
       named (suc n) none f = refl
@@ -85,7 +105,7 @@ module _ (p r node_table state_table numbers bytes vs bs : List ℕ) where
       found (some h) e = (h, refl)
 
       go : (n : ℕ) → first_no asked ≡ n
-          → rule_descending_number (rule_answer r (rule_ask_number p r node_table state_table numbers bytes vs bs) on)
+          → (rule_answer r (rule_ask_number p r node_table state_table numbers bytes vs bs) on).0
           ≡ rule_ask_number p r node_table state_table numbers bytes vs bs
       go zero z = named _ on (λ e. found on (sym (number-last z) ∙ e))
       go (suc n) z =

@@ -1,6 +1,6 @@
 -- The promise of a rule question by colours.
 --     ask-kept   an answer's state is below S
---     ask-done   the whole promise, for any answer equal to ruleAskAnswer's
+--     ask-done   the whole promise, for any answer that tells what rule_ask_answer says
 use Prim.Native.Nat.{ℕ, zero, suc, ◌<◌}
 use mathlib.Core.Path.{◌≡◌, refl, sym, ap, ◌∙◌, subst}
 use mathlib.Core.List.{List, []}
@@ -9,17 +9,21 @@ use native.Mathlib.Omega.{arith}
 use lib.ListN.{length}
 use Rattle.trees.specs.Climb.{and_then}
 use Rattle.trees.proofs.MoveLaws.{none-some}
+use Rattle.std.specs.Prelude.{Result, Ok, Err}
+use Rattle.formats.specs.Refusals.{answer_number, told}
+use Rattle.formats.specs.declared.refusals.Refusal.{Refusal}
+use Rattle.formats.proofs.RefusalLaws.{told-value}
 use Rattle.questions.specs.RootsAnswers.{roots_given}
 use Rattle.questions.proofs.FitLaws.{given-are}
 use Rattle.questions.proofs.PlaceLaws.{to_some}
 use Rattle.colours.specs.StateSets.{Tried, tried}
 use Rattle.colour_questions.specs.parts.Part.{ColourView, handled_from}
-use Rattle.colour_questions.specs.declared.rule.answers.RuleDescending.{RuleDescending}
+use Rattle.colour_questions.specs.declared.rule.answers.RuleAsked.{RuleAsked}
 use Rattle.colour_questions.specs.rule.Question.{Handled, handled, handled_on, asked_on, left_within, lent_colours, rule_ask_number}
-use Rattle.colour_questions.specs.rule.Question.{rule_answer, rule_ask_answer, rule_descending_number}
-use Rattle.colour_questions.specs.rule.Promise.{RuleColourAnswer, state_kept, links_kept, RuleAskDone}
+use Rattle.colour_questions.specs.rule.Question.{answered_with, rule_answer, rule_ask_answer}
+use Rattle.colour_questions.specs.rule.Promise.{state_kept, links_kept, RuleAskDone}
 use Rattle.colour_questions.proofs.rule.StateLaws.{handled-state}
-use Rattle.colour_questions.proofs.rule.AskNumbers.{on-number}
+use Rattle.colour_questions.proofs.rule.AskNumbers.{told-asked, on-number}
 use Rattle.colour_questions.proofs.rule.AskRange.{ask-range}
 use Rattle.colour_questions.proofs.rule.AskUsable.{ask-usable}
 use Rattle.colour_questions.proofs.rule.AskBuilt.{ask-built}
@@ -50,29 +54,33 @@ module _ (p r node_table state_table numbers bytes vs bs : List ℕ) where
   abbrev on : Option Handled
   on = asked_on p r node_table state_table numbers bytes vs bs
 
-  ask-kept : state_kept r (rule_ask_answer p r node_table state_table numbers bytes vs bs)
+  ask-kept : (a : Result RuleAsked Refusal) → told a ≡ rule_ask_answer p r node_table state_table numbers bytes vs bs
+      → state_kept r a
   unfolding rule_ask_answer rule_answer
-  ask-kept = go (rule_ask_number p r node_table state_table numbers bytes vs bs) on refl
+  ask-kept (Err e) h = tt
+  ask-kept (Ok y) h = go (rule_ask_number p r node_table state_table numbers bytes vs bs) on refl h
     where
       go : (n : ℕ) (o : Option Handled) → asked_on p r node_table state_table numbers bytes vs bs ≡ o
-          → state_kept r (rule_answer r n o)
-      go zero none e = tt
-      go zero (some h) e = (
-        on-kept (lent_colours p r node_table state_table numbers bytes) (left_within p vs bs) vs bs h e,
-        refl,
-      )
-      go (suc n) o e = tt
+          → ◌≡◌ {A = ℕ × Option RuleAsked} (0, some y) (rule_answer r n o) → state_kept r (Ok y)
+      go zero none e i = absurd (let z : ◌≡◌ {A = ℕ} 0 18 = ap (λ t. t.0) i in omega arith)
+      go zero (some h) e i =
+          subst (λ (x : RuleAsked). state_kept r (Ok x))
+          (some-injective (answered_with r h.result.state h.result.searches h.parts) y (sym (ap (λ t. t.1) i)))
+          (on-kept (lent_colours p r node_table state_table numbers bytes) (left_within p vs bs) vs bs h e, refl)
+      go (suc n) o e i = absurd (let z : ◌≡◌ {A = ℕ} 0 (suc n) = ap (λ t. t.0) i in omega arith)
 
-  pub ask-done : (answer : RuleDescending) → answer ≡ rule_ask_answer p r node_table state_table numbers bytes vs bs
+  pub ask-done : (answer : Result RuleAsked Refusal)
+      → told answer ≡ rule_ask_answer p r node_table state_table numbers bytes vs bs
       → links_kept answer → RuleAskDone p r node_table state_table numbers bytes vs bs answer
-  ask-done answer e few = record {
-    result = e;
-    number = ap rule_descending_number e ∙ on-number p r node_table state_table numbers bytes vs bs;
-    properties = subst (state_kept r) (sym e) ask-kept;
-    few = few;
-    out_of_range = λ i. ask-range p r node_table state_table numbers bytes vs bs
-        (sym (ap rule_descending_number e ∙ on-number p r node_table state_table numbers bytes vs bs) ∙ i);
-    usable = λ U ok. e ∙ ask-usable p r node_table state_table numbers bytes vs bs U ok;
-    built = λ D ok. subst (RuleColourAnswer p r vs bs) (sym e)
-        (ask-built p r node_table state_table numbers bytes vs bs D ok);
-  }
+  ask-done answer e few =
+      let n : answer_number answer ≡ rule_ask_number p r node_table state_table numbers bytes vs bs =
+      told-asked answer ∙ ap (λ t. t.0) e ∙ on-number p r node_table state_table numbers bytes vs bs in
+      record {
+        result = e;
+        number = n;
+        properties = ask-kept answer e;
+        few = few;
+        out_of_range = λ i. ask-range p r node_table state_table numbers bytes vs bs (sym n ∙ i);
+        usable = λ U ok. told-value answer 0 _ (e ∙ ask-usable p r node_table state_table numbers bytes vs bs U ok) refl;
+        built = λ D ok. ask-built p r node_table state_table numbers bytes vs bs D ok answer e;
+      }

@@ -186,8 +186,11 @@ module _ (p r node_table state_table numbers bytes vs bs : List ℕ)
         ∙ ap (λ (o : Option Tried). and_then o (λ y. some (handled y (length (roots_left p vs bs))))) whole.found
 
     pub ask-usable : rule_ask_answer p r node_table state_table numbers bytes vs bs
-        ≡ answered_with r (last_state (tried_parts G (roots_left p vs bs) [] (roots_left p vs bs)) 0)
-        (trials_from G (roots_left p vs bs) [] (roots_left p vs bs)) (length (roots_left p vs bs))
+        ≡ (
+          0,
+          some (answered_with r (last_state (tried_parts G (roots_left p vs bs) [] (roots_left p vs bs)) 0)
+              (trials_from G (roots_left p vs bs) [] (roots_left p vs bs)) (length (roots_left p vs bs))),
+        )
     unfolding rule_answer
     ask-usable =
         sym (lent_is p r node_table state_table numbers bytes vs bs _ asked-built refl) ∙ ap (rule_answer r 0) on-usable

@@ -8,12 +8,12 @@ use native.Mathlib.Omega.{arith}
 use native.Mathlib.Numerals.{add-one}
 use lib.ListN.{length, get_or, take, drop, set, replicate, drop_of_length-le, length-append, length-set}
 use lib.Seq.{length-take-le, take-suc, take-suc-set, drop-cons}
+use Rattle.std.specs.Prelude.{Option as Given, Some, None}
 use Rattle.trees.specs.Climb.{and_then}
 use Rattle.colours.specs.Descents.{sum}
 use Rattle.colours.specs.StateSets.{Tried, tried}
 use Rattle.colour_questions.specs.declared.target_states.trials.Trial.{Trial}
-use Rattle.colour_questions.specs.declared.target_states.trials.Trial.TheVariants.{State, NoState}
-use Rattle.colour_questions.specs.target_states.Trials.{trial_of, Few, FewIn}
+use Rattle.colour_questions.specs.target_states.Trials.{trial, trial_of, Few, FewIn}
 use Rattle.colour_questions.proofs.target_states.TrialLoop.{sum-append}
 use Rattle.colour_questions.specs.parts.Part.{ColourView, part_tried, handled_from}
 use Rattle.colour_questions.specs.parts.inner.Args.{colour_view, PartArgs, PartDone}
@@ -57,14 +57,14 @@ module _ (n s k m : ℕ) (ls ks lv inn node_table state_table numbers copies vs 
 
   module _ (states : List ℕ) (last drops links i : ℕ) (G : Going states last drops links i) where
     pub going_done : length ms ≤ i
-        → AllDone (colour_view n s k ls ks lv inn node_table state_table numbers copies) vs bs ms (State last drops links)
+        → AllDone (colour_view n s k ls ks lv inn node_table state_table numbers copies) vs bs ms (Some (trial last drops links))
     unfolding handled_from trial_of
     going_done h =
         let e : drop i ms ≡ [] = drop_of_length-le ms {i = i} h in
         record {
           result = sym (ap trial_of (G.rest
               ∙ ap (handled_from L vs bs (take i ms) (take i states) (tried last G.searches)) e)
-              ∙ ap₂ (λ (a b : ℕ). State last a b) G.number G.total);
+              ∙ ap₂ (λ (a b : ℕ). Some (trial last a b)) G.number G.total);
           bounds = λ z. record {
             state = G.low (omega arith);
             falls = omega (arith, G.falls, G.upto);
@@ -95,7 +95,7 @@ module _ (n s k m : ℕ) (ls ks lv inn node_table state_table numbers copies vs 
       remaining : drop i ms ≡ v ∷ drop (i + 1) ms
       remaining = drop-cons ms i 0 h ∙ ap (λ (x : ℕ). v ∷ drop x ms) (sym (add-one i))
 
-      module _ (t : Trial)
+      module _ (t : Given Trial)
           (D : PartDone s (part_tried (colour_view n s k ls ks lv inn node_table state_table numbers copies) (take i ms)
           (take i states) vs bs (get_or ms i 0)) t) where
         turn : (o : Option Tried) → part_tried L (take i ms) (take i states) vs bs v ≡ o
@@ -111,15 +111,15 @@ module _ (n s k m : ℕ) (ls ks lv inn node_table state_table numbers copies vs 
             handled_from L vs bs (take i ms ++ (v ∷ [])) (take i states ++ (p.state ∷ []))
             (tried p.state (G.searches ++ p.searches)) (drop (i + 1) ms))) e
 
-        pub going-lost : t ≡ NoState
-            → AllDone (colour_view n s k ls ks lv inn node_table state_table numbers copies) vs bs ms NoState
+        pub going-lost : t ≡ None
+            → AllDone (colour_view n s k ls ks lv inn node_table state_table numbers copies) vs bs ms None
         unfolding trial_of
         going-lost f = record {
           result = ap trial_of (sym (turn none (trial-none _ (sym f ∙ D.result))));
           bounds = λ _. tt;
         }
 
-        module _ (q d l : ℕ) (f : t ≡ State q d l) where
+        module _ (q d l : ℕ) (f : t ≡ Some (trial q d l)) where
           I : Is (part_tried L (take i ms) (take i states) vs bs v) q d l
           I = trial-some _ q d l (sym f ∙ D.result)
 

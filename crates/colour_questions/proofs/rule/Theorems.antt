@@ -10,30 +10,30 @@ use native.Mathlib.Decide.{ℕ_discrete}
 use lib.ListN.{length}
 use Rattle.formats.specs.Plan.{node_count}
 use Rattle.formats.specs.Rules.{label_count}
+use Rattle.std.specs.Prelude.{Result, Ok, Err}
 use Rattle.formats.specs.Checks.{first_no, list_checks}
+use Rattle.formats.specs.Refusals.{answer_number}
+use Rattle.formats.specs.declared.refusals.Refusal.{Refusal}
 use Rattle.runs.specs.FreshRun.{root_state}
-use Rattle.colour_questions.specs.declared.rule.answers.RuleDescending.{RuleDescending}
-use Rattle.colour_questions.specs.declared.rule.answers.RuleDescending.TheVariants.{Answered, Refused}
-use Rattle.colour_questions.specs.rule.Question.{rule_descending_number}
+use Rattle.colour_questions.specs.declared.rule.answers.RuleAsked.{RuleAsked}
 use Rattle.colour_questions.specs.rule.Promise.{RuleColoursBuilt, roots_left, RuleAskDone}
 use Rattle.colour_questions.proofs.rule.AskNumbers.{number-asked}
 use Rattle.colour_questions.proofs.rule.AskBuilt.{asked-list}
 
-abbrev pub state_told : RuleDescending → ℕ
-state_told (Answered state marked drops links parts) = state
-state_told (Refused n) = 0
+abbrev pub state_told : Result RuleAsked Refusal → ℕ
+state_told (Ok a) = a.state
+state_told (Err e) = 0
 
-abbrev pub parts_told : RuleDescending → ℕ
-parts_told (Answered state marked drops links parts) = parts
-parts_told (Refused n) = 0
+abbrev pub parts_told : Result RuleAsked Refusal → ℕ
+parts_told (Ok a) = a.parts
+parts_told (Err e) = 0
 
-module _ (p r node_table state_table numbers bytes vs bs : List ℕ) (a : RuleDescending)
+module _ (p r node_table state_table numbers bytes vs bs : List ℕ) (a : Result RuleAsked Refusal)
     (D : RuleAskDone p r node_table state_table numbers bytes vs bs a)
     (B : RuleColoursBuilt p r node_table state_table numbers bytes) where
-  pub ask-number : rule_descending_number a ≡ first_no (list_checks (node_count p) (label_count r) vs bs)
-  unfolding rule_descending_number
+  pub ask-number : answer_number a ≡ first_no (list_checks (node_count p) (label_count r) vs bs)
   ask-number = elim (ℕ_discrete (first_no (list_checks (node_count p) (label_count r) vs bs)) 0) [
-    | yes ok ↦ ap rule_descending_number (D.built B ok).is ∙ sym ok
+    | yes ok ↦ ap answer_number (D.built B ok).is ∙ sym ok
     | no h ↦ (let e = asked-list p r node_table state_table numbers bytes vs bs B in
         D.number ∙ number-asked p r node_table state_table numbers bytes vs bs (λ z. h (e ∙ z)) ∙ sym e)
   ]

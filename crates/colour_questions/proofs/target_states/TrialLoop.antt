@@ -1,7 +1,7 @@
 -- The trials of target states, one by one.
 --     test-uncoloured, test-lost, test-end   one trial, by what its look-up and its descent give
 --     Trying                                 the loop's state: the searches so far, and the same answer from here
---     trying-lost, -found, -on, -end         by what comes of each trial
+--     trying_start, -lost, -found, -on, -end before the first trial, and by what comes of each
 use Prim.Native.Nat.{ℕ, zero, suc, ◌+◌, ◌-◌, ◌*◌, ◌^◌, ◌≤◌, ◌<◌}
 use mathlib.Core.Path.{◌≡◌, refl, sym, ap, ap₂, ◌∙◌, subst}
 use mathlib.Core.Bool.{Bool, true, false, cond}
@@ -10,26 +10,24 @@ use mathlib.Core.Option.{Option, none, some}
 use native.Mathlib.Omega.{arith}
 use native.Mathlib.Numerals.{add-one}
 use lib.Dec.{eqb}
+use Rattle.std.specs.Prelude.{Option as Given, Some, None}
 use lib.ListN.{length, get_or, take, drop, length-append}
 use lib.Seq.{get_or-take, get_or-drop}
 use Rattle.list_laws.proofs.RowLaws.{stride}
 use Rattle.list_laws.proofs.SliceLaws.{run-part, length_part}
 use Rattle.colours.specs.marks.Marks.{bit}
 use Rattle.colours.specs.Colouring.{place_of}
-use Rattle.colours.specs.Descents.{ColourTable, Descent, drops, links, sum, descend}
+use Rattle.colours.specs.Descents.{ColourTable, Descent, sum, descend}
 use Rattle.colours.specs.StateSets.{member, Tried, tried, target_colour, set_at, after_trial, try_one, try_from}
 use Rattle.colours.proofs.DescentLaws.{sum-le}
 use Rattle.colours.proofs.SetLaws.{try-uncoloured, try-lost, try-found, try-on}
 use Rattle.colour_tables.specs.ColourCells.{copy_row, cell_table}
 use Rattle.colour_tables.proofs.RangeLaws.{descend-low}
 use Rattle.colour_questions.specs.declared.path_drops.descend.Descended.{Descended}
-use Rattle.colour_questions.specs.declared.path_drops.descend.Descended.TheVariants.{Reached, NotReached}
 use Rattle.colour_questions.specs.path_drops.Descended.{descended_of}
 use Rattle.colour_questions.proofs.path_drops.DescendedLaws.{descended-none, descended-some}
-use Rattle.colour_questions.specs.declared.target_states.trials.Trial.TheVariants.{State, NoState}
 use Rattle.colour_questions.specs.declared.target_states.trials.Tested.{Tested}
-use Rattle.colour_questions.specs.declared.target_states.trials.Tested.TheVariants.{Ended, NotEnded}
-use Rattle.colour_questions.specs.target_states.Trials.{trial_of, TargetArgs, Outcome, TestDone, TargetsDone}
+use Rattle.colour_questions.specs.target_states.Trials.{trial, trial_of, TargetArgs, Outcome, TestDone, TargetsDone}
 use Rattle.colour_questions.proofs.target_states.DescentBounds.{Short, descend-few}
 
 -- what holds of every number holds of a part's
@@ -64,11 +62,11 @@ module _ (n m : ℕ) (numbers copies : List ℕ) (c w q x : ℕ) (A : TargetArgs
     colour-is : k ≡ target_colour (copy_row m copies) c x
     colour-is = place ∙ ap₂ place_of single (run-part copies (c * m) m)
 
-    pub test-uncoloured : m ≤ k → TestDone (cell_table n numbers) (copy_row m copies) c w q x NotEnded
+    pub test-uncoloured : m ≤ k → TestDone (cell_table n numbers) (copy_row m copies) c w q x None
     test-uncoloured h later =
         try-uncoloured T rows c w q x later (omega (arith, colour-is, row-long c A.all.upper))
 
-    module _ (h : k < m) (d : Descended) (D : d ≡ descended_of (descend (cell_table n numbers) k (some c) w k)) where
+    module _ (h : k < m) (d : Given Descended) (D : d ≡ descended_of (descend (cell_table n numbers) k (some c) w k)) where
       low : target_colour (copy_row m copies) c x < length (copy_row m copies c)
       low = omega (arith, colour-is, row-long c A.all.upper)
 
@@ -77,30 +75,30 @@ module _ (n m : ℕ) (numbers copies : List ℕ) (c w q x : ℕ) (A : TargetArgs
           copies) c x) ≡ o
       way-is o e = subst (λ (y : ℕ). descend T y (some c) w y ≡ o) colour-is e
 
-      pub test-lost : d ≡ NotReached → TestDone (cell_table n numbers) (copy_row m copies) c w q x NotEnded
+      pub test-lost : d ≡ None → TestDone (cell_table n numbers) (copy_row m copies) c w q x None
       test-lost f later =
           try-lost T rows c w q x later low (way-is none (descended-none (descend T k (some c) w k) (sym f ∙ D)))
 
-      pub end_low : (colour drops links : ℕ) → d ≡ Reached colour drops links → colour < m
-      end_low colour drops links f =
-          let y = descended-some (descend T k (some c) w k) colour drops links (sym f ∙ D) in
+      pub end_low : (e : Descended) → d ≡ Some e → e.colour < m
+      end_low e f =
+          let y = descended-some (descend T k (some c) w k) e (sym f ∙ D) in
           omega (arith, y.2, descend-low T w k (some c) k y.0 y.1)
 
-      module _ (colour drops links : ℕ) (f : d ≡ Reached colour drops links)
+      module _ (end : Descended) (f : d ≡ Some end)
           (wide : (i : ℕ) → get_or numbers i 0 ≤ 65535) (b : ℕ)
-          (member_is : b ≡ bit (member (get_or copies (w * m + colour) 0) q)) where
+          (member_is : b ≡ bit (member (get_or copies (w * m + end.colour) 0) q)) where
         deep : (e v : ℕ) → ((cell_table n numbers).forest e).depth v ≤ 65535
         deep e v =
             taken-most (drop (e * (n * 4)) numbers) (n * 4) (v * 4 + 2) 65535
             (λ i. subst (λ (y : ℕ). y ≤ 65535) (sym (get_or-drop (e * (n * 4)) numbers i 0)) (wide (e * (n * 4) + i)))
 
-        pub test-end : TestDone (cell_table n numbers) (copy_row m copies) c w q x (Ended (eqb b 1) drops links)
+        pub test-end : TestDone (cell_table n numbers) (copy_row m copies) c w q x (Some (record { holds = eqb b 1; drops = end.drops; links = end.links }))
         test-end =
-            let y = descended-some (descend T k (some c) w k) colour drops links (sym f ∙ D) in
+            let y = descended-some (descend T k (some c) w k) end (sym f ∙ D) in
             let S : Short 65535 k y.0 = descend-few T 65535 w deep k (some c) k y.0 y.1 in
             let g = way-is (some y.0) y.1 in
-            let set : get_or copies (w * m + colour) 0 ≡ set_at (copy_row m copies) w y.0 =
-            set_is colour y.0.colour y.2 (omega (arith, end_low colour drops links f)) in
+            let set : get_or copies (w * m + end.colour) 0 ≡ set_at (copy_row m copies) w y.0 =
+            set_is end.colour y.0.colour y.2 (omega (arith, end_low end f)) in
             let t : eqb b 1 ≡ member (set_at (copy_row m copies) w y.0) q =
             ap (λ (z : ℕ). eqb z 1) (member_is ∙ ap (λ (z : ℕ). bit (member z q)) set) ∙ is_one _ in
             record {
@@ -128,6 +126,10 @@ module _ (n m : ℕ) (numbers copies : List ℕ) (c w q x : ℕ) (A : TargetArgs
 
 -- ---- all trials
 
+none_before : (o : Option Tried) → o ≡ after_trial [] o
+none_before none = refl
+none_before (some r) = refl
+
 one_more : (ls ks : List ℕ) (o : Option Tried) → after_trial ls (after_trial ks o) ≡ after_trial (ls ++ ks) o
 one_more ls ks none = refl
 one_more ls ks (some r) = ap (λ (l : List ℕ). some (tried r.state l)) (sym (append_assoc ls ks r.searches))
@@ -146,18 +148,30 @@ module _ (s : ℕ) (T : ColourTable) (rows : ℕ → List ℕ) (c w q : ℕ) whe
     pub few : links ≤ drops * 65535
     pub rest : try_from T rows c w q s 0 ≡ after_trial searches (try_from T rows c w q (s - x) x)
 
-  nothing : try_from T rows c w q s 0 ≡ none → TargetsDone s T rows c w q NoState
+  pub trying_start : Trying 0 0 0
+  trying_start = record {
+    searches = [];
+    number = refl;
+    total = refl;
+    upto = omega arith;
+    falls = omega arith;
+    few = omega arith;
+    rest = none_before (try_from T rows c w q s 0)
+        ∙ ap (λ (f : ℕ). after_trial [] (try_from T rows c w q f 0)) (let e : s ≡ s - 0 = omega arith in e);
+  }
+
+  nothing : try_from T rows c w q s 0 ≡ none → TargetsDone s T rows c w q None
   unfolding trial_of
   nothing e = record { result = ap trial_of (sym e); bounds = tt }
 
   module _ (drops links x : ℕ) (G : Trying drops links x) where
-    pub trying-end : s ≤ x → TargetsDone s T rows c w q NoState
+    pub trying-end : s ≤ x → TargetsDone s T rows c w q None
     unfolding try_from
     trying-end h =
         let e : s - x ≡ 0 = omega arith in
         nothing (G.rest ∙ ap (λ (f : ℕ). after_trial G.searches (try_from T rows c w q f x)) e)
 
-    module _ (h : x < s) (t : Tested) (D : TestDone T rows c w q x t) where
+    module _ (h : x < s) (t : Given Tested) (D : TestDone T rows c w q x t) where
       abbrev later : Option Tried
       later = try_from T rows c w q (s - (x + 1)) (x + 1)
 
@@ -170,40 +184,40 @@ module _ (s : ℕ) (T : ColourTable) (rows : ℕ → List ℕ) (c w q : ℕ) whe
           ∙ ap (λ (y : ℕ). after_trial G.searches (try_one T rows c w q x (try_from T rows c w q (s - (x + 1)) y)))
           (sym (add-one x))
 
-      pub trying-lost : t ≡ NotEnded → TargetsDone s T rows c w q NoState
+      pub trying-lost : t ≡ None → TargetsDone s T rows c w q None
       trying-lost f = nothing (turn ∙ ap (after_trial G.searches) (subst (TestDone T rows c w q x) f D later))
 
-      module _ (holds : Bool) (more found : ℕ) (f : t ≡ Ended holds more found) where
-        O : Outcome T rows c w q x holds more found
+      module _ (one : Tested) (f : t ≡ Some one) where
+        O : Outcome T rows c w q x one.holds one.drops one.links
         O = subst (TestDone T rows c w q x) f D
 
-        pub trying-falls : drops + more ≤ (x + 1) * 15
+        pub trying-falls : drops + one.drops ≤ (x + 1) * 15
         trying-falls = omega (arith, G.falls, O.falls)
 
-        pub trying-few : links + found ≤ (drops + more) * 65535
+        pub trying-few : links + one.links ≤ (drops + one.drops) * 65535
         trying-few = omega (arith, G.few, O.few)
 
-        number : length (G.searches ++ O.searches) ≡ drops + more
+        number : length (G.searches ++ O.searches) ≡ drops + one.drops
         number = length-append G.searches O.searches ∙ ap₂ (λ (a b : ℕ). a + b) G.number O.number
 
-        total : sum (G.searches ++ O.searches) ≡ links + found
+        total : sum (G.searches ++ O.searches) ≡ links + one.links
         total = sum-append G.searches O.searches ∙ ap₂ (λ (a b : ℕ). a + b) G.total O.total
 
-        after : (b : Bool) → holds ≡ b
+        after : (b : Bool) → one.holds ≡ b
             → try_from T rows c w q s 0
             ≡ after_trial G.searches (cond b (some (tried x O.searches)) (after_trial O.searches later))
         after b e =
             turn ∙ ap (after_trial G.searches) (O.is later
             ∙ ap (λ (z : Bool). cond z (some (tried x O.searches)) (after_trial O.searches later)) e)
 
-        pub trying-found : holds ≡ true → TargetsDone s T rows c w q (State x (drops + more) (links + found))
+        pub trying-found : one.holds ≡ true → TargetsDone s T rows c w q (Some (trial x (drops + one.drops) (links + one.links)))
         unfolding trial_of
         trying-found e = record {
-          result = sym (ap trial_of (after true e) ∙ ap₂ (λ (a b : ℕ). State x a b) number total);
+          result = sym (ap trial_of (after true e) ∙ ap₂ (λ (a b : ℕ). Some (trial x a b)) number total);
           bounds = record { state = h; falls = omega (arith, trying-falls); few = trying-few };
         }
 
-        pub trying-on : holds ≡ false → Trying (drops + more) (links + found) (x + 1)
+        pub trying-on : one.holds ≡ false → Trying (drops + one.drops) (links + one.links) (x + 1)
         trying-on e = record {
           searches = G.searches ++ O.searches;
           number = number;

@@ -6,11 +6,11 @@
 -- start_on reading n node_table u == the copy in which the word begins: node u's own, or with u's label the copy above
 --   it; none where its parent is no node of the plan
 -- colour_in s bytes z == the colour of state 0 in copy z; none where no colour has it. In the top copy it is the lowest
+-- asked q m d n == the answer of state q and mark m with d drops and n links
 -- coloured_on .. == the answer on these tables: none where a value read leads outside the plan or the states, or a
 --   search does not rise or ends where the colour does not fall (check 18)
 -- colour_checks .. == 17, 13, 16 and 18, in this order; colour_number .. == the first that fails, 0 where none does
--- colour_ask_answer .. == the answer
--- descending_told a == document 01's number and values of an answer; descending_number a == its number
+-- colour_ask_answer .. == what is told: that number, and the answer where none does
 --
 -- "Both are put outside the session and tell state, yes or no, drops and links". Both readings make the same checks;
 -- they differ in the copy in which they begin.
@@ -31,8 +31,7 @@ use Rattle.colours.specs.Colouring.{place_of}
 use Rattle.colours.specs.Descents.{Place, drops, links, descend}
 use Rattle.colour_tables.specs.ColourCells.{copy_row, cell_table}
 use Rattle.colour_tables.specs.branch.Build.{colours_fit}
-use Rattle.colour_questions.specs.declared.branch.answers.Descending.{Descending}
-use Rattle.colour_questions.specs.declared.branch.answers.Descending.TheVariants.{Answered, Refused}
+use Rattle.colour_questions.specs.declared.branch.answers.ColourAsked.{ColourAsked}
 
 -- "a short one gives .. 17 in a question"
 unfoldable pub colour_buffers_fit : List ℕ → List ℕ → ℕ → ℕ → ℕ → Bool
@@ -51,16 +50,13 @@ unfoldable pub colour_in : ℕ → List ℕ → Place → Option ℕ
 colour_in s bytes none = below s 0
 colour_in s bytes (some z) = below s (place_of 0 (copy_row s bytes z))
 
-pub record Coloured : Type 0 where
-  pub state : ℕ
-  pub marked : Bool
-  pub drops : ℕ
-  pub links : ℕ
+abbrev pub asked : ℕ → Bool → ℕ → ℕ → ColourAsked
+asked q m d n = record { state = q; marked = m; drops = d; links = n }
 
-abbrev pub coloured : WordAutomaton → ℕ → ℕ → ℕ → Coloured
+abbrev pub coloured : WordAutomaton → ℕ → ℕ → ℕ → ColourAsked
 coloured B q d n = record { state = q; marked = B.accepting q; drops = d; links = n }
 
-unfoldable pub coloured_on : Reading → List ℕ → List ℕ → List ℕ → List ℕ → List ℕ → ℕ → ℕ → Option Coloured
+unfoldable pub coloured_on : Reading → List ℕ → List ℕ → List ℕ → List ℕ → List ℕ → ℕ → ℕ → Option ColourAsked
 coloured_on reading p r node_table numbers bytes u l =
     and_then (start_on reading (node_count p) node_table u) (λ z.
     and_then (colour_in (state_count r) bytes z) (λ c.
@@ -80,20 +76,12 @@ unfoldable pub colour_number : Reading → List ℕ → List ℕ → List ℕ �
 colour_number reading p r node_table numbers bytes u l = first_no (colour_checks reading p r node_table numbers bytes u l)
 
 -- document 01's number and values for each case: 0 with state, yes or no, drops and links, or the refusal's number alone
-abbrev pub descending_told : Descending → ℕ × Option Coloured
-descending_told (Answered q marked drops links) =
-    (0, some (record { state = q; marked = marked; drops = drops; links = links }))
-descending_told (Refused n) = (n, none)
+unfoldable pub colour_answer : ℕ → Option ColourAsked → ℕ × Option ColourAsked
+colour_answer zero none = (18, none)
+colour_answer zero (some c) = (0, some c)
+colour_answer (suc n) c = (suc n, none)
 
-unfoldable pub descending_number : Descending → ℕ
-descending_number a = (descending_told a).0
-
-unfoldable pub colour_answer : ℕ → Option Coloured → Descending
-colour_answer zero none = Refused 18
-colour_answer zero (some c) = Answered c.state c.marked c.drops c.links
-colour_answer (suc n) c = Refused (suc n)
-
-unfoldable pub colour_ask_answer : Reading → List ℕ → List ℕ → List ℕ → List ℕ → List ℕ → ℕ → ℕ → Descending
+unfoldable pub colour_ask_answer : Reading → List ℕ → List ℕ → List ℕ → List ℕ → List ℕ → ℕ → ℕ → ℕ × Option ColourAsked
 colour_ask_answer reading p r node_table numbers bytes u l =
     colour_answer (colour_number reading p r node_table numbers bytes u l)
     (coloured_on reading p r node_table numbers bytes u l)

@@ -7,8 +7,7 @@
 -- handled_on L left vs bs == the parts of a list vs, bs that leaves the nodes `left` in W; none: 18
 -- rule_ask_checks .. == 17, 27, 12, 13, 14 and 18, in this order; asked_checks == those before 18
 -- rule_ask_number .. == the first that fails, 0 where none does
--- rule_ask_answer .. == the answer, for any inputs
--- rule_descending_told a == document 01's number and values of an answer; rule_descending_number a == its number
+-- rule_ask_answer .. == what is told: that number, and the answer where none does
 --
 -- Superseding and equal labels are as in S-4 and S-5. The nodes left in W are `differing`'s, in the order of their last
 -- entries (crate changes).
@@ -27,8 +26,7 @@ use Rattle.colours.specs.Descents.{sum}
 use Rattle.colours.specs.StateSets.{Tried, tried}
 use Rattle.colour_tables.specs.rule.Build.{set_colours_fit, set_states_fit}
 use Rattle.colour_questions.specs.parts.Part.{ColourView, handled_from}
-use Rattle.colour_questions.specs.declared.rule.answers.RuleDescending.{RuleDescending}
-use Rattle.colour_questions.specs.declared.rule.answers.RuleDescending.TheVariants.{Answered, Refused}
+use Rattle.colour_questions.specs.declared.rule.answers.RuleAsked.{RuleAsked}
 
 -- with S above 4 no length is defined for the tables of colours: 17 is checked of all else, and then comes 27
 unfoldable pub rule_colours_fit : List ℕ → List ℕ → ℕ → ℕ → ℕ → ℕ → Bool
@@ -82,32 +80,23 @@ rule_ask_number p r node_table state_table numbers bytes vs bs =
 
 -- ---- the answer
 
-pub record RuleValues : Type 0 where
-  pub state : ℕ
-  pub marked : Bool
-  pub drops : ℕ
-  pub links : ℕ
-  pub parts : ℕ
+-- the answer of state q, searches ls and the given number of parts
+abbrev pub answered_with : List ℕ → ℕ → List ℕ → ℕ → RuleAsked
+answered_with r q ls parts = record {
+  state = q;
+  marked = (rule_automaton r).accepting q;
+  drops = length ls;
+  links = sum ls;
+  parts = parts;
+}
 
 -- document 01's number and values for each case: 0 with what is answered, or the refusal's number alone
-abbrev pub rule_descending_told : RuleDescending → ℕ × Option RuleValues
-rule_descending_told (Answered q marked drops links parts) =
-    (0, some (record { state = q; marked = marked; drops = drops; links = links; parts = parts }))
-rule_descending_told (Refused n) = (n, none)
+unfoldable pub rule_answer : List ℕ → ℕ → Option Handled → ℕ × Option RuleAsked
+rule_answer r zero none = (18, none)
+rule_answer r zero (some h) = (0, some (answered_with r h.result.state h.result.searches h.parts))
+rule_answer r (suc n) o = (suc n, none)
 
-unfoldable pub rule_descending_number : RuleDescending → ℕ
-rule_descending_number a = (rule_descending_told a).0
-
--- the answer of state q, searches ls and the given number of parts
-abbrev pub answered_with : List ℕ → ℕ → List ℕ → ℕ → RuleDescending
-answered_with r q ls parts = Answered q ((rule_automaton r).accepting q) (length ls) (sum ls) parts
-
-unfoldable pub rule_answer : List ℕ → ℕ → Option Handled → RuleDescending
-rule_answer r zero none = Refused 18
-rule_answer r zero (some h) = answered_with r h.result.state h.result.searches h.parts
-rule_answer r (suc n) o = Refused (suc n)
-
-unfoldable pub rule_ask_answer : List ℕ → List ℕ → List ℕ → List ℕ → List ℕ → List ℕ → List ℕ → List ℕ → RuleDescending
+unfoldable pub rule_ask_answer : List ℕ → List ℕ → List ℕ → List ℕ → List ℕ → List ℕ → List ℕ → List ℕ → ℕ × Option RuleAsked
 rule_ask_answer p r node_table state_table numbers bytes vs bs =
     rule_answer r (rule_ask_number p r node_table state_table numbers bytes vs bs)
     (asked_on p r node_table state_table numbers bytes vs bs)

@@ -1,7 +1,8 @@
-// The answer of a branch question by colours: the state, whether it is marked, the drops and the links; or a refusal's
-// number.
+// The answer of a branch question by colours: the state, whether it is marked, the drops and the links.
 #[derive(Clone, Copy)]
-pub enum Descending {
-    Answered(u8, bool, u32, u32),
-    Refused(u8),
+pub struct ColourAsked {
+    pub state: u8,
+    pub marked: bool,
+    pub drops: u32,
+    pub links: u32,
 }

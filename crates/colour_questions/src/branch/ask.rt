@@ -1,19 +1,20 @@
 // The branch question by colours: the state after the word down to the lower node, whether it is marked, the drops on
 // the way and the links of the searches for them.
 ghost use Rattle.std.specs.Prelude.{◌≡◌};
+ghost use Rattle.formats.specs.Refusals.{told};
 ghost use Rattle.branches.specs.declared.answers.Reading.TheVariants.{WithUpper, BelowUpper};
 ghost use Rattle.colour_questions.specs.branch.Question.{colour_buffers_fit, coloured_on, colour_answer};
 ghost use Rattle.colour_questions.specs.branch.Promise.{ColourAskDone};
 ghost use Rattle.colour_questions.specs.branch.inner.Steps.{AnswerArgs};
 
-use crate::branch::answers::Descending;
+use crate::branch::answers::ColourAsked;
 use crate::branch::steps::{descend_to, finish, start_colour, start_place};
-use crate::path_drops::descend::Descended;
 use branches::answers::Reading;
 use colour_tables::branch::build::colours_fit;
 use formats::buffers::headers_fit;
 use formats::bytes::read32;
 use formats::layout::{BRANCH_HEAD, LABEL_COUNT_AT, NODE_COLUMNS, PLAN_HEAD};
+use formats::refusals::Refusal;
 use tables::node_tables::moves::is_below;
 
 // Check 17: N, S and K are those of the headers.
@@ -54,9 +55,9 @@ fn answer_colours(
     bytes: &[u8],
     u: usize,
     l: usize,
-) -> Descending
+) -> Result<ColourAsked, Refusal>
     requires { AnswerArgs plan.now branch.now node_table.now numbers.now bytes.now u l }
-    ensures { result ≡ colour_answer 0 (coloured_on reading plan.now branch.now
+    ensures { told result ≡ colour_answer 0 (coloured_on reading plan.now branch.now
         node_table.now
         numbers.now bytes.now u l) }
 {
@@ -65,22 +66,22 @@ fn answer_colours(
     let k = read32(branch, LABEL_COUNT_AT);
     let z = start_place(reading, node_table, n, u);
     if n < z {
-        return Descending::Refused(18);
+        return Err(Refusal::LentValue);
     }
     let c = start_colour(bytes, n, s, z);
     if s <= c {
-        return Descending::Refused(18);
+        return Err(Refusal::LentValue);
     }
     match descend_to(numbers, n, z, l, c) {
-        Descended::NotReached => Descending::Refused(18),
-        Descended::Reached(colour, drops, links) => finish(
+        None => Err(Refusal::LentValue),
+        Some(end) => finish(
             bytes,
             &branch[BRANCH_HEAD + s * k..],
             s,
             l,
-            colour,
-            drops,
-            links,
+            end.colour,
+            end.drops,
+            end.links,
         ),
     }
 }
@@ -96,24 +97,24 @@ fn ask(
     bytes: &[u8],
     upper: u32,
     lower: u32,
-) -> Descending
+) -> Result<ColourAsked, Refusal>
     ensures { ColourAskDone reading plan.now branch.now node_table.now
         numbers.now bytes.now upper lower result }
 {
     if !colour_buffers_fit(plan, branch, node_table.len(), numbers.len(), bytes.len()) {
-        return Descending::Refused(17);
+        return Err(Refusal::LentLength);
     }
     let n = read32(plan, 0);
     let u = upper as usize;
     if n <= u {
-        return Descending::Refused(13);
+        return Err(Refusal::Node);
     }
     let l = lower as usize;
     if n <= l {
-        return Descending::Refused(13);
+        return Err(Refusal::Node);
     }
     if !is_below(node_table, u, l) {
-        return Descending::Refused(16);
+        return Err(Refusal::NotBelow);
     }
     answer_colours(reading, plan, branch, node_table, numbers, bytes, u, l)
 }
@@ -127,7 +128,7 @@ pub fn ask_colours(
     bytes: &[u8],
     upper: u32,
     lower: u32,
-) -> Descending
+) -> Result<ColourAsked, Refusal>
     ensures { ColourAskDone BelowUpper plan.now branch.now node_table.now
         numbers.now bytes.now upper lower result }
 {
@@ -152,7 +153,7 @@ pub fn ask_colours_with_upper(
     bytes: &[u8],
     upper: u32,
     lower: u32,
-) -> Descending
+) -> Result<ColourAsked, Refusal>
     ensures { ColourAskDone WithUpper plan.now branch.now node_table.now
         numbers.now bytes.now upper lower result }
 {

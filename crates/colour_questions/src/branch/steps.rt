@@ -2,6 +2,7 @@
 // down, and the state at its end. A copy is the number of its node; the top copy is n; a number above n means that a
 // value read led outside the plan.
 ghost use Rattle.std.specs.Prelude.{◌≡◌};
+ghost use Rattle.formats.specs.Refusals.{told};
 ghost use Rattle.tables.specs.Climbs.{below};
 ghost use Rattle.colours.specs.Descents.{descend};
 ghost use Rattle.colour_tables.specs.ColourCells.{cell_table};
@@ -11,10 +12,11 @@ ghost use Rattle.colour_questions.specs.branch.Question.{start_on, colour_in};
 ghost use Rattle.colour_questions.specs.branch.inner.Steps.{place_at, numbered_place, finish_on, StartArgs, RowArgs};
 ghost use Rattle.colour_questions.specs.branch.inner.Steps.{WayArgs, EndArgs};
 
-use crate::branch::answers::Descending;
+use crate::branch::answers::ColourAsked;
 use crate::path_drops::descend::{Descended, descend_from};
 use branches::answers::Reading;
 use colour_tables::rows::places::place_of;
+use formats::refusals::Refusal;
 use tables::node_tables::moves::parent_at;
 
 // The copy above node u: its parent's, or the top copy above the root.
@@ -54,8 +56,8 @@ pub fn start_colour(bytes: &[u8], n: usize, s: usize, z: usize) -> usize
     place_of(&bytes[z * s..z * s + s], 0)
 }
 
-// From colour c in copy z down to the copy of node l.
-pub fn descend_to(numbers: &[u16], n: usize, z: usize, l: usize, c: usize) -> Descended
+// From colour c in copy z down to the copy of node l; None where a value read leads outside.
+pub fn descend_to(numbers: &[u16], n: usize, z: usize, l: usize, c: usize) -> Option<Descended>
     requires { WayArgs n c numbers.now z l }
     ensures { result ≡ descended_of (descend (cell_table n numbers.now) c (place_at n z) l c) }
 {
@@ -74,13 +76,18 @@ pub fn finish(
     c: usize,
     drops: u32,
     links: u32,
-) -> Descending
+) -> Result<ColourAsked, Refusal>
     requires { EndArgs bytes.now marks.now s l c }
-    ensures { result ≡ finish_on s marks.now bytes.now l c drops links }
+    ensures { told result ≡ finish_on s marks.now bytes.now l c drops links }
 {
     let q = bytes[l * s + c];
     if s <= q as usize {
-        return Descending::Refused(18);
+        return Err(Refusal::LentValue);
     }
-    Descending::Answered(q, marks[q as usize] == 1, drops, links)
+    Ok(ColourAsked {
+        state: q,
+        marked: marks[q as usize] == 1,
+        drops,
+        links,
+    })
 }

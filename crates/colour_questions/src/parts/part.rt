@@ -1,5 +1,6 @@
 // One part of a rule question by colours: the state of its root, from the parts before it, the drops of its trials and
-// their links, for any inputs. Where roots are below one child only, that child's state is found by trials.
+// their links, for any inputs. Where roots are below one child only, that child's state is found by trials. None says
+// that there is no state: a value read leads outside, or no trial finds one.
 ghost use Rattle.std.specs.Prelude.{◌≡◌, ◌≤◌};
 ghost use Rattle.tables.specs.Climbs.{below};
 ghost use Rattle.questions.specs.inner.Scans.{found_of};
@@ -14,14 +15,18 @@ use tables::lookups::{rule_on, run_on};
 use tables::node_tables::moves::size_at;
 
 // A number read as a state, found without a trial.
-fn untried_state(q: usize, s: usize) -> Trial
+fn untried_state(q: usize, s: usize) -> Option<Trial>
     requires { s ≤ 4 }
     ensures { result ≡ trial_of (untried (below s q)) }
 {
     if s <= q {
-        return Trial::NoState;
+        return None;
     }
-    Trial::State(q as u8, 0, 0)
+    Some(Trial {
+        state: q as u8,
+        drops: 0,
+        links: 0,
+    })
 }
 
 // The state at child c, where `own` is the place of the last earlier root below c and `other` that of the last below
@@ -38,7 +43,7 @@ fn side_by_colours(
     c: usize,
     own: usize,
     other: usize,
-) -> Trial
+) -> Option<Trial>
     requires { SideArgs n s m state_table.now numbers.now copies.now earlier.now states.now c own }
     ensures { SideDone s own other (side_tried (sides_of n s m state_table.now numbers.now
         copies.now) c (found_of earlier.now states.now own)
@@ -52,7 +57,7 @@ fn side_by_colours(
         return untried_state(q as usize, s);
     }
     if s <= q as usize {
-        return Trial::NoState;
+        return None;
     }
     try_targets(numbers, copies, n, s, m, c, earlier[own - 1] as usize, q)
 }
@@ -74,7 +79,7 @@ fn fork_by_colours(
     v: usize,
     l: usize,
     a: usize,
-) -> Trial
+) -> Option<Trial>
     requires { ForkArgs n s k m inner.now node_table.now state_table.now numbers.now copies.now
         earlier.now states.now v l }
     ensures { PartDone s (fork_tried (sides_of n s m state_table.now numbers.now
@@ -96,44 +101,38 @@ fn fork_by_colours(
         l,
         i,
         j,
-    );
-    match left {
-        Trial::NoState => Trial::NoState,
-        Trial::State(x, b, c) => {
-            let right = side_by_colours(
-                state_table,
-                numbers,
-                copies,
-                n,
-                s,
-                m,
-                earlier,
-                states,
-                r,
-                j,
-                i,
-            );
-            match right {
-                Trial::NoState => Trial::NoState,
-                Trial::State(y, d, e) => {
-                    let q = rule_on(inner, s, k, x as usize, a, y as usize);
-                    if s <= q {
-                        return Trial::NoState;
-                    }
-                    Trial::State(q as u8, b + d, c + e)
-                }
-            }
-        }
+    )?;
+    let right = side_by_colours(
+        state_table,
+        numbers,
+        copies,
+        n,
+        s,
+        m,
+        earlier,
+        states,
+        r,
+        j,
+        i,
+    )?;
+    let q = rule_on(inner, s, k, left.state as usize, a, right.state as usize);
+    if s <= q {
+        return None;
     }
+    Some(Trial {
+        state: q as u8,
+        drops: left.drops + right.drops,
+        links: left.links + right.links,
+    })
 }
 
 // The part of a leaf with label a.
-fn leaf_state(leaves: &[u8], s: usize, k: usize, a: usize) -> Trial
+fn leaf_state(leaves: &[u8], s: usize, k: usize, a: usize) -> Option<Trial>
     requires { LeafArgs s k leaves.now }
     ensures { result ≡ trial_of (leaf_tried s k leaves.now a) }
 {
     if k <= a {
-        return Trial::NoState;
+        return None;
     }
     untried_state(leaves[a] as usize, s)
 }
@@ -159,7 +158,7 @@ pub fn part_by_colours(
     nodes: &[u16],
     changes: &[u8],
     v: usize,
-) -> Trial
+) -> Option<Trial>
     requires { PartArgs n s k m labels.now kinds.now leaves.now inner.now node_table.now state_table.now
         numbers.now copies.now earlier.now states.now nodes.now changes.now v }
     ensures { PartDone s (part_tried (colour_view n s k labels.now kinds.now leaves.entry.now
@@ -173,11 +172,11 @@ pub fn part_by_colours(
         return leaf_state(leaves, s, k, a);
     }
     if v == 0 {
-        return Trial::NoState;
+        return None;
     }
     let z = size_at(node_table, v - 1);
     if v - 1 < z {
-        return Trial::NoState;
+        return None;
     }
     fork_by_colours(
         inner,

@@ -9,11 +9,12 @@ ghost use Rattle.colour_questions.specs.path_drops.inner.Drops.{DropDone};
 use crate::path_drops::drops::{Dropping, next_drop, seen_at};
 use formats::layout::NODE_COLUMNS;
 
-// The colour at the end, the drops and the links of all searches; or that a value read leads outside.
+// The colour at the end, the drops and the links of all searches.
 #[derive(Clone, Copy)]
-pub enum Descended {
-    Reached(usize, u32, u32),
-    NotReached,
+pub struct Descended {
+    pub colour: usize,
+    pub drops: u32,
+    pub links: u32,
 }
 
 // The next drop of colour c from the copy of node z, or from the top copy, down to node l.
@@ -31,8 +32,16 @@ fn drop_in(nums: &[u16], n: usize, c: usize, top: bool, z: usize, l: usize) -> D
     next_drop(table, n, c, seen, l)
 }
 
-// From colour c in the copy of node z, or in the top copy, down to the copy of node l.
-pub fn descend_from(nums: &[u16], n: usize, top: bool, z: usize, l: usize, c: usize) -> Descended
+// From colour c in the copy of node z, or in the top copy, down to the copy of node l; None where a value read leads
+// outside.
+pub fn descend_from(
+    nums: &[u16],
+    n: usize,
+    top: bool,
+    z: usize,
+    l: usize,
+    c: usize,
+) -> Option<Descended>
     requires { DescendArgs n c nums.now z l }
     ensures { result ≡ descended_of (descend (cell_table n nums.now) c (start_place top z) l c) }
 {
@@ -44,10 +53,14 @@ pub fn descend_from(nums: &[u16], n: usize, top: bool, z: usize, l: usize, c: us
     while 0 < colour {
         match drop_in(nums, n, colour, above, at, l) {
             Dropping::Done => {
-                return Descended::Reached(colour, drops, links);
+                return Some(Descended {
+                    colour,
+                    drops,
+                    links,
+                });
             }
             Dropping::Lost => {
-                return Descended::NotReached;
+                return None;
             }
             Dropping::Fell(x, d, k) => {
                 colour = d;
@@ -58,5 +71,9 @@ pub fn descend_from(nums: &[u16], n: usize, top: bool, z: usize, l: usize, c: us
             }
         }
     }
-    Descended::Reached(colour, drops, links)
+    Some(Descended {
+        colour,
+        drops,
+        links,
+    })
 }

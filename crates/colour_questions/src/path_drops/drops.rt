@@ -6,7 +6,7 @@ ghost use Rattle.tables.specs.node_tables.Cells.{size_cell, cell_forest};
 ghost use Rattle.tables.specs.node_tables.inner.MoveAnswers.{MoveArgs};
 ghost use Rattle.colour_questions.specs.path_drops.inner.Drops.{NextDone};
 
-use crate::path_drops::search::{Searched, search};
+use crate::path_drops::search::search;
 use tables::node_tables::moves::{depth_at, parent_at, size_at};
 
 // What comes next: no drop, nothing that can be found, or a drop at a node, to a colour, found by some links.
@@ -54,13 +54,13 @@ pub fn next_drop(table: &[u16], n: usize, c: usize, to: usize, l: usize) -> Drop
         return Dropping::Lost;
     }
     match search(table, n, v, to) {
-        Searched::NotFound => Dropping::Lost,
-        Searched::Found(x, links) => {
-            let d = size_at(table, x);
+        None => Dropping::Lost,
+        Some(found) => {
+            let d = size_at(table, found.node);
             if c <= d {
                 return Dropping::Lost;
             }
-            Dropping::Fell(x, d, links)
+            Dropping::Fell(found.node, d, found.links)
         }
     }
 }

@@ -7,11 +7,11 @@ ghost use Rattle.colour_questions.specs.path_drops.inner.Search.{next_node, sear
 
 use tables::node_tables::moves::{NextMove, depth_at, next_move};
 
-// Where a search ends, and its links; or that it would leave the nodes or not rise.
+// Where a search ends, and its links.
 #[derive(Clone, Copy)]
-pub enum Searched {
-    Found(usize, u32),
-    NotFound,
+pub struct Searched {
+    pub node: usize,
+    pub links: u32,
 }
 
 // The node that the next move from node v to depth `to` leads to; n where there is none.
@@ -27,8 +27,8 @@ fn move_on(nums: &[u16], n: usize, v: usize, to: usize) -> usize
     }
 }
 
-// The climb from node `from` to depth `to`, by the numbers as they are.
-pub fn search(nums: &[u16], n: usize, from: usize, to: usize) -> Searched
+// The climb from node `from` to depth `to`, by the numbers as they are; None where it would leave the nodes or not rise.
+pub fn search(nums: &[u16], n: usize, from: usize, to: usize) -> Option<Searched>
     requires { MoveArgs n nums.now from }
     ensures { result ≡ searched_of (search_on (cell_forest n nums.now) from to) }
 {
@@ -37,10 +37,10 @@ pub fn search(nums: &[u16], n: usize, from: usize, to: usize) -> Searched
     while to < depth_at(nums, v) {
         let u = move_on(nums, n, v, to);
         if n <= u {
-            return Searched::NotFound;
+            return None;
         }
         v = u;
         links += 1;
     }
-    Searched::Found(v, links)
+    Some(Searched { node: v, links })
 }

@@ -1,7 +1,10 @@
 // The answer of a rule question by colours: the state of the plan's root, whether it is marked, the drops, the links
-// and the parts; or a refusal's number.
+// and the parts.
 #[derive(Clone, Copy)]
-pub enum RuleDescending {
-    Answered(u8, bool, u32, u32, u32),
-    Refused(u8),
+pub struct RuleAsked {
+    pub state: u8,
+    pub marked: bool,
+    pub drops: u32,
+    pub links: u32,
+    pub parts: u32,
 }

@@ -1,16 +1,17 @@
 // The rule question by colours: the state of the plan's root with the listed labels changed, whether it is marked, the
 // drops of the trials, their links, and the parts.
 ghost use Rattle.std.specs.Prelude.{◌≡◌};
+ghost use Rattle.formats.specs.Refusals.{told};
 ghost use Rattle.colour_questions.specs.rule.Promise.{links_kept, RuleAskDone};
 ghost use Rattle.colour_questions.specs.rule.inner.Args.{RootArgs, LentArgs, answered_for, answered_on};
 
-use crate::rule::answers::RuleDescending;
+use crate::rule::answers::RuleAsked;
 use crate::rule::checks::check_asked;
 use crate::rule::parts::all_by_colours;
-use crate::target_states::trials::Trial;
 use colour_tables::set_states::sets::set_count;
 use formats::bytes::read32;
 use formats::layout::{LABEL_COUNT_AT, NODE_COLUMNS, PLAN_HEAD, RULES_HEAD};
+use formats::refusals::Refusal;
 use questions::changed_roots::roots_left;
 
 // The answer for these roots: the runs of plan and rules, the tables without their excess and the copies of the colours
@@ -28,10 +29,10 @@ fn answer_roots(
     roots: &[u16],
     nodes: &[u16],
     labels: &[u8],
-) -> RuleDescending
+) -> Result<RuleAsked, Refusal>
     requires { RootArgs n s k plan.now rules.now node_table.now state_table.now numbers.now bytes.now
         nodes.now labels.now roots.now }
-    ensures { (result ≡ answered_for n s k plan.now rules.now node_table.now
+    ensures { (told result ≡ answered_for n s k plan.now rules.now node_table.now
         state_table.now numbers.now bytes.now nodes.now
         labels.now roots.now) × links_kept result }
 {
@@ -54,10 +55,16 @@ fn answer_roots(
         labels,
     );
     match t {
-        Trial::NoState => RuleDescending::Refused(18),
-        Trial::State(q, drops, links) => {
-            let yes = rules[RULES_HEAD + k + s * k * s + q as usize] == 1;
-            RuleDescending::Answered(q, yes, drops, links, roots.len() as u32)
+        None => Err(Refusal::LentValue),
+        Some(trial) => {
+            let yes = rules[RULES_HEAD + k + s * k * s + trial.state as usize] == 1;
+            Ok(RuleAsked {
+                state: trial.state,
+                marked: yes,
+                drops: trial.drops,
+                links: trial.links,
+                parts: roots.len() as u32,
+            })
         }
     }
 }
@@ -72,10 +79,10 @@ fn answer_lent(
     bytes: &[u8],
     nodes: &[u16],
     labels: &[u8],
-) -> RuleDescending
+) -> Result<RuleAsked, Refusal>
     requires { LentArgs plan.now rules.now node_table.now state_table.now numbers.now bytes.now
         nodes.now labels.now }
-    ensures { (result ≡ answered_on plan.now rules.now node_table.now
+    ensures { (told result ≡ answered_on plan.now rules.now node_table.now
         state_table.now numbers.now bytes.now nodes.now
         labels.now) × links_kept result }
 {
@@ -84,7 +91,7 @@ fn answer_lent(
     let k = read32(rules, LABEL_COUNT_AT);
     let found = roots_left(n, plan, node_table, nodes, labels);
     if !found.ok {
-        return RuleDescending::Refused(18);
+        return Err(Refusal::LentValue);
     }
     let p = found.count;
     let list = found.nodes;
@@ -115,12 +122,12 @@ pub fn ask_rule_colours(
     bytes: &[u8],
     nodes: &[u16],
     labels: &[u8],
-) -> RuleDescending
+) -> Result<RuleAsked, Refusal>
     ensures { RuleAskDone plan.now rules.now node_table.now
         state_table.now numbers.now bytes.now nodes.now
         labels.now result }
 {
-    let no = check_asked(
+    check_asked(
         plan,
         rules,
         node_table.len(),
@@ -129,10 +136,7 @@ pub fn ask_rule_colours(
         bytes.len(),
         nodes,
         labels,
-    );
-    if no != 0 {
-        return RuleDescending::Refused(no);
-    }
+    )?;
     answer_lent(
         plan,
         rules,

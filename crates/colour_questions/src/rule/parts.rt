@@ -6,7 +6,8 @@ use crate::parts::part::part_by_colours;
 use crate::target_states::trials::Trial;
 use formats::limits::PART_LIMIT;
 
-// The state of the last root, the drops of all trials and their links; m is the number of sets of states.
+// The state of the last root, the drops of all trials and their links, None where a part has no state; m is the number
+// of sets of states.
 // On the many parameters see docs/DECISIONS.md, "Many parameters".
 pub fn all_by_colours(
     labels: &[u8],
@@ -24,7 +25,7 @@ pub fn all_by_colours(
     roots: &[u16],
     nodes: &[u16],
     changes: &[u8],
-) -> Trial
+) -> Option<Trial>
     requires { AllArgs n s k m labels.now kinds.now leaves.now inner.now node_table.now state_table.now
         numbers.now copies.now nodes.now changes.now roots.now }
     ensures { AllDone (colour_view n s k labels.now kinds.now leaves.now
@@ -54,18 +55,15 @@ pub fn all_by_colours(
             nodes,
             changes,
             *root as usize,
-        );
-        match t {
-            Trial::NoState => {
-                return Trial::NoState;
-            }
-            Trial::State(q, d, l) => {
-                last = q;
-                states[i] = q;
-                drops += d;
-                links += l;
-            }
-        }
+        )?;
+        last = t.state;
+        states[i] = t.state;
+        drops += t.drops;
+        links += t.links;
     }
-    Trial::State(last, drops, links)
+    Some(Trial {
+        state: last,
+        drops,
+        links,
+    })
 }

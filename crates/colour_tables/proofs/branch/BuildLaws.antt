@@ -32,8 +32,10 @@ use Rattle.formats.proofs.InputAnswers.{last-part}
 use Rattle.colours.specs.Words.{word_step}
 use Rattle.colour_tables.specs.Layout.{colour_numbers_length, copies_length}
 use Rattle.colour_tables.proofs.LayoutLaws.{length-numbers, length-copies}
-use Rattle.tables.specs.declared.answers.Building.{Building}
-use Rattle.tables.specs.Answers.{building_number, BuildDone}
+use Rattle.std.specs.Prelude.{Result}
+use Rattle.formats.specs.Refusals.{answer_number}
+use Rattle.formats.specs.declared.refusals.Refusal.{Refusal}
+use Rattle.tables.specs.Answers.{BuildDone}
 use Rattle.tables.proofs.BuildLaws.{built-lists}
 use Rattle.colour_tables.specs.branch.Build.{colours_fit, branch_colour_checks, built_colour_numbers, built_copies}
 use Rattle.colour_tables.specs.branch.Build.{BranchColoured}
@@ -167,11 +169,11 @@ module _ (p r : List ℕ) (n s k l m : ℕ) (args : PartArgs p r n s k l m) wher
 -- ---- as built
 
 -- an accepted build leaves any buffers as built
-pub built-coloured : (p r numbers bytes numbers' bytes' : List ℕ) (answer : Building)
+pub built-coloured : (p r numbers bytes numbers' bytes' : List ℕ) (answer : Result Unit Refusal)
     → BuildDone (first_no (branch_colour_checks p r (length numbers) (length bytes))) (built_colour_numbers p r)
     (built_copies p r)
     numbers bytes answer numbers' bytes'
-    → building_number answer ≡ 0 → BranchColoured p r numbers' bytes'
+    → answer_number answer ≡ 0 → BranchColoured p r numbers' bytes'
 built-coloured p r numbers bytes numbers' bytes' answer D e =
     let q = built-lists _ (built_colour_numbers p r) (built_copies p r) numbers bytes answer numbers' bytes' D e in
     let A : Accepted p r (length numbers) (length bytes) = accepted p r (length numbers) (length bytes) q.0 in

@@ -29,8 +29,10 @@ use Rattle.colours.specs.StateSets.{set_step}
 use Rattle.colours.proofs.SetLaws.{set_step-below}
 use Rattle.colour_tables.specs.Layout.{copies_length}
 use Rattle.colour_tables.proofs.LayoutLaws.{length-numbers, length-copies}
-use Rattle.tables.specs.declared.answers.Building.{Building}
-use Rattle.tables.specs.Answers.{building_number, BuildDone}
+use Rattle.std.specs.Prelude.{Result}
+use Rattle.formats.specs.Refusals.{answer_number}
+use Rattle.formats.specs.declared.refusals.Refusal.{Refusal}
+use Rattle.tables.specs.Answers.{BuildDone}
 use Rattle.tables.proofs.BuildLaws.{built-lists, length-built_states}
 use Rattle.colour_tables.specs.rule.Build.{set_numbers_length, set_bytes_length, set_colours_fit, set_states_fit}
 use Rattle.colour_tables.specs.rule.Build.{rule_colour_checks, built_set_numbers, built_set_copies, built_set_bytes}
@@ -125,10 +127,10 @@ module _ (p r : List ℕ) (P : PlanPasses p) where
 -- ---- as built
 
 -- an accepted build leaves any buffers as built
-pub built-coloured : (p r numbers bytes numbers' bytes' : List ℕ) (answer : Building)
+pub built-coloured : (p r numbers bytes numbers' bytes' : List ℕ) (answer : Result Unit Refusal)
     → BuildDone (first_no (rule_colour_checks p r (length numbers) (length bytes))) (built_set_numbers p r)
     (built_set_bytes p r) numbers bytes answer numbers' bytes'
-    → building_number answer ≡ 0 → RuleColoured p r numbers' bytes'
+    → answer_number answer ≡ 0 → RuleColoured p r numbers' bytes'
 built-coloured p r numbers bytes numbers' bytes' answer D e =
     let q = built-lists _ (built_set_numbers p r) (built_set_bytes p r) numbers bytes answer numbers' bytes' D e in
     let A : Accepted p r (length numbers) (length bytes) = accepted p r (length numbers) (length bytes) q.0 in

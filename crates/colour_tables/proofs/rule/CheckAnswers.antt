@@ -2,17 +2,18 @@
 --     plan-refused, rules-refused     2 to 5, and 6 to 9
 --     states-refused                  27
 --     labels-refused, room-refused    10 and 11; all_pass: none
-use Prim.Native.Nat.{ℕ, ◌≤◌, ◌<◌}
+use Prim.Native.Nat.{ℕ, ◌+◌, ◌-◌, ◌≤◌, ◌<◌}
 use mathlib.Core.Path.{◌≡◌, sym, ap, ap₂, ◌∙◌}
 use mathlib.Core.Bool.{Bool, true, false}
 use mathlib.Core.List.{List, [], ◌∷◌}
+use lib.ListN.{take, drop}
 use borrow.Author.Tests.{le-leb, lt-leb}
 use Rattle.list_laws.specs.Tests.{all_below}
 use Rattle.formats.specs.Plan.{node_count, labels_within}
 use Rattle.formats.specs.Rules.{state_count, label_count}
 use Rattle.formats.specs.Checks.{check, first_no, plan_checks, rule_checks, label_check}
 use Rattle.formats.proofs.CheckLaws.{first_no-none, first_no-yes, first_no-no}
-use Rattle.formats.proofs.PlanLaws.{plan-numbered}
+use Rattle.formats.proofs.PlanLaws.{plan-numbered, labels-part}
 use Rattle.formats.proofs.RuleLaws.{rules-numbered}
 use Rattle.formats.proofs.InputAnswers.{first_part, last-part}
 use Rattle.colour_tables.specs.rule.Build.{set_colours_fit, set_states_fit, rule_colour_checks}
@@ -37,17 +38,19 @@ module _ (p r : List ℕ) (l m : ℕ) where
       after x e =
           last-part (plan_checks p) _ (plan-numbered p) plan x (last-part (rule_checks r) _ (rules-numbered r) rules x e)
 
+      -- the labels are read as a part of the plan
       module _ (n s k : ℕ) (a : n ≡ node_count p) (b : s ≡ state_count r) (c : k ≡ label_count r) where
         pub states-refused : 4 < s → 27 ≡ first_no (rule_colour_checks p r l m)
         states-refused h =
             after 27 (sym (first_no-no 27 (set_states_fit (state_count r)) _ (rw (← b) (lt-leb s 4 h))))
 
-        module _ (few : s ≤ 4) (x : Bool) (below : x ≡ all_below k (labels_within p)) where
+        module _ (few : s ≤ 4) (x : Bool) (below : x ≡ all_below k (take (12 + n - 12) (drop 12 p))) where
           states_fit : set_states_fit (state_count r) ≡ true
           states_fit = rw (← b) (le-leb s 4 few)
 
           labels_are : all_below (label_count r) (labels_within p) ≡ x
-          labels_are = ap (λ (i : ℕ). all_below i (labels_within p)) (sym c) ∙ sym below
+          labels_are =
+              ap (λ (i : ℕ). all_below i (labels_within p)) (sym c) ∙ sym (below ∙ ap (all_below k) (labels-part p n a))
 
           pub labels-refused : x ≡ false → 10 ≡ first_no (rule_colour_checks p r l m)
           labels-refused f =

@@ -1,6 +1,7 @@
 // The build of the tables of colours for a branch table.
 ghost use Rattle.std.specs.Prelude.{◌≡◌, length};
 ghost use Rattle.formats.specs.Checks.{first_no};
+ghost use Rattle.formats.specs.Refusals.{answer_number};
 ghost use Rattle.formats.specs.inner.InnerChecks.{Sizes};
 ghost use Rattle.tables.specs.Answers.{BuildDone};
 ghost use Rattle.colour_tables.specs.branch.Build.{colours_fit, branch_colour_checks, built_colour_numbers, built_copies};
@@ -9,7 +10,7 @@ use crate::branch::fill::write_branch_colours;
 use formats::bytes::read32;
 use formats::inputs::check_branch_inputs;
 use formats::layout::{LABEL_COUNT_AT, NODE_COLUMNS};
-use tables::answers::Building;
+use formats::refusals::Refusal;
 
 // Check 11: both buffers long enough for n nodes and s colours.
 pub fn colours_fit(n: usize, s: usize, numbers: usize, bytes: usize) -> bool
@@ -23,29 +24,31 @@ pub fn colours_fit(n: usize, s: usize, numbers: usize, bytes: usize) -> bool
 }
 
 // Checks 2 to 11. The last two are the lengths of the buffers.
-fn check_branch_colours(plan: &[u8], branch: &[u8], numbers: usize, bytes: usize) -> u8
-    ensures { result ≡ first_no (branch_colour_checks plan.now branch.now numbers bytes) }
+fn check_branch_colours(
+    plan: &[u8],
+    branch: &[u8],
+    numbers: usize,
+    bytes: usize,
+) -> Result<(), Refusal>
+    ensures { answer_number result ≡ first_no (branch_colour_checks plan.now branch.now numbers bytes) }
 {
-    let t = check_branch_inputs(plan, branch);
-    if t != 0 {
-        return t;
-    }
+    check_branch_inputs(plan, branch)?;
     let n = read32(plan, 0);
     let s = read32(branch, 0);
     if !colours_fit(n, s, numbers, bytes) {
-        return 11;
+        return Err(Refusal::BufferShort);
     }
-    0
+    Ok(())
 }
 
-// Writes the tables of colours of a plan and a branch table, or answers the first check of 2 to 11 that fails and
+// Writes the tables of colours of a plan and a branch table, or refuses, by the first check of 2 to 11 that fails, and
 // alters nothing.
 pub fn build_branch_colours(
     plan: &[u8],
     branch: &[u8],
     numbers: &mut [u16],
     bytes: &mut [u8],
-) -> Building
+) -> Result<(), Refusal>
     ensures { BuildDone
         (first_no (branch_colour_checks plan.now branch.now (length numbers.old)
         (length bytes.old)))
@@ -53,13 +56,10 @@ pub fn build_branch_colours(
         (built_copies plan.now branch.now)
         numbers.old bytes.old result numbers.new bytes.new }
 {
-    let no = check_branch_colours(plan, branch, numbers.len(), bytes.len());
-    if no != 0 {
-        return Building::Refused(no);
-    }
+    check_branch_colours(plan, branch, numbers.len(), bytes.len())?;
     let n = read32(plan, 0);
     let s = read32(branch, 0);
     let k = read32(branch, LABEL_COUNT_AT);
     write_branch_colours(plan, branch, n, s, k, numbers, bytes);
-    Building::Built
+    Ok(())
 }

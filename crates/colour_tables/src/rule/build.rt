@@ -1,6 +1,7 @@
 // The build of the tables of colours for a rule table of at most four states.
 ghost use Rattle.std.specs.Prelude.{◌≡◌, length};
 ghost use Rattle.formats.specs.Checks.{first_no};
+ghost use Rattle.formats.specs.Refusals.{answer_number};
 ghost use Rattle.tables.specs.Answers.{BuildDone};
 ghost use Rattle.colour_tables.specs.rule.Build.{set_colours_fit, rule_colour_checks, built_set_numbers, built_set_bytes};
 ghost use Rattle.colour_tables.specs.rule.inner.Filled.{SetSizes};
@@ -10,8 +11,8 @@ use crate::set_states::sets::set_count;
 use formats::bytes::read32;
 use formats::layout::{LABEL_COUNT_AT, NODE_COLUMNS, PLAN_HEAD};
 use formats::plan::check_plan;
+use formats::refusals::Refusal;
 use formats::rules::{all_below, check_rule_bytes};
-use tables::answers::Building;
 
 // Check 11: both buffers long enough for n nodes and s states.
 pub fn set_colours_fit(n: usize, s: usize, numbers: usize, bytes: usize) -> bool
@@ -26,40 +27,39 @@ pub fn set_colours_fit(n: usize, s: usize, numbers: usize, bytes: usize) -> bool
 }
 
 // Checks 2 to 9, 27, 10 and 11. The last two are the lengths of the buffers.
-fn check_rule_colours(plan: &[u8], rules: &[u8], numbers: usize, bytes: usize) -> u8
-    ensures { result ≡ first_no (rule_colour_checks plan.now rules.now numbers bytes) }
+fn check_rule_colours(
+    plan: &[u8],
+    rules: &[u8],
+    numbers: usize,
+    bytes: usize,
+) -> Result<(), Refusal>
+    ensures { answer_number result ≡ first_no (rule_colour_checks plan.now rules.now numbers bytes) }
 {
-    let p = check_plan(plan);
-    if p != 0 {
-        return p;
-    }
-    let t = check_rule_bytes(rules);
-    if t != 0 {
-        return t;
-    }
+    check_plan(plan)?;
+    check_rule_bytes(rules)?;
     let n = read32(plan, 0);
     let s = read32(rules, 0);
     let k = read32(rules, LABEL_COUNT_AT);
     if 4 < s {
-        return 27;
+        return Err(Refusal::ColourStates);
     }
     if !all_below(&plan[PLAN_HEAD..PLAN_HEAD + n], k as u8) {
-        return 10;
+        return Err(Refusal::PlanLabel);
     }
     if !set_colours_fit(n, s, numbers, bytes) {
-        return 11;
+        return Err(Refusal::BufferShort);
     }
-    0
+    Ok(())
 }
 
-// Writes the tables of colours of a plan and a rule table, or answers the first check of 2 to 9, 27, 10 and 11 that
-// fails and alters nothing.
+// Writes the tables of colours of a plan and a rule table, or refuses, by the first check of 2 to 9, 27, 10 and 11
+// that fails, and alters nothing.
 pub fn build_rule_colours(
     plan: &[u8],
     rules: &[u8],
     numbers: &mut [u16],
     bytes: &mut [u8],
-) -> Building
+) -> Result<(), Refusal>
     ensures { BuildDone
         (first_no (rule_colour_checks plan.now rules.now (length numbers.old)
         (length bytes.old)))
@@ -67,13 +67,10 @@ pub fn build_rule_colours(
         (built_set_bytes plan.now rules.now)
         numbers.old bytes.old result numbers.new bytes.new }
 {
-    let no = check_rule_colours(plan, rules, numbers.len(), bytes.len());
-    if no != 0 {
-        return Building::Refused(no);
-    }
+    check_rule_colours(plan, rules, numbers.len(), bytes.len())?;
     let n = read32(plan, 0);
     let s = read32(rules, 0);
     let k = read32(rules, LABEL_COUNT_AT);
     write_rule_colours(plan, rules, n, s, k, numbers, bytes);
-    Building::Built
+    Ok(())
 }

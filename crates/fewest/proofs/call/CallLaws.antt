@@ -1,11 +1,11 @@
 -- The call: its parts, and its answers.
 --     may-some .. room-is       the tests of checks 17 and 11
 --     plan-args .. parts-written     of the parts that are handed on
---     first-no .. all_yes       the checks, by the way the code's tests went
---     done_refused, done-written     the call's answers
+--     no-sets .. all_yes        the checks, by the way the code's tests went
+--     done-written              what the call writes
 use Prim.Native.Nat.{ℕ, ◌+◌, ◌*◌, ◌≤◌}
 use mathlib.Core.Path.{◌≡◌, refl, sym, ap, ◌∙◌, subst}
-use mathlib.Core.Bool.{Bool, true, false, cond, ◌&&◌, ◌||◌}
+use mathlib.Core.Bool.{Bool, true, false, ◌&&◌, ◌||◌}
 use mathlib.Core.List.{List, [], ◌∷◌}
 use native.Mathlib.Omega.{arith}
 use lib.Dec.{leb, eqb}
@@ -18,17 +18,15 @@ use Rattle.formats.specs.Plan.{node_count, labels_within, kinds_in, plan_tree}
 use Rattle.formats.specs.Rules.{state_count, label_count, leaf_states, inner_states, rule_marks}
 use Rattle.formats.specs.Checks.{Check, check, first_no, rule_table_checks}
 use Rattle.formats.specs.Passing.{PlanPasses}
-use Rattle.formats.proofs.CheckLaws.{first_no-yes, first_no-no, first_no-none, first_no-append-zero, first_no-append-no}
+use Rattle.formats.proofs.CheckLaws.{first_no-yes, first_no-no, first_no-none, first_no-append-zero}
 use Rattle.formats.proofs.CheckLaws.{first_no-append-left, first_no-head, first_no-tail}
 use Rattle.formats.proofs.PlanLaws.{length-kinds_in, kinds-plan_tree, labels-plan_tree, size-plan_tree}
 use Rattle.formats.proofs.InputLaws.{rule-table-passes, rule-table-numbered}
-use Rattle.fewest.specs.Fewest.{fewest}
 use Rattle.allowed.specs.inner.Inputs.{PassArgs}
 use Rattle.allowed.proofs.InputsLaws.{call-args, kinds_part, labels_part, leaves_part, inner_part, marks_part, kinds-is}
 use Rattle.allowed.proofs.InputsLaws.{labels-is}
 use Rattle.allowed.proofs.InputsLaws.{leaves-is, inner-is, marks-is}
 use Rattle.allowed.proofs.InputsLaws.{parts-given as inputs-given}
-use Rattle.fewest.specs.inner.list.Shown.{shown_nodes, shown_labels, over}
 use Rattle.fewest.specs.inner.list.Written.{WriteArgs, FewestShown, FewestWritten}
 use Rattle.fewest.specs.Answers.{wanted_mark, may_fits, fewest_room, fewest_checks}
 use Rattle.fewest.specs.inner.Done.{plan_problem, FewestDone}
@@ -113,10 +111,6 @@ module _ (p r : List ℕ) (may work nodes labels : ℕ) where
   abbrev more : List Check
   more = check 17 (may_fits may (node_count p)) ∷ check 11 (fewest_room (node_count p) (state_count r) work nodes labels) ∷ []
 
-  pub first-no : (x : ℕ) → x ≡ first_no (rule_table_checks p r) → (x ≡ 0 → ⊥) → x ≡ first_no (fewest_checks p r may work nodes labels)
-  unfolding fewest_checks
-  first-no x e h = e ∙ sym (first_no-append-no (rule_table_checks p r) more (λ z. h (e ∙ z)))
-
   module _ (e : first_no (rule_table_checks p r) ≡ 0) where
     past : first_no (fewest_checks p r may work nodes labels) ≡ first_no more
     unfolding fewest_checks
@@ -159,23 +153,9 @@ write-args p r may work nodes labels e =
     plan-args p r may work nodes labels (table-yes p r (length may) work nodes labels e) (sets-yes p r (length may) work nodes labels e)
     z.0 z.1 z.2
 
--- ---- the call's answers
+-- ---- what the call writes
 
 module _ (p r may : List ℕ) (want : ℕ) (work nodes labels : List ℕ) (least count : ℕ) where
-  pub done_refused : (x : ℕ) → x ≡ first_no (fewest_checks p r (length may) (length work) (length nodes) (length labels)) → (x ≡ 0 → ⊥)
-      → FewestDone p r may want work nodes labels least count x work nodes labels least count
-  done_refused x e h =
-      let z : eqb x 0 ≡ false = ne_eqb x 0 h in
-      record {
-        number = e;
-        least_is = sym (ap (λ (b : Bool). cond b (fewest (plan_problem r may want) (plan_tree p)) least) z);
-        count_is = sym (ap (λ (b : Bool). cond b (length (shown_nodes (plan_problem r may want) (plan_tree p))) count) z);
-        nodes_are = sym (ap (λ (b : Bool). cond b (over (shown_nodes (plan_problem r may want) (plan_tree p)) nodes) nodes) z);
-        labels_are = sym (ap (λ (b : Bool). cond b (over (shown_labels (plan_problem r may want) (plan_tree p)) labels) labels) z);
-        work_kept = λ q. refl;
-        work_beyond = λ j q. refl;
-      }
-
   pub done-written : (mark : ℕ) → mark ≡ wanted_mark want
       → first_no (fewest_checks p r (length may) (length work) (length nodes) (length labels)) ≡ 0
       → (c : ℕ) (work' nodes' labels' : List ℕ) (least' : ℕ)

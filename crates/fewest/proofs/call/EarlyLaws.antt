@@ -2,6 +2,7 @@
 --     run-given, plan-marked   the run over the parts that are handed on is that of the plan
 --     states-same              which states are wanted does not alter the run
 --     keeps-labels             the plan itself is one of its relabellings
+--     told-none                a check fails: nothing is written
 --     told-early               the plan's root has the mark that is wanted: 0, and no change
 --     told-late                it has not: the number and the list as they are worked out
 use Prim.Native.Nat.{ℕ, ◌+◌, ◌*◌}
@@ -22,6 +23,10 @@ use Rattle.formats.specs.Checks.{first_no, rule_table_checks}
 use Rattle.formats.specs.Passing.{PlanPasses}
 use Rattle.formats.proofs.PlanLaws.{length-kinds_in, kinds-plan_tree, labels-plan_tree, size-plan_tree}
 use Rattle.formats.proofs.InputLaws.{rule-table-passes}
+use Rattle.formats.specs.Refusals.{refusal_number, answer_number}
+use Rattle.formats.specs.declared.refusals.Refusal.{Refusal}
+use Rattle.formats.proofs.RefusalLaws.{handed-on, number-not-0}
+use Rattle.std.specs.Prelude.{Result, IsErrAnd}
 use Rattle.allowed.specs.inner.Inputs.{CallArgs}
 use Rattle.allowed.proofs.InputsLaws.{call-args, kinds_part, labels_part, leaves_part, inner_part, marks_part}
 use Rattle.allowed.proofs.InputsLaws.{kinds-is, labels-is, leaves-is, inner-is, marks-is, parts-given}
@@ -78,6 +83,22 @@ keeps-labels p r may e =
     }
 
 -- ---- the call's answers
+
+-- a is what `?` hands on of a check's refusal x
+pub told-none : (p r may : List ℕ) (want : ℕ) (work nodes labels : List ℕ) (least count : ℕ) (x : Refusal)
+    (a : Result Unit Refusal) → IsErrAnd a (λ e. e ≡ x)
+    → refusal_number x ≡ first_no (fewest_checks p r (length may) (length work) (length nodes) (length labels))
+    → FewestTold p r may want work nodes labels least count (answer_number a) work nodes labels least count
+told-none p r may want work nodes labels least count x a h e =
+    let z : answer_number a ≡ refusal_number x = handed-on x a h in
+    record {
+      number = z ∙ e;
+      told = λ w. absurd (number-not-0 x (sym z ∙ w));
+      nodes_beyond = λ w j q. refl;
+      labels_beyond = λ w j q. refl;
+      work_beyond = λ j q. refl;
+      refused = λ w. (refl, refl, refl, refl, refl);
+    }
 
 module _ (p r may : List ℕ) (want : ℕ) (work nodes labels : List ℕ) (least count : ℕ)
     (e : first_no (fewest_checks p r (length may) (length work) (length nodes) (length labels)) ≡ 0) where

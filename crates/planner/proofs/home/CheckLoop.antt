@@ -1,19 +1,25 @@
 -- The tests of a plan, and the answers of check 19.
 --     size-unimage                                  a tree of 2n+1 nodes is of n planner's nodes
+--     refused-fails, passed, plan-sized             the answer of the plan's own checks
 --     comes-not, comes-tests                        check 19 from the three tests
 use Prim.Native.Nat.{ℕ, ◌+◌, ◌-◌, ◌*◌, ◌≤◌, ◌<◌}
 use mathlib.Core.Path.{◌≡◌, refl, sym, ap, ap₂, ◌∙◌}
-use mathlib.Core.Bool.{true, false, ◌&&◌}
+use mathlib.Core.Bool.{Bool, true, false, ◌&&◌}
 use mathlib.Core.List.{List}
 use native.Mathlib.Omega.{arith}
 use lib.Dec.{eqb}
 use lib.ListN.{length, get_or, take, drop}
 use borrow.Author.Tests.{eq-eqb, ne_eqb, le-leb, lt-leb}
-use Rattle.list_laws.proofs.BoolLaws.{and-no-left, and-no-right, and-next}
+use Rattle.std.specs.Prelude.{Result, Ok, Err}
+use Rattle.std.specs.Result.{is_err}
+use Rattle.list_laws.proofs.BoolLaws.{true-false, and-no-left, and-no-right, and-next}
 use Rattle.list_laws.proofs.SliceLaws.{run-part, end-part, length_part}
 use Rattle.trees.specs.Tree.{Tree, leaf, node, size}
 use Rattle.formats.specs.Plan.{node_count, labels_within, kinds_in, plan_tree}
 use Rattle.formats.specs.Checks.{first_no, plan_checks}
+use Rattle.formats.specs.Refusals.{answer_number}
+use Rattle.formats.specs.declared.refusals.Refusal.{Refusal}
+use Rattle.formats.proofs.RefusalLaws.{number-not-0}
 use Rattle.formats.proofs.PlanLaws.{plan-passes, kinds-plan_tree, labels-plan_tree}
 use Rattle.formats.specs.Passing.{PlanPasses}
 use Rattle.planner.specs.Siblings.{count, unimage}
@@ -30,6 +36,22 @@ top-short ks h = and-no-left _ _ (lt-leb 2 (length ks) h)
 pub top-kind : (ks : List ℕ) → 2 ≤ length ks → eqb (get_or ks (length ks - 2) 0) 0 ≡ one_top ks
 unfolding one_top
 top-kind ks h = sym (and-next _ _ (le-leb 2 (length ks) h))
+
+-- ---- the answer of the plan's own checks
+
+pub refused-fails : (a : Result Unit Refusal) {b : Bool} {n : ℕ} → b ≡ is_err a → b ≡ true → answer_number a ≡ n → n ≡ 0 → ⊥
+refused-fails (Ok u) e f g z = true-false (sym f ∙ e)
+refused-fails (Err r) e f g z = number-not-0 r (g ∙ z)
+
+pub passed : (a : Result Unit Refusal) {b : Bool} {n : ℕ} → b ≡ is_err a → b ≡ false → answer_number a ≡ n → n ≡ 0
+passed (Ok u) e f g = sym g
+passed (Err r) e f g = absurd (true-false (sym e ∙ f))
+
+pub plan-sized : (p : List ℕ) (a : Result Unit Refusal) {b : Bool} {n : ℕ} → b ≡ is_err a → b ≡ false
+    → answer_number a ≡ first_no (plan_checks p) → n ≡ node_count p → (length p ≡ 12 + 2 * n) × (n ≤ 65535)
+plan-sized p a e f g h =
+    let P : PlanPasses p = plan-passes p (passed a e f g) in
+    (omega (arith, P.exact), omega (arith, P.most))
 
 -- ---- check 19
 

@@ -14,9 +14,13 @@ use lib.Seq.{sets}
 use borrow.Author.Tests.{eqb-true}
 use Rattle.list_laws.proofs.BoolLaws.{and_left, and_right}
 use Rattle.list_laws.proofs.SliceLaws.{run-part, end-part, rest-cut}
+use Rattle.std.specs.Prelude.{Result, IsErrAnd}
 use Rattle.trees.specs.Tree.{Tree, labels_of, kinds_of}
 use Rattle.formats.specs.Plan.{node_count, labels_within, kinds_in, plan_tree}
 use Rattle.formats.specs.Checks.{first_no, plan_checks}
+use Rattle.formats.specs.Refusals.{refusal_number, answer_number}
+use Rattle.formats.specs.declared.refusals.Refusal.{Refusal}
+use Rattle.formats.proofs.RefusalLaws.{handed-on, number-not-0}
 use Rattle.formats.proofs.PlanLaws.{plan-passes, kinds-plan_tree, labels-plan_tree, size-plan_tree}
 use Rattle.formats.specs.Passing.{PlanPasses}
 use Rattle.planner.specs.Siblings.{Siblings, count, width, pre_labels, pre_counts, image, unimage}
@@ -121,9 +125,14 @@ module _ (p : List ℕ) (n : ℕ) (b : List ℕ) (A : HomeArgs p n b) where
 
 -- ---- the answers
 
-pub home-done : (p b : List ℕ) (r : ℕ) (c : List ℕ) → r ≡ 0 → first_no (home_checks p (length b)) ≡ 0 → HomeWritten p b c
-    → HomeDone p b r c
-home-done p b r c z e W = record { number = z ∙ sym e; written = λ h. W; kept = λ h. absurd (h z) }
+pub home-done : (p b c : List ℕ) → first_no (home_checks p (length b)) ≡ 0 → HomeWritten p b c → HomeDone p b 0 c
+home-done p b c e W = record { number = sym e; written = λ h. W; kept = λ h. absurd (h refl) }
 
-pub home-refused : (p b : List ℕ) (r : ℕ) → (r ≡ 0 → ⊥) → r ≡ first_no (home_checks p (length b)) → HomeDone p b r b
-home-refused p b r z e = record { number = e; written = λ h. absurd (z h); kept = λ h. refl }
+-- a is what `?` hands on of the refusal r
+pub home-refused : (p b : List ℕ) (r : Refusal) (a : Result Unit Refusal) → IsErrAnd a (λ e. e ≡ r)
+    → refusal_number r ≡ first_no (home_checks p (length b)) → HomeDone p b (answer_number a) b
+home-refused p b r a h e = record {
+  number = handed-on r a h ∙ e;
+  written = λ z. absurd (number-not-0 r (sym (handed-on r a h) ∙ z));
+  kept = λ z. refl;
+}

@@ -9,9 +9,13 @@ use mathlib.Core.List.{List, [], ◌++◌}
 use native.Mathlib.Omega.{arith}
 use lib.ListN.{length, get_or, take, drop, length-append, get_or-append}
 use Rattle.list_laws.proofs.SliceLaws.{length_part, run-part}
+use Rattle.std.specs.Prelude.{Result, IsErrAnd}
 use Rattle.trees.specs.Tree.{size}
 use Rattle.formats.specs.Plan.{plan_length}
 use Rattle.formats.specs.Checks.{first_no}
+use Rattle.formats.specs.Refusals.{refusal_number, answer_number}
+use Rattle.formats.specs.declared.refusals.Refusal.{Refusal}
+use Rattle.formats.proofs.RefusalLaws.{handed-on, number-not-0}
 use Rattle.planner.specs.Siblings.{count, width, pre_labels, pre_counts, image, items, places}
 use Rattle.planner.specs.File.{file_count, label_run, count_run, file_tree, out_checks}
 use Rattle.planner.specs.Conversion.{plan_of, places_of}
@@ -114,20 +118,21 @@ module _ (b : List ℕ) (n : ℕ) (p ps : List ℕ) (A : OutArgs b n p ps) where
 
 -- ---- the answers
 
-pub out-done : (b p ps : List ℕ) (r : ℕ) (q qs : List ℕ) → r ≡ 0 → first_no (out_checks b (length p) (length ps)) ≡ 0
-    → OutWritten b p ps q qs → OutDone b p ps r q qs
-out-done b p ps r q qs z e W = record {
-  number = z ∙ sym e;
+pub out-done : (b p ps q qs : List ℕ) → first_no (out_checks b (length p) (length ps)) ≡ 0 → OutWritten b p ps q qs
+    → OutDone b p ps 0 q qs
+out-done b p ps q qs e W = record {
+  number = sym e;
   written = λ h. W;
-  plan_kept = λ h. absurd (h z);
-  places_kept = λ h. absurd (h z);
+  plan_kept = λ h. absurd (h refl);
+  places_kept = λ h. absurd (h refl);
 }
 
-pub out-refused : (b p ps : List ℕ) (r : ℕ) → (r ≡ 0 → ⊥) → r ≡ first_no (out_checks b (length p) (length ps))
-    → OutDone b p ps r p ps
-out-refused b p ps r z e = record {
-  number = e;
-  written = λ h. absurd (z h);
-  plan_kept = λ h. refl;
-  places_kept = λ h. refl;
+-- a is what `?` hands on of the refusal r
+pub out-refused : (b p ps : List ℕ) (r : Refusal) (a : Result Unit Refusal) → IsErrAnd a (λ e. e ≡ r)
+    → refusal_number r ≡ first_no (out_checks b (length p) (length ps)) → OutDone b p ps (answer_number a) p ps
+out-refused b p ps r a h e = record {
+  number = handed-on r a h ∙ e;
+  written = λ z. absurd (number-not-0 r (sym (handed-on r a h) ∙ z));
+  plan_kept = λ z. refl;
+  places_kept = λ z. refl;
 }

@@ -1,6 +1,6 @@
 -- The contract of going home: what the call answers, and what it writes (document 02, S-2).
 --
--- HomeDone p b r c == the answer r is the first no of the checks 19, 21 of the plan p; where it is 0 the file's buffer
+-- HomeDone p b r c == the number r is the first no of the checks 19, 21 of the plan p; where it is 0 the file's buffer
 --   b becomes c: the definition's file, with the excess as it was; else it stays as it was
 -- HomeArgs, HomeWritten == the same for a plan that passes
 use Rattle.std.specs.Prelude.{ℕ, ◌≡◌, List, ◌++◌, length, drop}

@@ -1,6 +1,6 @@
 -- The contract of going out: what the call answers, and what it writes (document 02, S-2).
 --
--- OutDone b p ps r q qs == the answer r is the first check of 19, 20, 21 that fails on the file b; where it is 0 the
+-- OutDone b p ps r q qs == the number r is the first check of 19, 20, 21 that fails on the file b; where it is 0 the
 --   plan's buffer p becomes q and the places' buffer ps becomes qs: the definition's plan and places, with the excess
 --   as it was; else both are unchanged
 -- OutArgs, OutWritten == the same for a file that passes

@@ -1,6 +1,7 @@
 // The checks 19 and 21 of a plan that goes home.
 ghost use Rattle.std.specs.Prelude.{◌≡◌, ◌<◌, length};
 ghost use Rattle.formats.specs.Checks.{first_no};
+ghost use Rattle.formats.specs.Refusals.{answer_number};
 ghost use Rattle.planner.specs.File.{comes_from_file, home_checks};
 ghost use Rattle.planner.specs.inner.ImageTests.{label_fits, labels_fit, all_runs_fit, one_top};
 ghost use Rattle.planner.specs.home.inner.Runs.{run_after};
@@ -9,6 +10,7 @@ use crate::EMPTY_LABEL;
 use formats::bytes::read32;
 use formats::layout::PLAN_HEAD;
 use formats::plan::check_plan;
+use formats::refusals::Refusal;
 
 // Label 63 at a leaf, a label below 63 at an inner node.
 fn label_fits(label: u8, kind: u8) -> bool
@@ -72,7 +74,7 @@ fn one_top(kinds: &[u8]) -> bool
 fn comes_from_file(plan: &[u8]) -> bool
     ensures { result ≡ comes_from_file plan.now }
 {
-    if check_plan(plan) != 0 {
+    if check_plan(plan).is_err() {
         return false;
     }
     let n = read32(plan, 0);
@@ -86,14 +88,14 @@ fn comes_from_file(plan: &[u8]) -> bool
 }
 
 // The checks 19 and 21, in this order: N nodes are a file of (N - 1) / 2 nodes.
-pub fn check_home(plan: &[u8], file: usize) -> u8
-    ensures { result ≡ first_no (home_checks plan.now file) }
+pub fn check_home(plan: &[u8], file: usize) -> Result<(), Refusal>
+    ensures { answer_number result ≡ first_no (home_checks plan.now file) }
 {
     if !comes_from_file(plan) {
-        return 19;
+        return Err(Refusal::PlannerFile);
     }
     if file < 11 + read32(plan, 0) {
-        return 21;
+        return Err(Refusal::PlannerRoom);
     }
-    0
+    Ok(())
 }

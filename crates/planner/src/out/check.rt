@@ -1,11 +1,13 @@
 // The checks 19 to 21 of a planner's file that goes out.
 ghost use Rattle.std.specs.Prelude.{◌≡◌};
 ghost use Rattle.formats.specs.Checks.{first_no};
+ghost use Rattle.formats.specs.Refusals.{answer_number};
 ghost use Rattle.planner.specs.File.{is_preorder, well_formed, out_room, out_checks};
 
 use crate::{EMPTY_LABEL, FILE_LIMIT};
 use formats::bytes::read32;
 use formats::layout::PLAN_HEAD;
+use formats::refusals::Refusal;
 use formats::rules::all_below;
 
 // Whether these are the child counts of one tree in pre-order. As many nodes may wait as there are still counts to
@@ -66,18 +68,18 @@ fn room_fits(n: usize, plan: usize, places: usize) -> bool
 }
 
 // The checks 19, 20 and 21, in this order.
-pub fn check_out(file: &[u8], plan: usize, places: usize) -> u8
-    ensures { result ≡ first_no (out_checks file.now plan places) }
+pub fn check_out(file: &[u8], plan: usize, places: usize) -> Result<(), Refusal>
+    ensures { answer_number result ≡ first_no (out_checks file.now plan places) }
 {
     if !well_formed(file) {
-        return 19;
+        return Err(Refusal::PlannerFile);
     }
     let n = read32(file, 0);
     if !all_below(&file[PLAN_HEAD..PLAN_HEAD + n], EMPTY_LABEL) {
-        return 20;
+        return Err(Refusal::PlannerLabel);
     }
     if !room_fits(n, plan, places) {
-        return 21;
+        return Err(Refusal::PlannerRoom);
     }
-    0
+    Ok(())
 }

@@ -10,9 +10,12 @@ use native.Mathlib.Omega.{arith}
 use lib.Dec.{eqb}
 use lib.ListN.{length, get_or}
 use borrow.Author.Tests.{eq-eqb, ne_eqb}
+use Rattle.std.specs.Prelude.{Result, Ok, Err, IsErrAnd}
 use Rattle.trees.specs.Automaton.{Automaton}
 use Rattle.formats.specs.Rules.{label_count, rule_automaton}
 use Rattle.formats.specs.Checks.{check, first_no, rule_checks}
+use Rattle.formats.specs.Refusals.{refusal_number}
+use Rattle.formats.specs.declared.refusals.Refusal.{Refusal}
 use Rattle.formats.proofs.RuleLaws.{rules-pass, rules-numbered}
 use Rattle.formats.proofs.CheckLaws.{first_no-yes, first_no-no, first_no-none, first_no-append-zero, first_no-append-no}
 use Rattle.products.specs.agreement.Lines.{Line}
@@ -27,27 +30,19 @@ use Rattle.products.proofs.agreement.ReplyLaws.{column-zero, lines-reply}
 abbrev Unused : Agreement → ℕ → Type 0
 Unused r i = (get_or r.kinds i 0 ≡ 0) × (get_or r.labels i 0 ≡ 0) × (get_or r.lefts i 0 ≡ 0) × (get_or r.rights i 0 ≡ 0)
 
-reply-unused : (n : ℕ) (xs : List Line) (i : ℕ) → length xs ≤ i → Unused (reply_of n xs) i
-reply-unused n xs i h =
+reply-unused : (xs : List Line) (i : ℕ) → length xs ≤ i → Unused (reply_of xs) i
+reply-unused xs i h =
     (column-zero line_kind refl xs i h, column-zero line_label refl xs i h, column-zero line_left refl xs i h, column-zero line_right refl xs i h)
 
-unused-of : (r : Agreement) (n : ℕ) (xs : List Line) → r ≡ reply_of n xs → (i : ℕ) → r.count ≤ i → Unused r i
-unused-of r n xs e = subst (λ (q : Agreement). (i : ℕ) → q.count ≤ i → Unused q i) (sym e) (reply-unused n xs)
+unused-of : (r : Agreement) (xs : List Line) → r ≡ reply_of xs → (i : ℕ) → r.count ≤ i → Unused r i
+unused-of r xs e = subst (λ (q : Agreement). (i : ℕ) → q.count ≤ i → Unused q i) (sym e) (reply-unused xs)
 
 module _ (first second : List ℕ) where
-  pub refused-done : (n : ℕ) (r : Agreement) → r ≡ reply_of n [] → (n ≡ 0 → ⊥) → n ≡ first_no (agree_checks first second)
-      → AgreeDone first second r
-  refused-done n r e z f =
-      let m : r.number ≡ n = ap (λ (a : Agreement). a.number) e in
-      record {
-        number = m ∙ f;
-        refused = λ _. e ∙ ap (λ (x : ℕ). reply_of x []) (sym m);
-        named = λ q. absurd (z (sym m ∙ q));
-        agreed = λ q. absurd (z (sym m ∙ q));
-        exactly = λ q. absurd (z (sym m ∙ q));
-        separates = λ q. absurd (z (sym m ∙ q));
-        unused = unused-of r n [] e;
-      }
+  -- a is what is answered for a refusal r: as it is, or handed on by `?`
+  pub refused-done : (r : Refusal) (a : Result Agreement Refusal) → IsErrAnd a (λ e. e ≡ r)
+      → refusal_number r ≡ first_no (agree_checks first second) → AgreeDone first second a
+  refused-done r (Ok b) h e = absurd h
+  refused-done r (Err x) h e = record { number = ap refusal_number h ∙ e; replied = tt }
 
   pub first-no : (n : ℕ) → n ≡ first_no (rule_checks first) → (n ≡ 0 → ⊥) → n ≡ first_no (agree_checks first second)
   unfolding agree_checks
@@ -92,25 +87,24 @@ module _ (first second : List ℕ) where
       unfolding shown_reply
       reply-separates h = some-shown (shown_count first second) refl h
 
-      pub answered-done : (r : Agreement) → label_count first ≡ label_count second → r ≡ reply_of 0 (shown_reply first second)
-          → AgreeDone first second r
+      pub answered-done : (r : Agreement) → label_count first ≡ label_count second → r ≡ reply_of (shown_reply first second)
+          → AgreeDone first second (Ok r)
       unfolding shown_reply
       answered-done r h e =
-          let n : r.number ≡ 0 = ap (λ (a : Agreement). a.number) e in
           let c : r.count ≡ length (shown_reply first second) = ap (λ (a : Agreement). a.count) e in
           record {
-            number = n ∙ sym (last-check ∙ first_no-yes 23 _ [] (eq-eqb (label_count first)
-                (label_count second) h) ∙ first_no-none);
-            refused = λ z. absurd (z n);
-            named = λ _. e;
-            agreed = λ _ z. none-agree first second (rules-pass first p) (rules-pass second q)
-                (none-shown (shown_count first second) refl (sym c ∙ z));
-            exactly = λ _ g. c ∙ ap (λ (o : Option ℕ). length (shown_by first second o))
-                (agree-none first second (rules-pass first p) (rules-pass second q) g);
-            separates = λ _ z.
-                let S : Separates A B (label_count first) (shown_reply first second) = reply-separates (subst
-                (λ (x : ℕ). 0 < x) c z) in
-                subst (Separates A B (label_count first))
-                (sym (ap lines_in e ∙ lines-reply (shown_reply first second) S.at_most 0)) S;
-            unused = unused-of r 0 (shown_reply first second) e;
+            number = sym (last-check ∙ first_no-yes 23 _ [] (eq-eqb (label_count first) (label_count second) h) ∙ first_no-none);
+            replied = record {
+              named = e;
+              agreed = λ z. none-agree first second (rules-pass first p) (rules-pass second q)
+                  (none-shown (shown_count first second) refl (sym c ∙ z));
+              exactly = λ g. c ∙ ap (λ (o : Option ℕ). length (shown_by first second o))
+                  (agree-none first second (rules-pass first p) (rules-pass second q) g);
+              separates = λ z.
+                  let S : Separates A B (label_count first) (shown_reply first second) = reply-separates (subst
+                  (λ (x : ℕ). 0 < x) c z) in
+                  subst (Separates A B (label_count first))
+                  (sym (ap lines_in e ∙ lines-reply (shown_reply first second) S.at_most)) S;
+              unused = unused-of r (shown_reply first second) e;
+            };
           }

@@ -1,5 +1,4 @@
 -- Lines and the four arrays of a reply.
---     column-none      with no line each array is zeros
 --     column-zero      past the last line each array is 0
 --     lines-reply      a reply shows the lines it was made of
 --     front-column     the front of a record's array is the column of its lines
@@ -23,10 +22,6 @@ use Rattle.products.specs.agreement.Reply.{line_kind, line_label, line_left, lin
 use Rattle.products.specs.agreement.Reply.{Front, CutArgs}
 
 -- ---- columns
-
-pub column-none : (f : Line → ℕ) → f (leaf_line 0) ≡ 0 → replicate 256 0 ≡ column f []
-unfolding column
-column-none f e = tabulate-of 256 (λ i. f (get_or [] i (leaf_line 0))) (replicate 256 0) refl (λ j h. zeros-at 256 j ∙ sym e)
 
 pub column_at : (f : Line → ℕ) (xs : List Line) (i : ℕ) → i < 256 → get_or (column f xs) i 0 ≡ f (get_or xs i (leaf_line 0))
 unfolding column
@@ -67,8 +62,8 @@ module _ (xs : List Line) (few : length xs ≤ 256) where
       ap₂ (λ (l : List Line) (x : Line). l ++ (x ∷ [])) (lines-upto n (omega arith)) (one_line n (omega arith))
       ∙ sym (take-suc xs n (leaf_line 0) (omega arith))
 
-  pub lines-reply : (n : ℕ) → lines_in (reply_of n xs) ≡ xs
-  lines-reply n = lines-upto (length xs) (omega arith) ∙ take-length xs
+  pub lines-reply : lines_in (reply_of xs) ≡ xs
+  lines-reply = lines-upto (length xs) (omega arith) ∙ take-length xs
 
 -- ---- from the record
 
@@ -120,8 +115,7 @@ right_of (suc k) a i j z = refl
 module _ {s1 s2 : ℕ} {t : Search} {n : ℕ} (A : CutArgs s1 s2 t n) where
   pub cut-reply : {ks bs ls rs : List ℕ} → Front n t.kinds ks → Front n t.labels bs → Front n t.lefts ls
       → Front n t.rights rs
-      → ◌≡◌ {A = Agreement} (record { number = 0; count = n; kinds = ks; labels = bs; lefts = ls; rights = rs }) (reply_of 0
-      (lines_to t n))
+      → ◌≡◌ {A = Agreement} (record { count = n; kinds = ks; labels = bs; lefts = ls; rights = rs }) (reply_of (lines_to t n))
   cut-reply {ks} {bs} {ls} {rs} K B L R =
       cc (
         front-column t n A.few t.kinds line_kind refl (λ j. kind-of _ _ _ _ (A.fits.kind_bit j)) ks K,
@@ -143,16 +137,3 @@ front_is a n x A e =
       zero = λ i h. get_or-append_right x (drop n (replicate 256 0)) n i 0 l h ∙ get_or-drop n (replicate 256 0) (i - n) 0
           ∙ zeros-at 256 (n + (i - n));
     }
-
--- ---- a refusal
-
-pub refusal-reply : (n : ℕ)
-    → ◌≡◌ {A = Agreement} (record {
-      number = n;
-      count = 0;
-      kinds = replicate 256 0;
-      labels = replicate 256 0;
-      lefts = replicate 256 0;
-      rights = replicate 256 0;
-    }) (reply_of n [])
-refusal-reply n = cc (column-none line_kind refl, column-none line_label refl, column-none line_left refl, column-none line_right refl)

@@ -8,6 +8,7 @@ use mathlib.Core.Path.{◌≡◌, sym, ap, ◌∙◌}
 use mathlib.Core.List.{List, [], ◌∷◌}
 use native.Mathlib.Omega.{arith}
 use borrow.Author.Tests.{eqb-true}
+use Rattle.std.specs.Prelude.{Ok}
 use Rattle.formats.specs.Rules.{label_count, rule_automaton}
 use Rattle.formats.specs.Checks.{rule_checks}
 use Rattle.formats.proofs.RuleLaws.{rules-numbered}
@@ -19,15 +20,15 @@ use Rattle.products.proofs.agreement.Samples.{after_leaf, after_leaf_renamed, od
 use Rattle.products.specs.declared.agreement.Agreement.{Agreement}
 use Rattle.products.specs.agreement.Reply.{lines_in, shown_by, shown_reply, AgreeDone}
 
-module _ (first second : List ℕ) (r : Agreement) (D : AgreeDone first second r) (accepted : r.number ≡ 0) where
+module _ (first second : List ℕ) (r : Agreement) (D : AgreeDone first second (Ok r)) where
   -- "The reply is agreement, exactly when that holds"
   pub answer-is-agreement : (r.count ≡ 0 → Agree (rule_automaton first) (rule_automaton second) (label_count first))
       × (Agree (rule_automaton first) (rule_automaton second) (label_count first) → r.count ≡ 0)
-  answer-is-agreement = (D.agreed accepted, D.exactly accepted)
+  answer-is-agreement = (D.replied.agreed, D.replied.exactly)
 
   -- "or else, by value, a separating plan as at most 256 lines"
   pub answer-separates : 0 < r.count → Separates (rule_automaton first) (rule_automaton second) (label_count first) (lines_in r)
-  answer-separates = D.separates accepted
+  answer-separates = D.replied.separates
 
   pub same-labels : label_count first ≡ label_count second
   unfolding agree_checks
@@ -35,7 +36,7 @@ module _ (first second : List ℕ) (r : Agreement) (D : AgreeDone first second r
       eqb-true (label_count first) (label_count second)
       (first_no-head 23 _ [] (omega arith)
       (first_no-append-right (rule_checks second) _ (rules-numbered second)
-      (first_no-append-right (rule_checks first) _ (rules-numbered first) (sym D.number ∙ accepted))))
+      (first_no-append-right (rule_checks first) _ (rules-numbered first) (sym D.number))))
 
 pub renamed-reply : shown_reply after_leaf after_leaf_renamed ≡ []
 unfolding shown_reply

@@ -10,25 +10,28 @@ use native.Mathlib.Omega.{arith}
 use lib.Dec.{eqb, leb}
 use lib.ListN.{length}
 use borrow.Author.Tests.{eq-eqb, ne_eqb, le-leb, lt-leb}
+use Rattle.std.specs.Prelude.{Result, Ok, IsErrAnd}
 use Rattle.formats.specs.Limits.{state_limit}
 use Rattle.formats.specs.Rules.{state_count, label_count, rule_length}
 use Rattle.formats.specs.Checks.{Check, check, first_no, rule_checks}
+use Rattle.formats.specs.Refusals.{refusal_number}
+use Rattle.formats.specs.declared.refusals.Refusal.{Refusal}
+use Rattle.formats.proofs.RefusalLaws.{handed-on, number-not-0}
 use Rattle.formats.proofs.RuleLaws.{RulesPass, rules-pass, rules-numbered}
 use Rattle.formats.proofs.CheckLaws.{first_no-yes, first_no-no, first_no-none, first_no-append-zero, first_no-append-no}
 use Rattle.products.proofs.RulePairs.{pair-most}
-use Rattle.products.specs.declared.merging.MergeAnswer.TheVariants.{Merged, Refused}
 use Rattle.products.specs.merging.Merged.{merged_states, merged_bytes, merge_checks}
 use Rattle.products.specs.merging.Writes.{written, TableArgs}
 use Rattle.products.specs.merging.Answer.{MergeDone}
 use Rattle.products.proofs.merging.WriteLaws.{written_all}
 
 module _ (first second out : List ℕ) where
-  pub refused-done : (n : ℕ) → (n ≡ 0 → ⊥) → n ≡ first_no (merge_checks first second (length out))
-      → MergeDone first second out (Refused n) out
-  refused-done n z e = record {
-    number = e;
-    accepted = λ q. absurd (z q);
-    merged = λ q. absurd (z q);
+  -- a is what is answered for a refusal r: as it is, or handed on by `?`
+  pub refused-done : (r : Refusal) (a : Result Unit Refusal) → IsErrAnd a (λ e. e ≡ r)
+      → refusal_number r ≡ first_no (merge_checks first second (length out)) → MergeDone first second out a out
+  refused-done r a h e = record {
+    number = handed-on r a h ∙ e;
+    merged = λ q. absurd (number-not-0 r (sym (handed-on r a h) ∙ q));
     refused = λ _. refl;
   }
 
@@ -119,11 +122,10 @@ module _ (first second out : List ℕ) where
                 }
 
             pub merged-done : (r : List ℕ) → r ≡ written 0 (merged_bytes first second) out
-                → MergeDone first second out Merged r
+                → MergeDone first second out (Ok tt) r
             merged-done r e = record {
               number = sym (after-states ∙ first_no-yes 11 _ [] (le-leb (rule_length (merged_states first second)
                   (label_count first)) (length out) (omega (arith, length-is))) ∙ first_no-none);
-              accepted = λ _. refl;
               merged = λ _. e ∙ written_all (merged_bytes first second) out;
               refused = λ z. absurd (z refl);
             }
@@ -137,11 +139,11 @@ pub record Counted (f g : List ℕ) (s1 s2 k : ℕ) : Type 0 where
   pub of_two : s2 ≡ state_count g
   pub labels : k ≡ label_count f
 
-pub counted : {f g : List ℕ} {m n k j s1 s2 : ℕ} → m ≡ first_no (rule_checks f) → m ≡ 0 → n ≡ first_no (rule_checks g)
-    → n ≡ 0 → k ≡ label_count f → j ≡ label_count g → j ≡ k → s1 ≡ state_count f → s2 ≡ state_count g → Counted f g s1 s2 k
-counted em zm en zn ek ej z e1 e2 = record {
-  one = sym em ∙ zm;
-  two = sym en ∙ zn;
+pub counted : {f g : List ℕ} {k j s1 s2 : ℕ} → 0 ≡ first_no (rule_checks f) → 0 ≡ first_no (rule_checks g)
+    → k ≡ label_count f → j ≡ label_count g → j ≡ k → s1 ≡ state_count f → s2 ≡ state_count g → Counted f g s1 s2 k
+counted p q ek ej z e1 e2 = record {
+  one = sym p;
+  two = sym q;
   same = sym ek ∙ sym z ∙ ej;
   of_one = e1;
   of_two = e2;

@@ -15,19 +15,21 @@ use mathlib.Core.List.{List, [], ◌∷◌, ◌++◌}
 use native.Mathlib.Omega.{arith}
 use lib.ListN.{length, drop}
 use borrow.Author.Tests.{eqb-true, leb-true}
+use Rattle.std.specs.Prelude.{Result}
 use Rattle.trees.specs.Tree.{Tree}
 use Rattle.trees.specs.Automaton.{run, accepts}
 use Rattle.list_laws.specs.Rows.{tabulate}
 use Rattle.list_laws.specs.Tests.{all_below}
 use Rattle.formats.specs.Rules.{state_count, label_count, rule_automaton}
 use Rattle.formats.specs.Checks.{first_no, rule_checks}
+use Rattle.formats.specs.Refusals.{answer_number}
+use Rattle.formats.specs.declared.refusals.Refusal.{Refusal}
 use Rattle.formats.proofs.RuleLaws.{RulesPass, rules-pass, rules-numbered}
 use Rattle.formats.proofs.CheckLaws.{first_no-head, first_no-tail, first_no-append-left, first_no-append-right}
 use Rattle.products.specs.Product.{pair_tree}
 use Rattle.products.specs.Plans.{PlanOf}
-use Rattle.products.specs.declared.merging.MergeAnswer.{MergeAnswer}
 use Rattle.products.specs.merging.Merged.{rule_head, rule_bytes, merged_states, merged_bytes, merge_checks}
-use Rattle.products.specs.merging.Answer.{merge_number, MergeDone}
+use Rattle.products.specs.merging.Answer.{MergeDone}
 use Rattle.products.proofs.merging.MergedTheorem.{merged-passes, merged-run, merged-accepts}
 
 module _ (first second : List ℕ) (P : RulesPass first) (Q : RulesPass second) (fits : merged_states first second ≤ 16) where
@@ -67,15 +69,15 @@ accepted-mergeable first second n z =
           (omega arith) l));
     }
 
-module _ (first second out : List ℕ) (a : MergeAnswer) (out' : List ℕ) (D : MergeDone first second out a out') where
-  pub merge-written : merge_number a ≡ 0 → out' ≡ merged_bytes first second ++ drop (length (merged_bytes first second)) out
+module _ (first second out : List ℕ) (a : Result Unit Refusal) (out' : List ℕ) (D : MergeDone first second out a out') where
+  pub merge-written : answer_number a ≡ 0 → out' ≡ merged_bytes first second ++ drop (length (merged_bytes first second)) out
   merge-written = D.merged
 
-  pub merge-refused : (merge_number a ≡ 0 → ⊥) → out' ≡ out
+  pub merge-refused : (answer_number a ≡ 0 → ⊥) → out' ≡ out
   merge-refused = D.refused
 
   -- "The order of checks is 6 to 9 for the first table, 6 to 9 for the second, then 23 .., 24 .., and 11"
-  module _ (accepted : merge_number a ≡ 0) where
+  module _ (accepted : answer_number a ≡ 0) where
     pub merge-accepted : Mergeable first second
     merge-accepted = accepted-mergeable first second (length out) (sym D.number ∙ accepted)
 

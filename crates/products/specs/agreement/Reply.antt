@@ -2,17 +2,20 @@
 --
 -- line_kind, line_label, line_left, line_right == the four numbers of a line; a leaf's left and right are 0
 -- column f xs == an array of 256: f of each line, then zeros
--- reply_of n xs == the reply with number n and the lines xs
+-- reply_of xs == the reply with the lines xs
 -- lines_in r == the lines that a reply shows
 -- shown_reply first second == the lines that are shown (products, specs/agreement/Answer); none where the tables agree
--- AgreeDone first second r == the promise, on every input
+-- Replied first second r == what is promised of a reply r
+-- AgreeDone first second a == the promise, on every input
 -- Front n a r == r is the first n entries of the array a, then zeros; FrontArgs, CutArgs, AnswerArgs == what the parts of agree ask
-use Rattle.std.specs.Prelude.{ℕ, ◌≤◌, ◌<◌, ◌≡◌, List, [], length, get_or}
+use Rattle.std.specs.Prelude.{ℕ, ◌≤◌, ◌<◌, ◌≡◌, List, [], length, get_or, Result, IfOk}
 use Rattle.std.proofs.Math.Option.{Option, none, some}
 use Rattle.list_laws.specs.Rows.{tabulate}
 use Rattle.formats.specs.Limits.{state_limit, label_limit}
 use Rattle.formats.specs.Rules.{state_count, label_count, rule_length, rule_automaton}
 use Rattle.formats.specs.Checks.{first_no, rule_checks}
+use Rattle.formats.specs.Refusals.{answer_number}
+use Rattle.formats.specs.declared.refusals.Refusal.{Refusal}
 use Rattle.products.specs.agreement.Lines.{pair_limit, Line, leaf_line, inner_line}
 use Rattle.products.specs.agreement.Agreement.{Agree, Separates}
 use Rattle.products.specs.agreement.Answer.{agree_checks, shown_count, shown_lines}
@@ -39,9 +42,8 @@ line_right (inner_line a i j) = j
 unfoldable pub column : (Line → ℕ) → List Line → List ℕ
 column f xs = tabulate pair_limit (λ i. f (get_or xs i (leaf_line 0)))
 
-abbrev pub reply_of : ℕ → List Line → Agreement
-reply_of n xs = record {
-  number = n;
+abbrev pub reply_of : List Line → Agreement
+reply_of xs = record {
   count = length xs;
   kinds = column line_kind xs;
   labels = column line_label xs;
@@ -60,22 +62,23 @@ shown_by first second (some n) = shown_lines first second n
 unfoldable pub shown_reply : List ℕ → List ℕ → List Line
 shown_reply first second = shown_by first second (shown_count first second)
 
-pub record AgreeDone (first second : List ℕ) (r : Agreement) : Type 0 where
-  -- "The tables pass 6 to 9 in turn, then 23": the first check that fails, or 0
-  pub number : r.number ≡ first_no (agree_checks first second)
-  -- refused: nothing else is replied
-  pub refused : (r.number ≡ 0 → ⊥) → r ≡ reply_of r.number []
-  -- accepted: the named lines, and nothing behind them
-  pub named : r.number ≡ 0 → r ≡ reply_of 0 (shown_reply first second)
+pub record Replied (first second : List ℕ) (r : Agreement) : Type 0 where
+  -- the named lines, and nothing behind them
+  pub named : r ≡ reply_of (shown_reply first second)
   -- "The reply is agreement, exactly when that holds"
-  pub agreed : r.number ≡ 0 → r.count ≡ 0 → Agree (rule_automaton first) (rule_automaton second) (label_count first)
-  pub exactly : r.number ≡ 0 → Agree (rule_automaton first) (rule_automaton second) (label_count first) → r.count ≡ 0
+  pub agreed : r.count ≡ 0 → Agree (rule_automaton first) (rule_automaton second) (label_count first)
+  pub exactly : Agree (rule_automaton first) (rule_automaton second) (label_count first) → r.count ≡ 0
   -- "or else, by value, a separating plan as at most 256 lines", of least height
-  pub separates : r.number ≡ 0 → 0 < r.count
-      → Separates (rule_automaton first) (rule_automaton second) (label_count first) (lines_in r)
+  pub separates : 0 < r.count → Separates (rule_automaton first) (rule_automaton second) (label_count first) (lines_in r)
   -- entries that no line uses are 0
   pub unused : (i : ℕ) → r.count ≤ i
       → (get_or r.kinds i 0 ≡ 0) × (get_or r.labels i 0 ≡ 0) × (get_or r.lefts i 0 ≡ 0) × (get_or r.rights i 0 ≡ 0)
+
+pub record AgreeDone (first second : List ℕ) (a : Result Agreement Refusal) : Type 0 where
+  -- "The tables pass 6 to 9 in turn, then 23": the first check that fails, or 0
+  pub number : answer_number a ≡ first_no (agree_checks first second)
+  -- accepted; a refusal replies nothing else
+  pub replied : IfOk a (Replied first second)
 
 -- ---- the parts
 

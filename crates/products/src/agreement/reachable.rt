@@ -90,28 +90,26 @@ fn over_labels(
     s1: usize,
     s2: usize,
     k: usize,
-    s: Search,
+    t: &mut Search,
     i: usize,
     j: usize,
     p: usize,
     q: usize,
-) -> Search
-    requires { LabelsArgs first.now second.now s1 s2 k s i j p q }
-    ensures { LabelsDone first.now second.now s1 s2 k s i j p q result }
+)
+    requires { LabelsArgs first.now second.now s1 s2 k t.old i j p q }
+    ensures { LabelsDone first.now second.now s1 s2 k t.old i j p q t.new }
 {
     let p1 = p / s2;
     let p2 = p % s2;
     let q1 = q / s2;
     let q2 = q % s2;
-    let mut t = s;
     for a in 0..k {
         let c = pair_step(first, second, s1, s2, k, p1, p2, a, q1, q2);
         let at = c as usize;
         if t.seen[at] == 0 {
-            with_line(&mut t, 1, a as u8, i as u8, j as u8, c);
+            with_line(t, 1, a as u8, i as u8, j as u8, c);
         }
     }
-    t
 }
 
 // How many lines there are up to the first from line start on whose two marks differ; 0 where none does.
@@ -137,24 +135,22 @@ fn over_lines(
     s1: usize,
     s2: usize,
     k: usize,
-    s: Search,
+    t: &mut Search,
     n: usize,
-) -> Search
-    requires { LinesArgs first.now second.now marks1.now marks2.now s1 s2 k s n }
-    ensures { LinesDone first.now second.now marks1.now marks2.now s1 s2 k s n result }
+)
+    requires { LinesArgs first.now second.now marks1.now marks2.now s1 s2 k t.old n }
+    ensures { LinesDone first.now second.now marks1.now marks2.now s1 s2 k t.old n t.new }
 {
-    let mut t = s;
     for j in 0..n + 1 {
         let p = t.codes[n] as usize;
         let q = t.codes[j] as usize;
         let start = t.count;
-        let u = over_labels(first, second, s1, s2, k, t, n, j, p, q);
-        t = over_labels(first, second, s1, s2, k, u, j, n, q, p);
-        if first_differing(marks1, marks2, s2, t, start) != 0 {
-            return t;
+        over_labels(first, second, s1, s2, k, t, n, j, p, q);
+        over_labels(first, second, s1, s2, k, t, j, n, q, p);
+        if first_differing(marks1, marks2, s2, *t, start) != 0 {
+            return;
         }
     }
-    t
 }
 
 // Every line so.
@@ -178,7 +174,7 @@ pub fn searched(
     let mut n = 0;
     while n < t.count {
         let start = t.count;
-        t = over_lines(first, second, marks1, marks2, s1, s2, k, t, n);
+        over_lines(first, second, marks1, marks2, s1, s2, k, &mut t, n);
         if first_differing(marks1, marks2, s2, t, start) != 0 {
             return t;
         }

@@ -29,8 +29,10 @@ use Rattle.session.specs.Promises.{CallDone, LoadDone, answer_on, record_on, ref
 use Rattle.screens.specs.in_place.OnStructs.{at, is_busy, busy, target_in, answer_of, structs_of, OwnDone, ScreenDone}
 use Rattle.session.specs.Answers.{call_answer}
 use Rattle.session.proofs.Refine.{fresh-seen, narrow-seen}
-use Rattle.session.specs.declared.answers.CallAnswer.{CallAnswer}
-use Rattle.session.specs.declared.answers.CallAnswer.TheVariants.{Accepted, Refused}
+use Rattle.std.specs.Prelude.{Result, Ok, Err}
+use Rattle.formats.specs.Refusals.{refusal_number}
+use Rattle.formats.specs.declared.refusals.Refusal.{Refusal}
+use Rattle.formats.specs.declared.refusals.Refusal.TheVariants.{SessionState}
 use Rattle.screens.specs.in_place.LoadAll.{load_answer, load_number, LoadAllDone}
 use Rattle.screens.proofs.in_place.BusyLaws.{at-any}
 use Rattle.screens.proofs.in_place.DoneLaws.{nobody-done, answer-by, structs-by}
@@ -181,20 +183,20 @@ module _ (ss : List Session) (x : Inputs) (l : length ss ≡ 8) where
 -- ---- as the code has them
 
 module _ (ss : List Session) (x : Inputs) (d : Session) (l : length ss ≡ 8) (rest : any_runs 8 (busy ss) ≡ false)
-    (r : CallAnswer)
+    (r : Result Unit Refusal)
     (s' : Session) (nt st : List ℕ) (D : LoadDone (get_or ss 0 d) x (call_answer r) s' nt st) where
   of-first : LoadDone (at ss 0) x (call_answer r) s' nt st
   of-first = subst (λ (s : Session). LoadDone s x (call_answer r) s' nt st) (at-any ss 0 d (omega arith)) D
 
-  pub cleared : r ≡ Accepted → LoadAllDone ss x (load_answer Accepted) (replicate 8 s') nt st
+  pub cleared : (u : Unit) → r ≡ Ok u → LoadAllDone ss x (load_answer (Ok tt)) (replicate 8 s') nt st
   unfolding load_answer call_answer
-  cleared e = load-cleared ss x l rest (call_answer r) s' nt st of-first (ap call_answer e)
+  cleared u e = load-cleared ss x l rest (call_answer r) s' nt st of-first (ap call_answer e)
 
-  pub turned_down : (n : ℕ) → r ≡ Refused n → LoadAllDone ss x (load_answer (Refused n)) ss nt st
+  pub turned_down : (y : Refusal) → r ≡ Err y → LoadAllDone ss x (load_answer (Err y)) ss nt st
   unfolding load_answer call_answer
-  turned_down n e = load-refused ss x l rest (call_answer r) s' nt st of-first n (ap call_answer e)
+  turned_down y e = load-refused ss x l rest (call_answer r) s' nt st of-first (refusal_number y) (ap call_answer e)
 
 pub one-busy : (ss : List Session) (x : Inputs) → length ss ≡ 8 → any_runs 8 (busy ss) ≡ true
-    → LoadAllDone ss x (load_answer (Refused 1)) ss x.node_table x.state_table
+    → LoadAllDone ss x (load_answer (Err SessionState)) ss x.node_table x.state_table
 unfolding load_answer
 one-busy ss x l e = load-busy ss x l e

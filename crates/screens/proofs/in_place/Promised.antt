@@ -12,7 +12,9 @@ use prog.Routine.{Routine}
 use types.Logic.{Logic}
 use contract.Monad.{Fun, fact}
 use contract.Lifetimes.{Lfts}
-use Rattle.session.specs.declared.answers.ReadAnswer.{ReadAnswer}
+use Rattle.std.specs.Prelude.{ℕ, Result}
+use Rattle.formats.specs.declared.refusals.Refusal.{Refusal}
+use Rattle.session.specs.declared.answers.Outcome.{Outcome}
 use Rattle.screens.specs.contracts.in_place.read as read-fn
 use borrow.Fn.World.{ArgsD, ResD}
 use borrow.Fn.Kinds.{ended_of}
@@ -21,9 +23,7 @@ use denote.Triple.Clauses.{AtExit}
 use Rattle.formats.specs.Inputs.{inputs_of}
 use Rattle.screens.specs.ScreenCalls as screens
 use Rattle.session.specs.Answers.{call_answer, start_answer, read_answer}
-use Rattle.session.specs.declared.answers.CallAnswer.{CallAnswer}
-use Rattle.session.specs.declared.answers.StartAnswer.{StartAnswer}
-use Rattle.screens.specs.declared.in_place.DealAnswer.{DealAnswer}
+use Rattle.screens.specs.declared.in_place.Dealt.{Dealt}
 use Rattle.screens.specs.in_place.OnStructs.{deal_answer, answer_all, ScreenDone}
 use Rattle.screens.specs.in_place.LoadAll.{load_answer}
 use Rattle.screens.specs.in_place.ScreensInPlace.{ScreenInPlace, does, reads}
@@ -34,14 +34,14 @@ use Rattle.screens.specs.contracts.in_place.load.load as load_fn
 use Rattle.screens.proofs.in_place.load.load.Kinds as load-kinds
 use Rattle.screens.proofs.in_place.load.load.Reads as load-reads
 
-abbrev pub deal_promised : (κs : Lfts 5) (a : Args deal-fn.signature κs) → DealAnswer → AtExit deal-fn.ended κs → Type 0
+abbrev pub deal_promised : (κs : Lfts 5) (a : Args deal-fn.signature κs) → Result Dealt Refusal → AtExit deal-fn.ended κs → Type 0
 deal_promised κs a r e =
     ScreenDone a.0.now
     (screens.deal a.1.0
     (inputs_of a.1.1.0.now a.1.1.1.0.now a.1.1.1.1.0.now a.1.1.1.1.1.0.now))
     (deal_answer r) e.0.now
 
-pub deal-tied : (κs : Lfts 5) (a : Args deal-fn.signature κs) (r : DealAnswer) (e : AtExit deal-fn.ended κs)
+pub deal-tied : (κs : Lfts 5) (a : Args deal-fn.signature κs) (r : Result Dealt Refusal) (e : AtExit deal-fn.ended κs)
     → deal_promised κs a r e
     → ScreenInPlace a.0.now
     (screens.deal a.1.0
@@ -49,7 +49,7 @@ pub deal-tied : (κs : Lfts 5) (a : Args deal-fn.signature κs) (r : DealAnswer)
     (deal_answer r) e.0.now
 deal-tied κs a r e p = does p
 
-abbrev pub start_promised : (κs : Lfts 7) (a : Args start-fn.signature κs) → StartAnswer → AtExit start-fn.ended κs
+abbrev pub start_promised : (κs : Lfts 7) (a : Args start-fn.signature κs) → Result ℕ Refusal → AtExit start-fn.ended κs
     → Type 0
 start_promised κs a r e =
     ScreenDone a.0.now
@@ -58,7 +58,7 @@ start_promised κs a r e =
     a.1.1.1.1.1.1.0.now a.1.1.1.1.1.1.1.0.now)
     (screens.one (start_answer r)) e.0.now
 
-pub start-tied : (κs : Lfts 7) (a : Args start-fn.signature κs) (r : StartAnswer) (e : AtExit start-fn.ended κs)
+pub start-tied : (κs : Lfts 7) (a : Args start-fn.signature κs) (r : Result ℕ Refusal) (e : AtExit start-fn.ended κs)
     → start_promised κs a r e
     → ScreenInPlace a.0.now
     (screens.start_on a.1.0
@@ -67,12 +67,12 @@ pub start-tied : (κs : Lfts 7) (a : Args start-fn.signature κs) (r : StartAnsw
     (screens.one (start_answer r)) e.0.now
 start-tied κs a r e p = does p
 
-abbrev pub cancel_promised : (κs : Lfts 1) (a : Args cancel-fn.signature κs) → CallAnswer → AtExit cancel-fn.ended κs
+abbrev pub cancel_promised : (κs : Lfts 1) (a : Args cancel-fn.signature κs) → Result Unit Refusal → AtExit cancel-fn.ended κs
     → Type 0
 cancel_promised κs a r e =
     ScreenDone a.0.now (screens.cancel_on a.1.0) (screens.one (call_answer r)) e.0.now
 
-pub cancel-tied : (κs : Lfts 1) (a : Args cancel-fn.signature κs) (r : CallAnswer) (e : AtExit cancel-fn.ended κs)
+pub cancel-tied : (κs : Lfts 1) (a : Args cancel-fn.signature κs) (r : Result Unit Refusal) (e : AtExit cancel-fn.ended κs)
     → cancel_promised κs a r e
     → ScreenInPlace a.0.now (screens.cancel_on a.1.0) (screens.one (call_answer r)) e.0.now
 cancel-tied κs a r e p = does p
@@ -85,27 +85,27 @@ pub load-tied : (κs : Lfts 4) (a : ArgsD load_fn.signature κs) (r : ResD load_
 load-tied κs a r s p = does p.call
 
 -- Read takes the run by `&`, to read only
-abbrev pub read_promised : (κs : Lfts 1) (a : Args read-fn.signature κs) → ReadAnswer → Type 0
+abbrev pub read_promised : (κs : Lfts 1) (a : Args read-fn.signature κs) → Result Outcome Refusal → Type 0
 read_promised κs a r = screens.one (read_answer r) ≡ answer_all a.0.now (screens.read_on a.1.0)
 
-pub read-tied : (κs : Lfts 1) (a : Args read-fn.signature κs) (r : ReadAnswer) → read_promised κs a r
+pub read-tied : (κs : Lfts 1) (a : Args read-fn.signature κs) (r : Result Outcome Refusal) → read_promised κs a r
     → ScreenInPlace a.0.now (screens.read_on a.1.0) (screens.one (read_answer r)) a.0.now
 read-tied κs a r p = reads a.1.0 p
 
 -- what the sources' contracts say is these very promises
 module _ {M : Type 1} {𝓤 : Ura M} (𝓛 : Logic 𝓤) (at_mem : Memory → SProp 𝓤) (run : Routine → Fun 𝓤) where
-  pub deal-says : (κs : Lfts 5) (a : Args deal-fn.signature κs) (r : DealAnswer) (e : AtExit deal-fn.ended κs)
+  pub deal-says : (κs : Lfts 5) (a : Args deal-fn.signature κs) (r : Result Dealt Refusal) (e : AtExit deal-fn.ended κs)
       → (deal-fn.clauses 𝓛 at_mem run κs a).ensures tt r e ≡ fact 𝓤 (deal_promised κs a r e)
   deal-says κs a r e = refl
 
-  pub start-says : (κs : Lfts 7) (a : Args start-fn.signature κs) (r : StartAnswer) (e : AtExit start-fn.ended κs)
+  pub start-says : (κs : Lfts 7) (a : Args start-fn.signature κs) (r : Result ℕ Refusal) (e : AtExit start-fn.ended κs)
       → (start-fn.clauses 𝓛 at_mem run κs a).ensures tt r e ≡ fact 𝓤 (start_promised κs a r e)
   start-says κs a r e = refl
 
-  pub cancel-says : (κs : Lfts 1) (a : Args cancel-fn.signature κs) (r : CallAnswer) (e : AtExit cancel-fn.ended κs)
+  pub cancel-says : (κs : Lfts 1) (a : Args cancel-fn.signature κs) (r : Result Unit Refusal) (e : AtExit cancel-fn.ended κs)
       → (cancel-fn.clauses 𝓛 at_mem run κs a).ensures tt r e ≡ fact 𝓤 (cancel_promised κs a r e)
   cancel-says κs a r e = refl
 
-  pub read-says : (κs : Lfts 1) (a : Args read-fn.signature κs) (r : ReadAnswer) (e : AtExit read-fn.ended κs)
+  pub read-says : (κs : Lfts 1) (a : Args read-fn.signature κs) (r : Result Outcome Refusal) (e : AtExit read-fn.ended κs)
       → (read-fn.clauses 𝓛 at_mem run κs a).ensures tt r e ≡ fact 𝓤 (read_promised κs a r)
   read-says κs a r e = refl

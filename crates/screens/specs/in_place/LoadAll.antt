@@ -12,13 +12,14 @@ use Rattle.tables.specs.Answers.{written}
 use Rattle.model.specs.Calls.{refused}
 use Rattle.screens.specs.ScreenCalls.{load_all, ScreenAnswer, one, loads, load_all_checks}
 use Rattle.session.specs.declared.state.Session.{Session}
-use Rattle.session.specs.declared.answers.CallAnswer.{CallAnswer}
-use Rattle.session.specs.declared.answers.CallAnswer.TheVariants.{Accepted, Refused}
+use Rattle.std.specs.Prelude.{Result, Ok, Err}
+use Rattle.formats.specs.Refusals.{refusal_number}
+use Rattle.formats.specs.declared.refusals.Refusal.{Refusal}
 use Rattle.screens.specs.in_place.OnStructs.{busy, ScreenDone}
 
-unfoldable pub load_answer : CallAnswer → ScreenAnswer
-load_answer Accepted = loads 0
-load_answer (Refused n) = one (refused n)
+unfoldable pub load_answer : Result Unit Refusal → ScreenAnswer
+load_answer (Ok u) = loads 0
+load_answer (Err r) = one (refused (refusal_number r))
 
 abbrev pub load_number : List Session → Inputs → ℕ
 load_number ss x = first_no (load_all_checks (busy ss) x)

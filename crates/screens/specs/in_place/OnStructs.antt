@@ -11,7 +11,7 @@
 -- ScreenDone == the promise
 use Rattle.std.specs.Prelude.{ℕ, ◌<◌, ◌≡◌, Bool, true, cond, not, ◌||◌, List, eqb, length, get_or, set, replicate}
 use Rattle.formats.specs.Inputs.{sizes_in}
-use Rattle.model.specs.Calls.{load, advance, Answer, refused, more, finished, is_running}
+use Rattle.model.specs.Calls.{load, advance, Answer, refused, is_running}
 use Rattle.model.specs.Model.{loaded_record}
 use Rattle.screens.specs.ScreenCalls.{ScreenCall, load_all, start_on, cancel_on, read_on, deal, ScreenAnswer, one, loads}
 use Rattle.screens.specs.ScreenCalls.{deals, answer_in, refuses}
@@ -21,8 +21,11 @@ use Rattle.session.specs.declared.state.Phase.TheVariants.{Empty}
 use Rattle.session.specs.declared.state.Session.{Session}
 use Rattle.session.specs.Records.{phase_of, fresh_session, session_of, valid}
 use Rattle.session.specs.Promises.{CallDone, answer_on, record_on}
-use Rattle.screens.specs.declared.in_place.DealAnswer.{DealAnswer}
-use Rattle.screens.specs.declared.in_place.DealAnswer.TheVariants.{More, Finished, Refused}
+use Rattle.std.specs.Prelude.{Result, Ok, Err}
+use Rattle.formats.specs.Refusals.{refusal_number}
+use Rattle.formats.specs.declared.refusals.Refusal.{Refusal}
+use Rattle.session.specs.Answers.{advance_answer}
+use Rattle.screens.specs.declared.in_place.Dealt.{Dealt}
 
 abbrev pub at : List Session → ℕ → Session
 at ss i = get_or ss i fresh_session
@@ -39,10 +42,9 @@ busy ss i = is_busy (at ss i)
 abbrev pub runs_in : List Phase → Running
 runs_in ps i = is_running (phase_of (get_or ps i Empty))
 
-unfoldable pub deal_answer : DealAnswer → ScreenAnswer
-deal_answer (More k) = deals k more
-deal_answer (Finished k) = deals k finished
-deal_answer (Refused n) = one (refused n)
+unfoldable pub deal_answer : Result Dealt Refusal → ScreenAnswer
+deal_answer (Ok d) = deals d.next (advance_answer (Ok d.progress))
+deal_answer (Err r) = one (refused (refusal_number r))
 
 -- ---- a call on the structs
 

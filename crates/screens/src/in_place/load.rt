@@ -1,4 +1,4 @@
-// Load over eight screens, by value: refused with 1 where any runs or is no record; else the build with its checks, and
+// Load over eight screens, by value: refused where any runs or is no record; else the build with its checks, and
 // all eight are as after a first Load of that plan.
 ghost use Rattle.std.specs.Prelude.{◌≡◌};
 ghost use Rattle.formats.specs.Inputs.{inputs_of};
@@ -8,13 +8,13 @@ ghost use Rattle.screens.specs.in_place.LoadAll.{LoadAllDone, load_answer};
 
 use crate::SCREENS;
 use crate::in_place::is_running;
-use session::answers::CallAnswer;
+use formats::refusals::Refusal;
 use session::state::Session;
 
 // A Load's answer, with the eight records that it leaves.
 #[derive(Clone, Copy)]
 pub struct LoadedAll {
-    pub answer: CallAnswer,
+    pub answer: Result<(), Refusal>,
     pub all: [Session; SCREENS],
 }
 
@@ -56,7 +56,7 @@ pub fn load(
 {
     if any_busy(all) {
         return LoadedAll {
-            answer: CallAnswer::Refused(1),
+            answer: Err(Refusal::SessionState),
             all,
         };
     }
@@ -64,18 +64,16 @@ pub fn load(
     let out = first.load(plan, rules, node_table, state_table);
     let answer = out.answer;
     match answer {
-        CallAnswer::Accepted => {
+        Ok(()) => {
             let s = out.session;
-            return LoadedAll {
-                answer: CallAnswer::Accepted,
+            LoadedAll {
+                answer: Ok(()),
                 all: [s; SCREENS],
-            };
+            }
         }
-        CallAnswer::Refused(n) => {
-            return LoadedAll {
-                answer: CallAnswer::Refused(n),
-                all,
-            };
-        }
+        Err(refusal) => LoadedAll {
+            answer: Err(refusal),
+            all,
+        },
     }
 }

@@ -2,7 +2,7 @@
 --
 -- ListArgs vs bs == two lists of one length that fit the record
 -- started_of z o vs bs parts roots == a session of sizes z in running with this question, no part handled, and the last finished answer o
--- not_started s n == a refusal of Start with number n, and the record s as it was
+-- not_started s r == a refusal of Start, and the record s as it was
 -- NextArgs s == the counts are within the arrays
 -- StepArgs h l d == there is room for one more state, and the links and the nodes passed over fit
 -- marks_in s k rules == the accept marks by S and K; marked_in s k rules q == whether that of state q is 1; MarkArgs rules s k q == the
@@ -12,7 +12,7 @@
 -- answer_of h q l d y == the answer of a head whose last part has state q, l links and d nodes passed over
 -- step_by h rules q l d == the step of an advance where the part's state is q, its links are l and d nodes passed over; HandleArgs what it
 --   asks
--- refused_step h n == the step of a refusal
+-- refused_step h r == the step of a refusal
 -- step_on s t == the record that step t makes of s
 -- stores_by a == whether an advance that answers a stores a state: unless it is refused
 -- StepFound s c t == the step is that of call c on struct s
@@ -20,12 +20,13 @@ use Rattle.std.specs.Prelude.{ℕ, ◌+◌, ◌*◌, ◌≤◌, ◌<◌, ◌≡�
 use Rattle.formats.specs.Layout.{rules_head}
 use Rattle.formats.specs.Limits.{node_limit, state_limit, label_limit, change_limit, part_limit}
 use Rattle.formats.specs.Rules.{rule_length}
+use Rattle.std.specs.Prelude.{Result, Ok, Err}
+use Rattle.formats.specs.declared.refusals.Refusal.{Refusal}
+use Rattle.session.specs.declared.answers.Progress.{Progress}
+use Rattle.session.specs.declared.answers.Progress.TheVariants.{More, Finished}
 use Rattle.session.specs.declared.state.Phase.{Phase}
 use Rattle.session.specs.declared.state.Phase.TheVariants.{Running, Answered}
-use Rattle.session.specs.declared.answers.AdvanceAnswer.{AdvanceAnswer}
-use Rattle.session.specs.declared.answers.AdvanceAnswer.TheVariants.{More, Finished, Refused as NotAdvanced}
 use Rattle.session.specs.declared.answers.AdvanceStep.{AdvanceStep}
-use Rattle.session.specs.declared.answers.StartAnswer.TheVariants.{Refused as NotStarted}
 use Rattle.session.specs.declared.answers.Started.{Started}
 use Rattle.session.specs.declared.state.Sizes.{Sizes}
 use Rattle.session.specs.declared.state.Last.{Last}
@@ -45,8 +46,8 @@ started_of z o vs bs parts roots =
     whole (record { phase = Running; yes = false; sizes = z; m = length vs; parts = parts; handled = 0; links = 0; passed = 0; last = o })
     (padded change_limit vs) (padded change_limit bs) roots (replicate part_limit 0)
 
-abbrev pub not_started : Session → ℕ → Started
-not_started s n = record { answer = NotStarted n; session = s }
+abbrev pub not_started : Session → Refusal → Started
+not_started s r = record { answer = Err r; session = s }
 
 pub record NextArgs (s : Session) : Type 0 where
   pub few : s.head.m ≤ length s.nodes
@@ -101,21 +102,20 @@ finished_head h q l d y = stepped_head h Answered l d y (answer_of h q l d y)
 unfoldable pub step_by : Head → List ℕ → ℕ → ℕ → ℕ → AdvanceStep
 step_by h rules q l d =
     cond (eqb (h.handled + 1) h.parts)
-    (record { answer = Finished; head = finished_head h q l d (marked_in h.sizes.s h.sizes.k rules q); stored = true; state = q })
-    (record { answer = More; head = stepped_head h Running l d false h.last; stored = true; state = q })
+    (record { answer = Ok Finished; head = finished_head h q l d (marked_in h.sizes.s h.sizes.k rules q); stored = true; state = q })
+    (record { answer = Ok More; head = stepped_head h Running l d false h.last; stored = true; state = q })
 
-abbrev pub refused_step : Head → ℕ → AdvanceStep
-refused_step h n = record { answer = NotAdvanced n; head = h; stored = false; state = 0 }
+abbrev pub refused_step : Head → Refusal → AdvanceStep
+refused_step h r = record { answer = Err r; head = h; stored = false; state = 0 }
 
 abbrev pub step_on : Session → AdvanceStep → Session
 step_on s t =
     whole t.head s.nodes s.labels s.roots
     (cond t.stored (set s.states s.head.handled t.state) s.states)
 
-abbrev pub stores_by : AdvanceAnswer → Bool
-stores_by More = true
-stores_by Finished = true
-stores_by (NotAdvanced n) = false
+abbrev pub stores_by : Result Progress Refusal → Bool
+stores_by (Ok p) = true
+stores_by (Err r) = false
 
 -- the step is that of the call, it stores a state unless it is refused, and there is room for it
 pub record StepFound (s : Session) (c : Call) (t : AdvanceStep) : Type 0 where

@@ -1,5 +1,6 @@
 use Rattle.std.proofs.Common.{ℕ, List, [], length, take, refl, sym, ap, ◌∙◌}
 use Rattle.std.specs.Io.KnownBytes.{Appends}
+use Rattle.formats.specs.Refusals.{refusal_number}
 use Rattle.whatif.specs.Line.{refused_line}
 use Rattle.whatif.specs.Stream.{question_line, lines_by}
 use Rattle.whatif.specs.Said.{said_on}
@@ -14,10 +15,10 @@ pub put_questions-requires-clause-cleared : goal.put_questions-requires-clause-c
 put_questions-requires-clause-cleared g c =
     let d = c.load-done.result in
     load-cleared c.fresh-fresh.result d.session c.args.plan.now c.args.rules.now c.node_table_space-node_table.result
-    c.state_table_space-state_table.result _ _ d.answer c.fresh-fresh.ensures.value c.in-Accepted.is c.load-done.ensures
+    c.state_table_space-state_table.result _ _ d.answer _ c.fresh-fresh.ensures.value c.in-Ok.is c.load-done.ensures
 
-pub returns-in_err-turn-in-Accepted-clause-says : goal.returns-in_err-turn-in-Accepted-clause-says
-returns-in_err-turn-in-Accepted-clause-says g c =
+pub returns-in_err-turn-in-Ok-clause-says : goal.returns-in_err-turn-in-Ok-clause-says
+returns-in_err-turn-in-Ok-clause-says g c =
     let p = c.args.plan.now in
     let r = c.args.rules.now in
     let d = c.load-done.result in
@@ -28,24 +29,24 @@ returns-in_err-turn-in-Accepted-clause-says g c =
     (text-known (AppendsFront a b) known (λ (w : List ℕ). said_on p r (take c.args.stated w))
     (λ (w : List ℕ). lines_by (question_line p r) [] (take c.args.stated w))
     (λ w. sym (loaded-said p r c.node_table_space-node_table.result c.state_table_space-state_table.result c.fresh-fresh.result
-    d.session _ _ d.answer c.fresh-fresh.ensures.value c.load-done.ensures c.in-Accepted.is (take c.args.stated w)))
-    c.in_err-turn-in-Accepted.ensures.says)
+    d.session _ _ d.answer c.fresh-fresh.ensures.value c.load-done.ensures _ c.in-Ok.is (take c.args.stated w)))
+    c.in_err-turn-in-Ok.ensures.says)
 
-pub returns-in-Accepted-clause-answered_on : goal.returns-in-Accepted-clause-answered_on
-returns-in-Accepted-clause-answered_on g c =
+pub returns-in_ok-turn-in-Ok-clause-answered_on : goal.returns-in_ok-turn-in-Ok-clause-answered_on
+returns-in_ok-turn-in-Ok-clause-answered_on g c =
     let d = c.load-done.result in
     let s =
     loaded-said c.args.plan.now c.args.rules.now c.node_table_space-node_table.result c.state_table_space-state_table.result
-    c.fresh-fresh.result d.session _ _ d.answer c.fresh-fresh.ensures.value c.load-done.ensures c.in-Accepted.is
-    c.in_ok-turn-in-Accepted.ensures.progress.questions in
+    c.fresh-fresh.result d.session _ _ d.answer c.fresh-fresh.ensures.value c.load-done.ensures _ c.in-Ok.is
+    c.in_ok-turn-in-Ok.ensures.progress.questions in
     record {
-      questions = c.in_ok-turn-in-Accepted.ensures.progress.questions;
-      count = c.in_ok-turn-in-Accepted.ensures.progress.count;
-      all = c.in_ok-turn-in-Accepted.ensures.progress.lines ∙ sym (ap length s);
+      questions = c.in_ok-turn-in-Ok.ensures.progress.questions;
+      count = c.in_ok-turn-in-Ok.ensures.progress.count;
+      all = c.in_ok-turn-in-Ok.ensures.progress.lines ∙ sym (ap length s);
     }
 
-pub returns-in-Accepted-clause-says : goal.returns-in-Accepted-clause-says
-returns-in-Accepted-clause-says g c =
+pub returns-in_ok-turn-in-Ok-clause-says : goal.returns-in_ok-turn-in-Ok-clause-says
+returns-in_ok-turn-in-Ok-clause-says g c =
     let p = c.args.plan.now in
     let r = c.args.rules.now in
     let d = c.load-done.result in
@@ -54,51 +55,51 @@ returns-in-Accepted-clause-says g c =
     text-known (Appends a b) (g.R.Read.remaining c.args.input.now) (λ (w : List ℕ). said_on p r (take c.args.stated w))
     (λ (w : List ℕ). lines_by (question_line p r) [] (take c.args.stated w))
     (λ w. sym (loaded-said p r c.node_table_space-node_table.result c.state_table_space-state_table.result c.fresh-fresh.result
-    d.session _ _ d.answer c.fresh-fresh.ensures.value c.load-done.ensures c.in-Accepted.is (take c.args.stated w)))
-    c.in_ok-turn-in-Accepted.ensures.says
+    d.session _ _ d.answer c.fresh-fresh.ensures.value c.load-done.ensures _ c.in-Ok.is (take c.args.stated w)))
+    c.in_ok-turn-in-Ok.ensures.says
 
 pub send_load_refusal-requires : goal.send_load_refusal-requires
 send_load_refusal-requires g c =
     let d = c.load-done.result in
     refused-said c.args.plan.now c.args.rules.now c.node_table_space-node_table.result c.state_table_space-state_table.result
-    c.fresh-fresh.result d.session _ _ d.answer c.fresh-fresh.ensures.value c.load-done.ensures _ c.in-Refused.is
+    c.fresh-fresh.result d.session _ _ d.answer c.fresh-fresh.ensures.value c.load-done.ensures _ c.in-Err.is
     c.requires.plan_len_bound c.node_table_space-node_table.ensures c.state_table_space-state_table.ensures
 
-pub returns-in_err-sent-in-Refused-clause-says : goal.returns-in_err-sent-in-Refused-clause-says
-returns-in_err-sent-in-Refused-clause-says g c =
+pub returns-in_err-sent-in-Err-clause-says : goal.returns-in_err-sent-in-Err-clause-says
+returns-in_err-sent-in-Err-clause-says g c =
     let p = c.args.plan.now in
     let r = c.args.rules.now in
     let d = c.load-done.result in
     let known = g.R.Read.remaining c.args.input.now in
     let a = g.W.Write.contents c.args.output.now in
     let b = g.W.Write.contents c.send_load_refusal.new.output in
-    says-failed known a b c.from_residual-in_err-sent-in-Refused.result (λ (w : List ℕ). said_on p r (take c.args.stated w))
-    c.from_residual-in_err-sent-in-Refused.ensures.0
-    (text-always (AppendsFront a b) known (λ (w : List ℕ). said_on p r (take c.args.stated w)) (refused_line c.in-Refused.n)
+    says-failed known a b c.from_residual-in_err-sent-in-Err.result (λ (w : List ℕ). said_on p r (take c.args.stated w))
+    c.from_residual-in_err-sent-in-Err.ensures.0
+    (text-always (AppendsFront a b) known (λ (w : List ℕ). said_on p r (take c.args.stated w)) (refused_line (refusal_number c.in-Err.refusal))
     (λ w. refused-said p r c.node_table_space-node_table.result c.state_table_space-state_table.result c.fresh-fresh.result d.session
-    _ _ d.answer c.fresh-fresh.ensures.value c.load-done.ensures _ c.in-Refused.is c.requires.plan_len_bound
+    _ _ d.answer c.fresh-fresh.ensures.value c.load-done.ensures _ c.in-Err.is c.requires.plan_len_bound
     c.node_table_space-node_table.ensures c.state_table_space-state_table.ensures (take c.args.stated w))
-    c.in_err-sent-in-Refused.ensures.written)
+    c.in_err-sent-in-Err.ensures.written)
 
-pub returns-in-Refused-clause-answered_on : goal.returns-in-Refused-clause-answered_on
-returns-in-Refused-clause-answered_on g c =
+pub returns-in_ok-sent-in-Err-clause-answered_on : goal.returns-in_ok-sent-in-Err-clause-answered_on
+returns-in_ok-sent-in-Err-clause-answered_on g c =
     let d = c.load-done.result in
     let s =
     refused-said c.args.plan.now c.args.rules.now c.node_table_space-node_table.result c.state_table_space-state_table.result
-    c.fresh-fresh.result d.session _ _ d.answer c.fresh-fresh.ensures.value c.load-done.ensures _ c.in-Refused.is
+    c.fresh-fresh.result d.session _ _ d.answer c.fresh-fresh.ensures.value c.load-done.ensures _ c.in-Err.is
     c.requires.plan_len_bound c.node_table_space-node_table.ensures c.state_table_space-state_table.ensures [] in
-    record { questions = []; count = refl; all = c.in_ok-sent-in-Refused.ensures.len ∙ sym (ap length s) }
+    record { questions = []; count = refl; all = c.in_ok-sent-in-Err.ensures.len ∙ sym (ap length s) }
 
-pub returns-in-Refused-clause-says : goal.returns-in-Refused-clause-says
-returns-in-Refused-clause-says g c =
+pub returns-in_ok-sent-in-Err-clause-says : goal.returns-in_ok-sent-in-Err-clause-says
+returns-in_ok-sent-in-Err-clause-says g c =
     let p = c.args.plan.now in
     let r = c.args.rules.now in
     let d = c.load-done.result in
     let a = g.W.Write.contents c.args.output.now in
     let b = g.W.Write.contents c.send_load_refusal.new.output in
     text-always (Appends a b) (g.R.Read.remaining c.args.input.now) (λ (w : List ℕ). said_on p r (take c.args.stated w))
-    (refused_line c.in-Refused.n)
+    (refused_line (refusal_number c.in-Err.refusal))
     (λ w. refused-said p r c.node_table_space-node_table.result c.state_table_space-state_table.result c.fresh-fresh.result d.session
-    _ _ d.answer c.fresh-fresh.ensures.value c.load-done.ensures _ c.in-Refused.is c.requires.plan_len_bound
+    _ _ d.answer c.fresh-fresh.ensures.value c.load-done.ensures _ c.in-Err.is c.requires.plan_len_bound
     c.node_table_space-node_table.ensures c.state_table_space-state_table.ensures (take c.args.stated w))
-    c.in_ok-sent-in-Refused.ensures.written
+    c.in_ok-sent-in-Err.ensures.written

@@ -1,7 +1,6 @@
 -- `marked_set` meets its contract.
 use Rattle.state_sets.proofs.BitLaws.{gathered-below}
 use native.Mathlib.Omega.{arith}
-use borrow.Author.Rules.{rules}
 use Rattle.allowed.proofs.sets.marked_set.Goals as goal
 
 pub returns : goal.returns

@@ -2,7 +2,6 @@
 use Prim.Native.Nat.{◌+◌, ◌*◌}
 use Rattle.state_sets.proofs.BitLaws.{gathered-below}
 use native.Mathlib.Omega.{arith}
-use borrow.Author.Rules.{rules}
 use Rattle.allowed.proofs.sets.right_set.Goals as goal
 
 pub returns : goal.returns

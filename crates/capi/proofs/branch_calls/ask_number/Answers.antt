@@ -1,8 +1,23 @@
-use Rattle.capi.proofs.branch_calls.BranchNumberLaws.{result, not_answer}
+-- A branch question's answer: its four values, or a refusal.
+use Rattle.std.proofs.Common.{refl}
 use Rattle.capi.proofs.branch_calls.ask_number.Goals as goal
 
-pub returns-in-Answered : goal.returns-in-Answered
-returns-in-Answered c = result _ _ _ _ _ _ _ c.in-Answered.is c.bit.ensures
+pub returns-in-Ok : goal.returns-in-Ok
+returns-in-Ok c =
+    rw c.in-Ok.is record {
+      result = refl;
+      state_answer = refl;
+      yes_answer = c.bit.ensures;
+      links_answer = refl;
+      passed_answer = refl;
+    }
 
-pub returns-in-Refused : goal.returns-in-Refused
-returns-in-Refused c = not_answer _ _ _ _ _ _ c.in-Refused.is
+pub returns-in-Err : goal.returns-in-Err
+returns-in-Err c =
+    rw c.in-Err.is record {
+      result = c.number.ensures;
+      state_answer = refl;
+      yes_answer = refl;
+      links_answer = refl;
+      passed_answer = refl;
+    }

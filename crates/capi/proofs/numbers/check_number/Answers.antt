@@ -1,11 +1,9 @@
-use Rattle.capi.proofs.numbers.NumberLaws.{checked-yes, checked-no, not-checked}
+-- A full check's answer: yes or no, or a refusal.
+use Rattle.std.proofs.Common.{refl}
 use Rattle.capi.proofs.numbers.check_number.Goals as goal
 
-pub returns-in-Yes : goal.returns-in-Yes
-returns-in-Yes c = checked-yes _ _ c.in-Yes.is
+pub returns-in-Ok : goal.returns-in-Ok
+returns-in-Ok c = rw c.in-Ok.is record { result = refl; yes_answer = c.bit.ensures }
 
-pub returns-in-No : goal.returns-in-No
-returns-in-No c = checked-no _ _ c.in-No.is
-
-pub returns-in-Refused : goal.returns-in-Refused
-returns-in-Refused c = not-checked _ _ _ c.in-Refused.is
+pub returns-in-Err : goal.returns-in-Err
+returns-in-Err c = rw c.in-Err.is record { result = c.number.ensures; yes_answer = refl }

@@ -5,13 +5,16 @@ use native.Mathlib.Omega.{arith}
 use Rattle.capi_screens.proofs.calls.whatif_screens_start.Goals as goal
 
 pub returns-then-records-ne-RUN_BYTES : goal.returns-then-records-ne-RUN_BYTES
-returns-then-records-ne-RUN_BYTES c = start-refused _ _ _ _ (not-run _ _ c.if-records-ne-RUN_BYTES.true) (not-run-answer _ _ c.if-records-ne-RUN_BYTES.true)
+returns-then-records-ne-RUN_BYTES c =
+    rw c.number.ensures
+    (start-refused _ _ _ _ (not-run _ _ c.if-records-ne-RUN_BYTES.true) (not-run-answer _ _ c.if-records-ne-RUN_BYTES.true))
 
 pub returns-then-screen-gt-LAST : goal.returns-then-screen-gt-LAST
 returns-then-screen-gt-LAST c =
     let n = names-start _ _ _ _ _ in
-    start-refused _ _ _ _ (beyond _ _ _ _ n (omega arith) c.if-screen-gt-LAST.true)
-    (beyond-answer _ _ _ _ n (omega arith) c.if-screen-gt-LAST.true)
+    rw c.number-then-screen-gt-LAST.ensures
+    (start-refused _ _ _ _ (beyond _ _ _ _ n (omega arith) c.if-screen-gt-LAST.true)
+    (beyond-answer _ _ _ _ n (omega arith) c.if-screen-gt-LAST.true))
 
 pub returns : goal.returns
 returns c =

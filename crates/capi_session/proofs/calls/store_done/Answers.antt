@@ -1,9 +1,9 @@
 use Rattle.capi_session.proofs.SessionExportedLaws.{done-stored, done_refused}
 use Rattle.capi_session.proofs.calls.store_done.Goals as goal
 
-pub returns-in-Accepted : goal.returns-in-Accepted
-returns-in-Accepted c = done-stored _ _ _ c.requires
-    c.in-Accepted.is c.encode.ensures
+pub returns-in-Ok : goal.returns-in-Ok
+returns-in-Ok c = done-stored _ _ _ _ c.requires
+    c.in-Ok.is c.encode.ensures
 
-pub returns-in-Refused : goal.returns-in-Refused
-returns-in-Refused c = done_refused _ _ _ c.in-Refused.is
+pub returns-in-Err : goal.returns-in-Err
+returns-in-Err c = done_refused _ _ _ _ c.in-Err.is c.number.ensures

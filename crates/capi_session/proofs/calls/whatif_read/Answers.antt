@@ -4,7 +4,8 @@ use Rattle.capi_session.proofs.calls.whatif_read.Goals as goal
 
 pub returns-then-not-laid_out : goal.returns-then-not-laid_out
 returns-then-not-laid_out c =
-    read-not _ _ (refused-laid _ _ c.laid_out.ensures (ap not c.if-not-laid_out.true))
+    rw c.number.ensures
+    (read-not _ _ (refused-laid _ _ c.laid_out.ensures (ap not c.if-not-laid_out.true)))
 
 pub decode-s-requires : goal.decode-s-requires
 decode-s-requires c =

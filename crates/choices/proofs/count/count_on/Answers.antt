@@ -19,20 +19,17 @@ inner-in c = sym c.all_below-2.ensures ∙ not-false _ c.if-not-all_below-2.fals
 
 pub returns-then-not-all_below : goal.returns-then-not-all_below
 returns-then-not-all_below c =
-    c.refused.ensures
-    ∙ leaves-lost _ _ _ _ _ _ _ _ _ _ c.requires
+    leaves-lost _ _ _ _ _ _ _ _ _ _ c.requires
     (sym c.all_below.ensures ∙ not-true _ c.if-not-all_below.true-raw)
 
 pub returns-then-not-all_below-2 : goal.returns-then-not-all_below-2
 returns-then-not-all_below-2 c =
-    c.refused-then-not-all_below-2.ensures
-    ∙ inner-lost _ _ _ _ _ _ _ _ _ _ c.requires
+    inner-lost _ _ _ _ _ _ _ _ _ _ c.requires
     (sym c.all_below-2.ensures ∙ not-true _ c.if-not-all_below-2.true-raw)
 
 pub returns-then-not-found : goal.returns-then-not-found
 returns-then-not-found c =
-    c.refused-then-not-found.ensures
-    ∙ roots-lost _ _ _ _ _ _ _ _ _ _ c.requires
+    roots-lost _ _ _ _ _ _ _ _ _ _ c.requires
     (rooted_none c.roots-found.result _ c.roots-found.ensures.result
     (not-true c.roots-found.result.ok c.if-not-found.true))
 

@@ -5,13 +5,12 @@
 -- SideFew s own other r == a state that was found is below s, by at most 60 drops, each with at most 65,535 links;
 --   without trials where there is no root below, or one below its sibling too
 -- Untried r == so: without a drop
-use Rattle.std.specs.Prelude.{ℕ, ◌+◌, ◌*◌, ◌≤◌, ◌<◌, ◌^◌, ◌≡◌, List, length, get_or}
+use Rattle.std.specs.Prelude.{ℕ, ◌+◌, ◌*◌, ◌≤◌, ◌<◌, ◌^◌, ◌≡◌, List, length, get_or, Option as Given, Some, None}
 use Rattle.std.proofs.Math.Option.{Option}
 use Rattle.formats.specs.Checks.{node_table_length, state_table_length}
 use Rattle.questions.specs.inner.PartArgs.{part_view}
 use Rattle.colours.specs.StateSets.{Tried}
 use Rattle.colour_questions.specs.declared.target_states.trials.Trial.{Trial}
-use Rattle.colour_questions.specs.declared.target_states.trials.Trial.TheVariants.{State, NoState}
 use Rattle.colour_questions.specs.target_states.Trials.{trial_of, FewIn}
 use Rattle.colour_questions.specs.parts.Part.{ColourView}
 
@@ -69,21 +68,21 @@ pub record PartArgs (n s k m : ℕ) (ls ks lv inn node_table state_table numbers
   pub same : length es ≡ length qs
   pub many : length es ≤ 65535
 
-abbrev pub Untried : Trial → Type 0
-Untried NoState = Unit {0}
-Untried (State q drops links) = drops ≡ 0
+abbrev pub Untried : Given Trial → Type 0
+Untried None = Unit {0}
+Untried (Some t) = t.drops ≡ 0
 
-pub record SideFew (s own other : ℕ) (r : Trial) : Type 0 where
+pub record SideFew (s own other : ℕ) (r : Given Trial) : Type 0 where
   pub all : FewIn s 60 r
   pub run : own ≡ 0 → Untried r
   pub both : ¬ (other ≡ 0) → Untried r
 
 -- ---- what they promise
 
-pub record SideDone (s own other : ℕ) (o : Option Tried) (r : Trial) : Type 0 where
+pub record SideDone (s own other : ℕ) (o : Option Tried) (r : Given Trial) : Type 0 where
   pub result : r ≡ trial_of o
   pub bounds : SideFew s own other r
 
-pub record PartDone (s : ℕ) (o : Option Tried) (r : Trial) : Type 0 where
+pub record PartDone (s : ℕ) (o : Option Tried) (r : Given Trial) : Type 0 where
   pub result : r ≡ trial_of o
   pub bounds : FewIn s 60 r

@@ -4,26 +4,21 @@
 -- search_on F v t == the end of the climb from node v to depth t, and its moves; none where it would leave the nodes
 --   or not rise
 -- searched_of o == the same as the code returns it
-use Rattle.std.specs.Prelude.{ℕ, length}
+use Rattle.std.specs.Prelude.{ℕ, length, Option as Given, Some, None}
 use Rattle.std.proofs.Math.Option.{Option, none, some}
 use Rattle.trees.specs.Climb.{Forest, Move, target, and_then, climb, climb_end}
 use Rattle.colour_questions.specs.declared.path_drops.search.Searched.{Searched}
-use Rattle.colour_questions.specs.declared.path_drops.search.Searched.TheVariants.{Found, NotFound}
 
 unfoldable pub next_node : Forest → Option Move → ℕ
 next_node F none = F.nodes
 next_node F (some m) = target F m
 
-pub record Searching : Type 0 where
-  pub node : ℕ
-  pub links : ℕ
-
-abbrev pub searching : ℕ → ℕ → Searching
+abbrev pub searching : ℕ → ℕ → Searched
 searching v k = record { node = v; links = k }
 
-unfoldable pub search_on : Forest → ℕ → ℕ → Option Searching
+unfoldable pub search_on : Forest → ℕ → ℕ → Option Searched
 search_on F v t = and_then (climb F v t) (λ ms. some (searching (climb_end F v ms) (length ms)))
 
-unfoldable pub searched_of : Option Searching → Searched
-searched_of none = NotFound
-searched_of (some s) = Found s.node s.links
+unfoldable pub searched_of : Option Searched → Given Searched
+searched_of none = None
+searched_of (some s) = Some s

@@ -3,10 +3,10 @@
 -- AllArgs == what all parts read is inside, and the roots are nodes, at most 254; AllDone L vs bs ms r == r is what
 --   comes of all parts of the roots ms, with at most 60 drops for each
 -- RootArgs, LentArgs == what the functions of the question read is inside
--- answered_for n s k .. ms == the answer for the roots ms, with N, S and K as given; answered_on .. == the answer where
---   the checks before 18 pass
-use Rattle.std.specs.Prelude.{ℕ, ◌+◌, ◌*◌, ◌≤◌, ◌<◌, ◌^◌, ◌≡◌, true, List, [], length, get_or, drop}
-use Rattle.std.proofs.Math.Option.{some}
+-- answered_for n s k .. ms == what is told for the roots ms, with N, S and K as given; answered_on .. == what is told
+--   where the checks before 18 pass
+use Rattle.std.specs.Prelude.{ℕ, ◌+◌, ◌*◌, ◌≤◌, ◌<◌, ◌^◌, ◌≡◌, true, List, [], length, get_or, drop, Option as Given}
+use Rattle.std.proofs.Math.Option.{Option, some}
 use Rattle.trees.specs.Climb.{and_then}
 use Rattle.formats.specs.Plan.{node_count}
 use Rattle.formats.specs.Rules.{state_count, label_count, rule_length}
@@ -18,7 +18,7 @@ use Rattle.colour_questions.specs.declared.target_states.trials.Trial.{Trial}
 use Rattle.colour_questions.specs.target_states.Trials.{trial_of, FewIn}
 use Rattle.colour_questions.specs.parts.Part.{ColourView, handled_from}
 use Rattle.colour_questions.specs.parts.inner.Args.{PartReads}
-use Rattle.colour_questions.specs.declared.rule.answers.RuleDescending.{RuleDescending}
+use Rattle.colour_questions.specs.declared.rule.answers.RuleAsked.{RuleAsked}
 use Rattle.colour_questions.specs.rule.Question.{handled, rule_answer, asked_on, asked_checks}
 
 pub record AllArgs (n s k m : ℕ) (ls ks lv inn node_table state_table numbers copies vs bs ms : List ℕ) : Type 0 where
@@ -26,7 +26,7 @@ pub record AllArgs (n s k m : ℕ) (ls ks lv inn node_table state_table numbers 
   pub few : length ms ≤ 254
   pub nodes : (i : ℕ) → i < length ms → get_or ms i 0 < n
 
-pub record AllDone (L : ColourView) (vs bs ms : List ℕ) (r : Trial) : Type 0 where
+pub record AllDone (L : ColourView) (vs bs ms : List ℕ) (r : Given Trial) : Type 0 where
   pub result : r ≡ trial_of (handled_from L vs bs [] [] (tried 0 []) ms)
   pub bounds : 0 < length ms → FewIn L.view.s (length ms * 60) r
 
@@ -37,9 +37,9 @@ lent_as n s k p r node_table state_table numbers bytes = record {
   copies = drop (state_table_length n s) bytes;
 }
 
--- the answer for the roots ms
+-- what is told for the roots ms
 abbrev pub answered_for : ℕ → ℕ → ℕ → List ℕ → List ℕ → List ℕ → List ℕ → List ℕ → List ℕ → List ℕ → List ℕ → List ℕ
-    → RuleDescending
+    → ℕ × Option RuleAsked
 answered_for n s k p r node_table state_table numbers bytes vs bs ms =
     rule_answer r 0 (and_then (handled_from (lent_as n s k p r node_table state_table numbers bytes) vs bs [] [] (tried 0 [])
     ms)
@@ -60,7 +60,7 @@ pub record RootArgs (n s k : ℕ) (p r node_table state_table numbers bytes vs b
   pub same_list : length vs ≡ length bs
   pub many_list : length vs ≤ 64
 
-abbrev pub answered_on : List ℕ → List ℕ → List ℕ → List ℕ → List ℕ → List ℕ → List ℕ → List ℕ → RuleDescending
+abbrev pub answered_on : List ℕ → List ℕ → List ℕ → List ℕ → List ℕ → List ℕ → List ℕ → List ℕ → ℕ × Option RuleAsked
 answered_on p r node_table state_table numbers bytes vs bs =
     rule_answer r 0 (asked_on p r node_table state_table numbers bytes vs bs)
 

@@ -1,42 +1,46 @@
--- `formats::inputs::check_branch_inputs` meets its contract: each return cites the law of its answer.
-use mathlib.Core.Path.{refl, sym, ◌∙◌}
+-- `check_branch_inputs` meets its contract: each return cites the law of its answer.
+use Rattle.std.proofs.Common.{refl, sym, ◌∙◌, arith}
 use Rattle.formats.specs.Checks.{branch_table_checks}
 use Rattle.formats.specs.Rules.{label_count}
 use Rattle.formats.proofs.PlanLaws.{plan-passes}
+use Rattle.formats.proofs.RefusalLaws.{handed-on, handed-on-first, number-not-0}
 use Rattle.formats.proofs.BranchLaws.{branch-passes, branch-numbered}
-use Rattle.formats.proofs.InputAnswers.{first_part, table-rules, table-labels, table-good}
-use native.Mathlib.Omega.{arith}
-use mathlib.Core.Path.{ap}
-use mathlib.Core.Bool.{not}
+use Rattle.formats.proofs.InputAnswers.{table-rules, table-labels, table-good}
 use Rattle.formats.proofs.inputs.check_branch_inputs.Goals as goal
 
-pub returns-then-p-ne0 : goal.returns-then-p-ne0
+pub returns-in_err-check_plan : goal.returns-in_err-check_plan
 unfolding branch_table_checks
-returns-then-p-ne0 c = first_part _ _ _ c.check_plan-p.ensures c.if-p-ne0.true
+returns-in_err-check_plan c =
+    handed-on-first _ _ _ _ c.from_residual.ensures.1 c.in_err-check_plan.ensures
 
-pub returns-then-t-ne0 : goal.returns-then-t-ne0
+pub returns-in_err-check_branch_bytes : goal.returns-in_err-check_branch_bytes
 unfolding branch_table_checks
-returns-then-t-ne0 c =
+returns-in_err-check_branch_bytes c =
     let r = c.args.branch.now in
-    table-rules _ (label_count r) (label_count r) refl _ (branch-numbered r) (sym c.check_plan-p.ensures ∙ c.if-p-ne0.false) _ c.check_branch_bytes-t.ensures c.if-t-ne0.true
+    handed-on _ _ c.from_residual-in_err-check_branch_bytes.ensures.1
+    ∙ table-rules _ (label_count r) (label_count r) refl _ (branch-numbered r) (sym c.in_ok-check_plan.ensures) _
+    c.in_err-check_branch_bytes.ensures (number-not-0 c.in_err-check_branch_bytes.field-0.0)
 
 pub read32-k-requires : goal.read32-k-requires
-read32-k-requires c = omega (arith, (branch-passes _ (sym c.check_branch_bytes-t.ensures ∙ c.if-t-ne0.false)).long)
+read32-k-requires c = omega (arith, (branch-passes _ (sym c.in_ok-check_branch_bytes.ensures)).long)
 
 pub plan_labels_below-requires : goal.plan_labels_below-requires
 plan_labels_below-requires c =
-    record { long = omega (arith, (plan-passes _ (sym c.check_plan-p.ensures ∙ c.if-p-ne0.false)).exact); labels = omega (arith, (branch-passes _ (sym c.check_branch_bytes-t.ensures ∙ c.if-t-ne0.false)).labels_most, c.read32-k.ensures) }
+    record {
+      long = omega (arith, (plan-passes _ (sym c.in_ok-check_plan.ensures)).exact);
+      labels = omega (arith, (branch-passes _ (sym c.in_ok-check_branch_bytes.ensures)).labels_most, c.read32-k.ensures);
+    }
 
 pub returns-then-not-plan_labels_below : goal.returns-then-not-plan_labels_below
 unfolding branch_table_checks
 returns-then-not-plan_labels_below c =
     let r = c.args.branch.now in
-    table-labels _ c.read32-k.result (label_count r) c.read32-k.ensures _ (branch-numbered r) (sym c.check_plan-p.ensures ∙ c.if-p-ne0.false) (sym c.check_branch_bytes-t.ensures ∙ c.if-t-ne0.false) _
-    c.plan_labels_below.ensures (ap not c.if-not-plan_labels_below.true)
+    table-labels _ c.read32-k.result (label_count r) c.read32-k.ensures _ (branch-numbered r) (sym c.in_ok-check_plan.ensures)
+    (sym c.in_ok-check_branch_bytes.ensures) _ c.plan_labels_below.ensures c.if-not-plan_labels_below.true-raw
 
 pub returns : goal.returns
 unfolding branch_table_checks
 returns c =
     let r = c.args.branch.now in
-    table-good _ c.read32-k.result (label_count r) c.read32-k.ensures _ (branch-numbered r) (sym c.check_plan-p.ensures ∙ c.if-p-ne0.false) (sym c.check_branch_bytes-t.ensures ∙ c.if-t-ne0.false) _
-    c.plan_labels_below.ensures (ap not c.if-not-plan_labels_below.false)
+    table-good _ c.read32-k.result (label_count r) c.read32-k.ensures _ (branch-numbered r) (sym c.in_ok-check_plan.ensures)
+    (sym c.in_ok-check_branch_bytes.ensures) _ c.plan_labels_below.ensures c.if-not-plan_labels_below.false-raw

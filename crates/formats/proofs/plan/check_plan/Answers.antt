@@ -1,6 +1,7 @@
 -- `formats::plan::check_plan` meets its contract: each return cites the law of its answer.
 use mathlib.Core.Path.{sym, ap, ◌∙◌}
 use native.Mathlib.Omega.{arith}
+use borrow.Author.Tests.{not-true, not-false}
 use Rattle.trees.specs.Postorder.{is_postorder}
 use Rattle.formats.proofs.PlanLaws.{kinds-part-exact}
 use Rattle.formats.proofs.PlanAnswers.{plan-2, plan-none, plan-many, plan-labels-off, plan-kinds-off, plan-inexact, plan-5, plan-good}
@@ -26,8 +27,8 @@ returns-then-plan-n c = plan-inexact _ (omega arith) (omega arith) (omega arith)
 
 pub returns-then-not-is_postorder : goal.returns-then-not-is_postorder
 returns-then-not-is_postorder c = plan-5 _ (omega arith) (omega arith) (omega arith) (omega arith) (omega arith) (omega arith)
-    (sym (c.is_postorder.ensures ∙ ap is_postorder (kinds-part-exact c.args.plan.now _ (omega arith) (omega arith))) ∙ c.if-not-is_postorder.true)
+    (sym (c.is_postorder.ensures ∙ ap is_postorder (kinds-part-exact c.args.plan.now _ (omega arith) (omega arith))) ∙ not-true _ c.if-not-is_postorder.true-raw)
 
 pub returns : goal.returns
 returns c = plan-good _ (omega arith) (omega arith) (omega arith) (omega arith) (omega arith) (omega arith)
-    (sym (c.is_postorder.ensures ∙ ap is_postorder (kinds-part-exact c.args.plan.now _ (omega arith) (omega arith))) ∙ c.if-not-is_postorder.false)
+    (sym (c.is_postorder.ensures ∙ ap is_postorder (kinds-part-exact c.args.plan.now _ (omega arith) (omega arith))) ∙ not-false _ c.if-not-is_postorder.false-raw)

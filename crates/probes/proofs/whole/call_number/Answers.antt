@@ -2,8 +2,8 @@
 use Rattle.probes.proofs.ProbeLaws.{number-none, number-some}
 use Rattle.probes.proofs.whole.call_number.Goals as goal
 
-pub returns-in-Accepted : goal.returns-in-Accepted
-returns-in-Accepted c = number-none _ c.in-Accepted.is
+pub returns-in-Ok : goal.returns-in-Ok
+returns-in-Ok c = number-none _ _ c.in-Ok.is
 
-pub returns-in-Refused : goal.returns-in-Refused
-returns-in-Refused c = number-some _ _ c.in-Refused.is
+pub returns-in-Err : goal.returns-in-Err
+returns-in-Err c = number-some _ _ _ c.in-Err.is c.number.ensures

@@ -39,7 +39,7 @@ cut-requires c =
 pub returns : goal.returns
 returns c =
     c.cut.ensures
-    ∙ ap (reply_of 0)
+    ∙ ap reply_of
     (answered-at c.requires _ _ _ _ _ _ _
     c.over_leaves-l.result c.searched-t.result c.first_differing-n.result
     (leaves-first c.requires)

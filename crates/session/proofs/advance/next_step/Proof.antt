@@ -11,6 +11,7 @@ use Rattle.session.proofs.CallLaws.{allowed-by}
 use Rattle.session.proofs.AdvanceLaws.{advance-1, advance-limits, advance-17, next-args, handle-args, advance-18}
 use Rattle.session.proofs.AdvanceLaws.{step-found}
 use Rattle.session.proofs.StepLaws.{refused-found}
+use Rattle.formats.specs.declared.refusals.Refusal.TheVariants.{SessionState, LentLength, LentValue}
 use borrow.Author.Rules.{rules}
 use Rattle.session.proofs.advance.next_step.Statement.{statement}
 use Rattle.session.proofs.advance.next_step.Tie as tie
@@ -27,7 +28,7 @@ may a = allowed-by is_running (of a) _ _ a.may_advance-may.ensures a.allowed.ens
 
 returns : tie.Need-returns-then-not-allowed
 returns c =
-    refused-found (of c.before.before) (advance (lent c.before.before)) 1 _ c.refused_step.ensures
+    refused-found (of c.before.before) (advance (lent c.before.before)) SessionState _ c.refused_step.ensures
     (advance-1 (of c.before.before) c.requires (lent c.before.before) _ (may c.before.before) (ap not c.if-not-allowed.true))
 
 rule-buffers-fit-requires : tie.Need-rule_buffers_fit-requires
@@ -36,7 +37,7 @@ rule-buffers-fit-requires c κs =
 
 returns-2 : tie.Need-returns-then-not-rule_buffers_fit
 returns-2 c =
-    refused-found (of c.before.before.before.before.before.before.before) (advance (lent c.before.before.before.before.before.before.before)) 17 _ c.refused_step-then-not-rule_buffers_fit.ensures
+    refused-found (of c.before.before.before.before.before.before.before) (advance (lent c.before.before.before.before.before.before.before)) LentLength _ c.refused_step-then-not-rule_buffers_fit.ensures
     (advance-17 (of c.before.before.before.before.before.before.before) c.requires (lent c.before.before.before.before.before.before.before) _ (may c.before.before.before.before.before.before.before) (ap not c.if-not-allowed.false) _ c.rule_buffers_fit.ensures (ap not c.if-not-rule_buffers_fit.true))
 
 next-part-requires : tie.Need-next_part-requires
@@ -57,7 +58,7 @@ returns-3 c =
 
 returns-4 : tie.Need-returns-in-OutOfRange
 returns-4 c =
-    refused-found (of c.before.before.before.before.before.before.before.before.before.before.before.before.before) (advance (lent c.before.before.before.before.before.before.before.before.before.before.before.before.before)) 18 _ c.refused_step-in-OutOfRange.ensures
+    refused-found (of c.before.before.before.before.before.before.before.before.before.before.before.before.before) (advance (lent c.before.before.before.before.before.before.before.before.before.before.before.before.before)) LentValue _ c.refused_step-in-OutOfRange.ensures
     (advance-18 (of c.before.before.before.before.before.before.before.before.before.before.before.before.before) c.requires (lent c.before.before.before.before.before.before.before.before.before.before.before.before.before) _ (may c.before.before.before.before.before.before.before.before.before.before.before.before.before) (ap not c.if-not-allowed.false) _ c.rule_buffers_fit.ensures (ap not c.if-not-rule_buffers_fit.false) _
     c.next_part.ensures.0 c.next_part.ensures.1 c.in-OutOfRange.is)
 

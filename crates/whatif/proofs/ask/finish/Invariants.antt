@@ -1,4 +1,4 @@
-use Rattle.std.proofs.Common.{◌≡◌, ◌-◌, ◌≤◌}
+use Rattle.std.proofs.Common.{◌≡◌, ◌-◌}
 use Rattle.formats.specs.Inputs.{inputs_of}
 use Rattle.whatif.specs.Asked.{finished_in, most_parts}
 use Rattle.whatif.proofs.ask.finish.Given as goal

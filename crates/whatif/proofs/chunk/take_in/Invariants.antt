@@ -1,4 +1,4 @@
-use Rattle.std.proofs.Common.{length, take, ◌+◌, ◌-◌, ◌*◌, ◌≤◌}
+use Rattle.std.proofs.Common.{take, ◌+◌, ◌*◌, ◌≤◌}
 use Rattle.whatif.specs.Stream.{question_line, Advances}
 use Rattle.whatif.proofs.chunk.take_in.Given as goal
 

@@ -38,4 +38,4 @@ pub returns : goal.returns
 returns c =
     lent-answer _ _ _ _ _ _ c.requires c.read32-n.result c.read32-s.result c.read32-k.result c.read32-n.ensures
     c.read32-s.ensures c.read32-k.ensures c.roots_left-found.result c.roots_left-found.ensures (not-false _ c.if-not-found.false)
-    c.answer_roots.result c.answer_roots.ensures
+    _ c.answer_roots.ensures

@@ -1,20 +1,12 @@
 -- By whether a check fails.
-use Rattle.std.proofs.Common.{◌≡◌, sym, ◌∙◌}
+use Rattle.std.proofs.Common.{sym}
 use Rattle.whole_questions.proofs.AskNumbers.{refused-is, lent_is}
 use Rattle.whole_questions.proofs.AskTheorem.{ask-done}
 use Rattle.whole_questions.proofs.ask.ask.Goals as goal
 
-pub returns-then-no-ne0 : goal.returns-then-no-ne0
-returns-then-no-ne0 c =
-    let g = c.args in
-    ask-done g.plan.now g.rules.now g.node_table.now g.state_table.now g.nodes.now g.labels.now _
-    (refused-is g.plan.now g.rules.now g.node_table.now g.state_table.now g.nodes.now g.labels.now
-    c.check_asked-no.result c.check_asked-no.ensures c.if-no-ne0.true)
+pub returns-in_err-check_asked : goal.returns-in_err-check_asked
+returns-in_err-check_asked c =
+    ask-done _ _ _ _ _ _ _ (refused-is _ _ _ _ _ _ _ _ c.from_residual.ensures.1 c.in_err-check_asked.ensures)
 
 pub returns : goal.returns
-returns c =
-    let z : c.check_asked-no.result ≡ 0 = c.if-no-ne0.false in
-    let g = c.args in
-    ask-done g.plan.now g.rules.now g.node_table.now g.state_table.now g.nodes.now g.labels.now _
-    (lent_is g.plan.now g.rules.now g.node_table.now g.state_table.now g.nodes.now g.labels.now c.answer_lent.result
-    (sym c.check_asked-no.ensures ∙ z) c.answer_lent.ensures)
+returns c = ask-done _ _ _ _ _ _ _ (lent_is _ _ _ _ _ _ _ (sym c.in_ok-check_asked.ensures) c.answer_lent.ensures)

@@ -3,7 +3,6 @@ use mathlib.Core.Path.{refl}
 use Rattle.allowed.proofs.InputsLaws.{parts-given}
 use Rattle.allowed.proofs.clearing.CallLaws.{parts-list}
 use native.Mathlib.Omega.{arith}
-use borrow.Author.Rules.{rules}
 use Rattle.allowed.proofs.clearing.call.write_clearing.Goals as goal
 
 pub write_sets-requires : goal.write_sets-requires

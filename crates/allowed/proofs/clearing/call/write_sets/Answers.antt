@@ -6,7 +6,6 @@ use Rattle.allowed.proofs.StepLaws.{mark-args}
 use Rattle.allowed.specs.inner.clearing.Down.{DownWritten}
 use Rattle.allowed.proofs.clearing.DownLoop.{down-start}
 use native.Mathlib.Omega.{arith}
-use borrow.Author.Rules.{rules}
 use Rattle.allowed.proofs.clearing.call.write_sets.Goals as goal
 
 pub marked_set-c-requires : goal.marked_set-c-requires

@@ -1,7 +1,5 @@
 -- `first_of` meets its contract.
 use Rattle.allowed.proofs.clearing.UpLoop.{first-of-leaf, first-of-inner}
-use native.Mathlib.Omega.{arith}
-use borrow.Author.Rules.{rules}
 use Rattle.allowed.proofs.clearing.cells.first_of.Goals as goal
 
 pub returns-then-kinds-u-eq0 : goal.returns-then-kinds-u-eq0

@@ -4,7 +4,6 @@ use mathlib.Core.Path.{ap, ◌∙◌}
 use lib.ListN.{get_or}
 use Rattle.allowed.proofs.clearing.UpLoop.{state-of-leaf, state-of-inner}
 use native.Mathlib.Omega.{arith}
-use borrow.Author.Rules.{rules}
 use Rattle.allowed.proofs.clearing.cells.state_of.Goals as goal
 
 pub returns-then-kinds-u-eq0 : goal.returns-then-kinds-u-eq0

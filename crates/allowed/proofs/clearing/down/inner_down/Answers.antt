@@ -4,7 +4,6 @@ use mathlib.Core.Path.{sym, subst}
 use lib.ListN.{get_or}
 use Rattle.allowed.specs.inner.Sets.{SetArgs}
 use Rattle.allowed.proofs.clearing.DownLoop.{inner_made, inner-returned}
-use borrow.Author.Rules.{rules}
 use Rattle.allowed.proofs.clearing.down.inner_down.Goals as goal
 
 pub right_set-r-requires : goal.right_set-r-requires

@@ -5,7 +5,6 @@ use Rattle.allowed.specs.inner.clearing.Cells.{first_node_in}
 use Rattle.allowed.specs.inner.clearing.Up.{PairArgs}
 use Rattle.allowed.proofs.clearing.UpLoop.{up-made}
 use native.Mathlib.Omega.{arith}
-use borrow.Author.Rules.{rules}
 use Rattle.allowed.proofs.clearing.up.inner_up.Goals as goal
 
 pub pair_cell-x-requires : goal.pair_cell-x-requires

@@ -1,7 +1,6 @@
 -- `node_up` meets its contract.
 use mathlib.Core.Path.{◌∙◌}
 use Rattle.allowed.proofs.clearing.UpLoop.{leaf-case, inner-case}
-use borrow.Author.Rules.{rules}
 use Rattle.allowed.proofs.clearing.up.node_up.Goals as goal
 
 pub returns-then-kinds-v-eq0 : goal.returns-then-kinds-v-eq0

@@ -1,6 +1,5 @@
 -- `pair_cell` meets its contract.
 use Rattle.allowed.proofs.clearing.UpLoop.{pair_made}
-use borrow.Author.Rules.{rules}
 use Rattle.allowed.proofs.clearing.up.pair_cell.Goals as goal
 
 pub rule-to-requires : goal.rule-to-requires

@@ -4,7 +4,6 @@ use mathlib.Core.Path.{ap}
 use lib.ListN.{get_or, set}
 use Rattle.allowed.specs.inner.masks.Root.{root_set}
 use native.Mathlib.Omega.{arith}
-use borrow.Author.Rules.{rules}
 use Rattle.allowed.proofs.masks.call.set_root.Goals as goal
 
 pub overflow_mul-cells : goal.overflow_mul-cells

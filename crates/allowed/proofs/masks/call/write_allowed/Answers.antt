@@ -3,7 +3,6 @@ use mathlib.Core.Path.{refl}
 use Rattle.allowed.proofs.InputsLaws.{parts-given}
 use Rattle.allowed.proofs.masks.CallLaws.{parts-list}
 use native.Mathlib.Omega.{arith}
-use borrow.Author.Rules.{rules}
 use Rattle.allowed.proofs.masks.call.write_allowed.Goals as goal
 
 pub write_parts-requires : goal.write_parts-requires

@@ -2,7 +2,6 @@
 use Rattle.trees.proofs.PostorderLaws.{some_node}
 use Rattle.allowed.proofs.masks.CallLaws.{root-args, ready}
 use native.Mathlib.Omega.{arith}
-use borrow.Author.Rules.{rules}
 use Rattle.allowed.proofs.masks.call.write_parts.Goals as goal
 
 pub overflow_sub-kinds : goal.overflow_sub-kinds

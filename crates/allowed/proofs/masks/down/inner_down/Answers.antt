@@ -6,7 +6,6 @@ use lib.ListN.{get_or, set, length-set}
 use Rattle.allowed.specs.inner.masks.Down.{inner_down}
 use Rattle.allowed.specs.inner.masks.Up.{left_within}
 use native.Mathlib.Omega.{arith}
-use borrow.Author.Rules.{rules}
 use Rattle.allowed.proofs.masks.down.inner_down.Goals as goal
 
 -- three stores of equal numbers

@@ -2,7 +2,6 @@
 use mathlib.Core.Path.{ap}
 use lib.ListN.{set}
 use Rattle.allowed.specs.inner.masks.Down.{leaf_down}
-use borrow.Author.Rules.{rules}
 use Rattle.allowed.proofs.masks.down.leaf_down.Goals as goal
 
 pub returns : goal.returns

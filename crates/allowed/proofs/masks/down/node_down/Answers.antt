@@ -1,8 +1,6 @@
 -- `node_down` meets its contract.
 use mathlib.Core.Path.{◌∙◌}
 use Rattle.allowed.proofs.masks.DownLoop.{leaf-case, inner-case}
-use native.Mathlib.Omega.{arith}
-use borrow.Author.Rules.{rules}
 use Rattle.allowed.proofs.masks.down.node_down.Goals as goal
 
 pub returns-then-kinds-v-eq0 : goal.returns-then-kinds-v-eq0

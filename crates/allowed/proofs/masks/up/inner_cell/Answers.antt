@@ -1,7 +1,6 @@
 -- `inner_cell` meets its contract.
 use Rattle.allowed.specs.inner.masks.Up.{inner_cell}
 use native.Mathlib.Omega.{arith}
-use borrow.Author.Rules.{rules}
 use Rattle.allowed.proofs.masks.up.inner_cell.Goals as goal
 
 pub returns : goal.returns

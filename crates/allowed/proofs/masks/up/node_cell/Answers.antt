@@ -3,7 +3,6 @@ use mathlib.Core.Path.{◌∙◌}
 use lib.ListN.{get_or}
 use Rattle.allowed.proofs.masks.UpLoop.{leaf-cell, inner-cell}
 use native.Mathlib.Omega.{arith}
-use borrow.Author.Rules.{rules}
 use Rattle.allowed.proofs.masks.up.node_cell.Goals as goal
 
 pub overflow_cast-result : goal.overflow_cast-result

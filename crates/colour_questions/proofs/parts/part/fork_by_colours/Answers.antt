@@ -8,8 +8,8 @@ use Rattle.colour_questions.proofs.parts.ForkCases.{fork-left, fork-right, fork_
 use native.Mathlib.Omega.{arith}
 use Rattle.colour_questions.proofs.parts.part.fork_by_colours.Goals as goal
 
-pub side_by_colours-left-requires : goal.side_by_colours-left-requires
-side_by_colours-left-requires c =
+pub side_by_colours-requires : goal.side_by_colours-requires
+side_by_colours-requires c =
     let g = c.args in
     record {
       reads = c.requires.reads;
@@ -29,8 +29,8 @@ side_by_colours-left-requires c =
           );
     }
 
-pub side_by_colours-right-requires : goal.side_by_colours-right-requires
-side_by_colours-right-requires c =
+pub side_by_colours-requires-2 : goal.side_by_colours-requires-2
+side_by_colours-requires-2 c =
     let g = c.args in
     record {
       reads = c.requires.reads;
@@ -55,46 +55,46 @@ side_by_colours-right-requires c =
 pub returns-then-s-q : goal.returns-then-s-q
 returns-then-s-q c =
     fork_rule _ _ _ _ _ _ _ _ _ _ _ c.requires.same c.last_below-i.ensures c.last_below-j.ensures
-    _ c.side_by_colours-left.ensures c.in-State.x c.in-State.b c.in-State.c c.in-State.is _
-    c.side_by_colours-right.ensures
-    c.in-State-right.y c.in-State-right.d c.in-State-right.e c.in-State-right.is _ c.rule_on-q.ensures c.if-s-q.true
+    _ c.side_by_colours.ensures c.in_ok-left.left.state c.in_ok-left.left.drops c.in_ok-left.left.links c.in_ok-left.was _
+    c.side_by_colours-2.ensures
+    c.in_ok-right.right.state c.in_ok-right.right.drops c.in_ok-right.right.links c.in_ok-right.was _ c.rule_on-q.ensures c.if-s-q.true
 
-pub overflow_add-result-in-State-right : goal.overflow_add-result-in-State-right
-overflow_add-result-in-State-right c =
-    let falls : c.in-State.b + c.in-State-right.d ≤ 60 =
+pub overflow_add-result : goal.overflow_add-result
+overflow_add-result c =
+    let falls : c.in_ok-left.left.drops + c.in_ok-right.right.drops ≤ 60 =
     (let g = c.args in
     fork-falls (sides_of g.n g.s g.m g.state_table.now g.numbers.now g.copies.now) g.k g.inner.now
     g.node_table.now g.earlier.now g.states.now g.v g.l g.a c.last_below-i.result
     c.last_below-j.result c.requires.same c.last_below-i.ensures c.last_below-j.ensures
-    c.side_by_colours-left.result c.side_by_colours-left.ensures
-    c.in-State.x c.in-State.b c.in-State.c c.in-State.is c.side_by_colours-right.result
-    c.side_by_colours-right.ensures
-    c.in-State-right.y c.in-State-right.d c.in-State-right.e c.in-State-right.is c.rule_on-q.result c.rule_on-q.ensures) in
+    c.side_by_colours.result c.side_by_colours.ensures
+    c.in_ok-left.left.state c.in_ok-left.left.drops c.in_ok-left.left.links c.in_ok-left.was c.side_by_colours-2.result
+    c.side_by_colours-2.ensures
+    c.in_ok-right.right.state c.in_ok-right.right.drops c.in_ok-right.right.links c.in_ok-right.was c.rule_on-q.result c.rule_on-q.ensures) in
     let g = c.args in
     let f = fork-few (sides_of g.n g.s g.m g.state_table.now g.numbers.now g.copies.now) g.k g.inner.now
     g.node_table.now g.earlier.now g.states.now g.v g.l g.a c.last_below-i.result
     c.last_below-j.result c.requires.same c.last_below-i.ensures c.last_below-j.ensures
-    c.side_by_colours-left.result c.side_by_colours-left.ensures
-    c.in-State.x c.in-State.b c.in-State.c c.in-State.is c.side_by_colours-right.result
-    c.side_by_colours-right.ensures
-    c.in-State-right.y c.in-State-right.d c.in-State-right.e c.in-State-right.is c.rule_on-q.result
+    c.side_by_colours.result c.side_by_colours.ensures
+    c.in_ok-left.left.state c.in_ok-left.left.drops c.in_ok-left.left.links c.in_ok-left.was c.side_by_colours-2.result
+    c.side_by_colours-2.ensures
+    c.in_ok-right.right.state c.in_ok-right.right.drops c.in_ok-right.right.links c.in_ok-right.was c.rule_on-q.result
     c.rule_on-q.ensures in
     omega (arith, falls, f)
 
-pub returns-in-NoState : goal.returns-in-NoState
-returns-in-NoState c =
-    fork-left _ _ _ _ _ _ _ _ _ _ _ c.requires.same c.last_below-i.ensures c.last_below-j.ensures
-    _ c.side_by_colours-left.ensures c.in-NoState.is
+pub returns-in_err-left : goal.returns-in_err-left
+returns-in_err-left c =
+    rw c.from_residual.ensures (fork-left _ _ _ _ _ _ _ _ _ _ _ c.requires.same c.last_below-i.ensures
+    c.last_below-j.ensures _ c.side_by_colours.ensures c.in_err-left.was)
 
-pub returns-in-NoState-right : goal.returns-in-NoState-right
-returns-in-NoState-right c =
-    fork-right _ _ _ _ _ _ _ _ _ _ _ c.requires.same c.last_below-i.ensures c.last_below-j.ensures
-    _ c.side_by_colours-left.ensures c.in-State.x c.in-State.b c.in-State.c c.in-State.is _
-    c.side_by_colours-right.ensures c.in-NoState-right.is
+pub returns-in_err-right : goal.returns-in_err-right
+returns-in_err-right c =
+    rw c.from_residual-in_err-right.ensures (fork-right _ _ _ _ _ _ _ _ _ _ _ c.requires.same c.last_below-i.ensures
+    c.last_below-j.ensures _ c.side_by_colours.ensures c.in_ok-left.left.state c.in_ok-left.left.drops
+    c.in_ok-left.left.links c.in_ok-left.was _ c.side_by_colours-2.ensures c.in_err-right.was)
 
-pub returns-else-s-q : goal.returns-else-s-q
-returns-else-s-q c =
+pub returns : goal.returns
+returns c =
     fork-made _ _ _ _ _ _ _ _ _ _ _ c.requires.same c.last_below-i.ensures c.last_below-j.ensures
-    _ c.side_by_colours-left.ensures c.in-State.x c.in-State.b c.in-State.c c.in-State.is _
-    c.side_by_colours-right.ensures
-    c.in-State-right.y c.in-State-right.d c.in-State-right.e c.in-State-right.is _ c.rule_on-q.ensures c.if-s-q.false
+    _ c.side_by_colours.ensures c.in_ok-left.left.state c.in_ok-left.left.drops c.in_ok-left.left.links c.in_ok-left.was _
+    c.side_by_colours-2.ensures
+    c.in_ok-right.right.state c.in_ok-right.right.drops c.in_ok-right.right.links c.in_ok-right.was _ c.rule_on-q.ensures c.if-s-q.false

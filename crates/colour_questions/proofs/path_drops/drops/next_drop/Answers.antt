@@ -21,23 +21,23 @@ size_at-d-requires c =
       gives-node g.n g.table.now g.c g.to g.l c.seen_at.result c.seen_at.ensures.0
           c.if-seen_at-to.false
           c.lowest_at-v.result c.lowest_at-v.ensures c.if-n-v.false c.search.result c.search.ensures
-          c.in-Found.x c.in-Found.links c.in-Found.is,
+          c.in-Some.found c.in-Some.is,
     )
 
 pub returns-then-c-d : goal.returns-then-c-d
 returns-then-c-d c =
     gives-high _ _ _ _ _ _ c.seen_at.ensures.0 c.if-seen_at-to.false
     _ c.lowest_at-v.ensures c.if-n-v.false _ c.search.ensures
-    c.in-Found.x c.in-Found.links c.in-Found.is _ c.size_at-d.ensures c.if-c-d.true
+    c.in-Some.found c.in-Some.is _ c.size_at-d.ensures c.if-c-d.true
 
-pub returns-in-NotFound : goal.returns-in-NotFound
-returns-in-NotFound c =
+pub returns-in-None : goal.returns-in-None
+returns-in-None c =
     gives-stuck _ _ _ _ _ _ c.seen_at.ensures.0 c.if-seen_at-to.false
-    _ c.lowest_at-v.ensures c.if-n-v.false _ c.search.ensures c.in-NotFound.is
+    _ c.lowest_at-v.ensures c.if-n-v.false _ c.search.ensures c.in-None.is
 
 pub returns-else-c-d : goal.returns-else-c-d
 returns-else-c-d c =
     gives-fell _ _ _ _ _ _ c.seen_at.ensures.0 c.if-seen_at-to.false
     _ c.lowest_at-v.ensures c.if-n-v.false _ c.search.ensures
-    c.in-Found.x c.in-Found.links c.in-Found.is _ c.size_at-d.ensures c.if-c-d.false
+    c.in-Some.found c.in-Some.is _ c.size_at-d.ensures c.if-c-d.false
     (omega (arith, c.type_inv.table (c.lowest_at-v.result * 4 + 2)))

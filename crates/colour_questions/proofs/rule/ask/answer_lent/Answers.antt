@@ -1,12 +1,19 @@
--- `answer_lent` meets its contract.
-use mathlib.Core.Path.{sym}
+-- The headers give N, S and K; the roots that are left go to the answer.
+use Rattle.std.proofs.Common.{sym, arith}
 use lib.Seq.{length-take-le}
 use borrow.Author.Tests.{not-true, not-false}
-use Rattle.formats.proofs.BufferLaws.{Headers}
 use Rattle.colour_questions.proofs.rule.AskChecks.{passed_are}
 use Rattle.colour_questions.proofs.rule.AnswerLaws.{lent-passed, lent-lost, rooted-room, root-args, lent-answer}
-use native.Mathlib.Omega.{arith}
 use Rattle.colour_questions.proofs.rule.ask.answer_lent.Goals as goal
+
+pub read32-n-requires : goal.read32-n-requires
+read32-n-requires c = omega (arith, (passed_are _ _ _ _ _ _ _ _ c.requires.passed).fits.headed.headers.plan-long)
+
+pub read32-s-requires : goal.read32-s-requires
+read32-s-requires c = omega (arith, (passed_are _ _ _ _ _ _ _ _ c.requires.passed).fits.headed.headers.table-long)
+
+pub read32-k-requires : goal.read32-k-requires
+read32-k-requires c = omega (arith, (passed_are _ _ _ _ _ _ _ _ c.requires.passed).fits.headed.headers.table-long)
 
 pub roots_left-found-requires : goal.roots_left-found-requires
 roots_left-found-requires c =
@@ -47,21 +54,3 @@ returns c = (
       _ c.answer_roots.ensures.0,
   c.answer_roots.ensures.1,
 )
-
-pub read32-n-requires : goal.read32-n-requires
-read32-n-requires c =
-    let heads : let g = c.args in Headers 20 g.plan.now g.rules.now =
-    ((passed_are _ _ _ _ _ _ _ _ c.requires.passed).fits.headed.headers) in
-    omega (arith, heads.plan-long)
-
-pub read32-s-requires : goal.read32-s-requires
-read32-s-requires c =
-    let heads : let g = c.args in Headers 20 g.plan.now g.rules.now =
-    ((passed_are _ _ _ _ _ _ _ _ c.requires.passed).fits.headed.headers) in
-    omega (arith, heads.table-long)
-
-pub read32-k-requires : goal.read32-k-requires
-read32-k-requires c =
-    let heads : let g = c.args in Headers 20 g.plan.now g.rules.now =
-    ((passed_are _ _ _ _ _ _ _ _ c.requires.passed).fits.headed.headers) in
-    omega (arith, heads.table-long)

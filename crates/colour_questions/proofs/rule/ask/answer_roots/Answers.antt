@@ -140,44 +140,44 @@ pub overflow_mul-yes : goal.overflow_mul-yes
 overflow_mul-yes c =
     omega (arith, runs_by _ _ _ _ _ _ _ _ _ _ _ _ c.requires)
 
-pub overflow_mul-yes-in-State : goal.overflow_mul-yes-in-State
-overflow_mul-yes-in-State c =
+pub overflow_mul-yes-in-Some : goal.overflow_mul-yes-in-Some
+overflow_mul-yes-in-Some c =
     omega (arith, runs_by _ _ _ _ _ _ _ _ _ _ _ _ c.requires)
 
-pub overflow_add-yes-in-State : goal.overflow_add-yes-in-State
-overflow_add-yes-in-State c =
+pub overflow_add-yes-in-Some : goal.overflow_add-yes-in-Some
+overflow_add-yes-in-Some c =
     omega (arith, runs_by _ _ _ _ _ _ _ _ _ _ _ _ c.requires)
 
-pub overflow_add-yes-in-State-2 : goal.overflow_add-yes-in-State-2
-overflow_add-yes-in-State-2 c =
+pub overflow_add-yes-in-Some-2 : goal.overflow_add-yes-in-Some-2
+overflow_add-yes-in-Some-2 c =
     let few : let g = c.args in
-    Few g.s (length g.roots.now * 60) c.in-State.q c.in-State.drops c.in-State.links =
+    Few g.s (length g.roots.now * 60) c.in-Some.trial.state c.in-Some.trial.drops c.in-Some.trial.links =
     (roots_few _ _ _ _ _ _ _ _ _ _ _ _ c.requires
-    _ c.all_by_colours-t.ensures c.in-State.q c.in-State.drops c.in-State.links c.in-State.is) in
+    _ c.all_by_colours-t.ensures c.in-Some.trial.state c.in-Some.trial.drops c.in-Some.trial.links c.in-Some.is) in
     omega (arith, few.state, c.requires.states, runs_by _ _ _ _ _ _ _ _ _ _ _ _ c.requires)
 
 pub bounds-rules-k : goal.bounds-rules-k
 bounds-rules-k c =
     let few : let g = c.args in
-    Few g.s (length g.roots.now * 60) c.in-State.q c.in-State.drops c.in-State.links =
+    Few g.s (length g.roots.now * 60) c.in-Some.trial.state c.in-Some.trial.drops c.in-Some.trial.links =
     (roots_few _ _ _ _ _ _ _ _ _ _ _ _ c.requires
-    _ c.all_by_colours-t.ensures c.in-State.q c.in-State.drops c.in-State.links c.in-State.is) in
+    _ c.all_by_colours-t.ensures c.in-Some.trial.state c.in-Some.trial.drops c.in-Some.trial.links c.in-Some.is) in
     omega (arith, few.state, (runs_by _ _ _ _ _ _ _ _ _ _ _ _ c.requires).lengths.table_is)
 
-pub returns-in-NoState : goal.returns-in-NoState
-returns-in-NoState c = (
+pub returns-in-None : goal.returns-in-None
+returns-in-None c = (
   roots-lost _ _ _ _ _ _ _ _ _ _ _ _ c.requires
-      _ c.all_by_colours-t.ensures c.in-NoState.is,
+      _ c.all_by_colours-t.ensures c.in-None.is,
   tt,
 )
 
-pub returns-in-State : goal.returns-in-State
-returns-in-State c =
+pub returns-in-Some : goal.returns-in-Some
+returns-in-Some c =
     let few : let g = c.args in
-    Few g.s (length g.roots.now * 60) c.in-State.q c.in-State.drops c.in-State.links =
+    Few g.s (length g.roots.now * 60) c.in-Some.trial.state c.in-Some.trial.drops c.in-Some.trial.links =
     (roots_few _ _ _ _ _ _ _ _ _ _ _ _ c.requires
-    _ c.all_by_colours-t.ensures c.in-State.q c.in-State.drops c.in-State.links c.in-State.is) in (
+    _ c.all_by_colours-t.ensures c.in-Some.trial.state c.in-Some.trial.drops c.in-Some.trial.links c.in-Some.is) in (
       roots-answer _ _ _ _ _ _ _ _ _ _ _ _ c.requires
-          _ c.all_by_colours-t.ensures c.in-State.q c.in-State.drops c.in-State.links c.in-State.is,
+          _ c.all_by_colours-t.ensures c.in-Some.trial.state c.in-Some.trial.drops c.in-Some.trial.links c.in-Some.is,
       (few.falls, few.few),
     )

@@ -1,23 +1,15 @@
 -- `ask_rule_colours` meets its contract.
-use mathlib.Core.Path.{◌≡◌, sym, ◌∙◌}
-use Rattle.colour_questions.proofs.rule.AskNumbers.{refused-is, lent_is}
+use Rattle.std.proofs.Common.{sym}
+use Rattle.colour_questions.proofs.rule.AskNumbers.{refused-is, refused-few, lent_is}
 use Rattle.colour_questions.proofs.rule.AskTheorem.{ask-done}
 use Rattle.colour_questions.proofs.rule.ask.ask_rule_colours.Goals as goal
 
-pub returns-then-no-ne0 : goal.returns-then-no-ne0
-returns-then-no-ne0 c =
-    let g = c.args in
-    ask-done g.plan.now g.rules.now g.node_table.now g.state_table.now g.numbers.now g.bytes.now
-    g.nodes.now g.labels.now _
-    (refused-is g.plan.now g.rules.now g.node_table.now g.state_table.now g.numbers.now g.bytes.now
-    g.nodes.now g.labels.now c.check_asked-no.result c.check_asked-no.ensures c.if-no-ne0.true) tt
+pub returns-in_err-check_asked : goal.returns-in_err-check_asked
+returns-in_err-check_asked c =
+    ask-done _ _ _ _ _ _ _ _ _ (refused-is _ _ _ _ _ _ _ _ _ _ c.from_residual.ensures.1 c.in_err-check_asked.ensures)
+    (refused-few _ _ c.from_residual.ensures.1)
 
 pub returns : goal.returns
 returns c =
-    let z : c.check_asked-no.result ≡ 0 = c.if-no-ne0.false in
-    let g = c.args in
-    ask-done g.plan.now g.rules.now g.node_table.now g.state_table.now g.numbers.now g.bytes.now
-    g.nodes.now g.labels.now _
-    (lent_is g.plan.now g.rules.now g.node_table.now g.state_table.now g.numbers.now g.bytes.now
-    g.nodes.now g.labels.now c.answer_lent.result (sym c.check_asked-no.ensures
-    ∙ z) c.answer_lent.ensures.0) c.answer_lent.ensures.1
+    ask-done _ _ _ _ _ _ _ _ _ (lent_is _ _ _ _ _ _ _ _ _ (sym c.in_ok-check_asked.ensures) c.answer_lent.ensures.0)
+    c.answer_lent.ensures.1

@@ -1,72 +1,27 @@
 -- `build::build_branch_colours` meets its promise: the first check that fails, or both buffers written.
-use mathlib.Core.Path.{◌≡◌, sym, ◌∙◌}
-use lib.ListN.{length}
-use Rattle.formats.specs.Checks.{first_no}
-use Rattle.colour_tables.specs.branch.Build.{branch_colour_checks, built_colour_numbers, built_copies}
-use Rattle.tables.proofs.BuildLaws.{build-refused, build-done}
-use Rattle.colour_tables.proofs.branch.BuildLaws.{Accepted, accepted, part-args}
+use mathlib.Core.Path.{sym}
 use native.Mathlib.Omega.{arith}
+use Rattle.tables.proofs.BuildLaws.{build-refused, build-done}
+use Rattle.colour_tables.proofs.branch.BuildLaws.{accepted, part-args}
 use Rattle.colour_tables.proofs.branch.build.build_branch_colours.Goals as goal
 
-pub returns-then-no-ne0 : goal.returns-then-no-ne0
-returns-then-no-ne0 c =
-    let g = c.args in
-    let r = c.check_branch_colours-no in
-    build-refused (built_colour_numbers g.plan.now g.branch.now) (built_copies g.plan.now g.branch.now)
-    g.numbers.now
-    g.bytes.now _
-    r.result r.ensures c.if-no-ne0.true
+pub returns-in_err-check_branch_colours : goal.returns-in_err-check_branch_colours
+returns-in_err-check_branch_colours c = build-refused _ _ _ _ _ _ _ c.from_residual.ensures.1 c.in_err-check_branch_colours.ensures
+
+pub read32-n-requires : goal.read32-n-requires
+read32-n-requires c = omega (arith, (accepted _ _ _ _ (sym c.in_ok-check_branch_colours.ensures)).0.long)
+
+pub read32-s-requires : goal.read32-s-requires
+read32-s-requires c = omega (arith, (accepted _ _ _ _ (sym c.in_ok-check_branch_colours.ensures)).1.long)
+
+pub read32-k-requires : goal.read32-k-requires
+read32-k-requires c = omega (arith, (accepted _ _ _ _ (sym c.in_ok-check_branch_colours.ensures)).1.long)
 
 pub write_branch_colours-requires : goal.write_branch_colours-requires
 write_branch_colours-requires c =
-    let passed : let g = c.args in
-    first_no (branch_colour_checks g.plan.now g.branch.now (length g.numbers.now) (length g.bytes.now)) ≡ 0 =
-    (sym c.check_branch_colours-no.ensures ∙ c.if-no-ne0.false) in
-    let g = c.args in
-    part-args g.plan.now g.branch.now (length g.numbers.now) (length g.bytes.now) passed _ _ _
-    c.read32-n.ensures c.read32-s.ensures
-    c.read32-k.ensures
+    part-args _ _ _ _ (sym c.in_ok-check_branch_colours.ensures) _ _ _ c.read32-n.ensures c.read32-s.ensures c.read32-k.ensures
 
 pub returns : goal.returns
 returns c =
-    let passed : let g = c.args in
-    first_no (branch_colour_checks g.plan.now g.branch.now (length g.numbers.now) (length g.bytes.now)) ≡ 0 =
-    (sym c.check_branch_colours-no.ensures ∙ c.if-no-ne0.false) in
-    let g = c.args in
-    build-done (built_colour_numbers g.plan.now g.branch.now) (built_copies g.plan.now g.branch.now)
-    g.numbers.now g.bytes.now _
-    c.write_branch_colours.new.numbers c.write_branch_colours.new.bytes passed
-    c.write_branch_colours.ensures.numbers_are c.write_branch_colours.ensures.bytes_are
-
-pub read32-n-requires : goal.read32-n-requires
-read32-n-requires c =
-    let passed : let g = c.args in
-    first_no (branch_colour_checks g.plan.now g.branch.now (length g.numbers.now) (length g.bytes.now)) ≡ 0 =
-    (sym c.check_branch_colours-no.ensures ∙ c.if-no-ne0.false) in
-    let accepts : let g = c.args in
-    Accepted g.plan.now g.branch.now (length g.numbers.now) (length g.bytes.now) =
-    (let g = c.args in
-    accepted g.plan.now g.branch.now (length g.numbers.now) (length g.bytes.now) passed) in
-    omega (arith, accepts.0.long)
-
-pub read32-s-requires : goal.read32-s-requires
-read32-s-requires c =
-    let passed : let g = c.args in
-    first_no (branch_colour_checks g.plan.now g.branch.now (length g.numbers.now) (length g.bytes.now)) ≡ 0 =
-    (sym c.check_branch_colours-no.ensures ∙ c.if-no-ne0.false) in
-    let accepts : let g = c.args in
-    Accepted g.plan.now g.branch.now (length g.numbers.now) (length g.bytes.now) =
-    (let g = c.args in
-    accepted g.plan.now g.branch.now (length g.numbers.now) (length g.bytes.now) passed) in
-    omega (arith, accepts.1.long)
-
-pub read32-k-requires : goal.read32-k-requires
-read32-k-requires c =
-    let passed : let g = c.args in
-    first_no (branch_colour_checks g.plan.now g.branch.now (length g.numbers.now) (length g.bytes.now)) ≡ 0 =
-    (sym c.check_branch_colours-no.ensures ∙ c.if-no-ne0.false) in
-    let accepts : let g = c.args in
-    Accepted g.plan.now g.branch.now (length g.numbers.now) (length g.bytes.now) =
-    (let g = c.args in
-    accepted g.plan.now g.branch.now (length g.numbers.now) (length g.bytes.now) passed) in
-    omega (arith, accepts.1.long)
+    build-done _ _ _ _ _ _ _ (sym c.in_ok-check_branch_colours.ensures) c.write_branch_colours.ensures.numbers_are
+    c.write_branch_colours.ensures.bytes_are

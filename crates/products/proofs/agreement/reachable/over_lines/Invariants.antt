@@ -4,4 +4,4 @@ use Rattle.products.proofs.agreement.reachable.over_lines.Given as goal
 
 abbrev pub invariant-loop-j : goal.invariant-loop-j
 invariant-loop-j l =
-    LinesLoop l.first l.second l.marks1 l.marks2 l.s1 l.s2 l.k l.n l.initial.t l.t l.j
+    LinesLoop l.first l.second l.marks1 l.marks2 l.s1 l.s2 l.k l.n l.fn.t l.t l.j

@@ -11,14 +11,14 @@ returns-then-any_busy c =
     one-busy _ _ (good_length (e_struct T.the_type T'.the_laws T'.the_copy) 8 c.args.all _ c.well_formed.0)
     (sym c.any_busy.ensures ∙ c.if-any_busy.true)
 
-pub returns-in-Accepted : goal.returns-in-Accepted
-returns-in-Accepted c =
+pub returns-in-Ok : goal.returns-in-Ok
+returns-in-Ok c =
     cleared _ _ _ (good_length (e_struct T.the_type T'.the_laws T'.the_copy) 8 c.args.all _ c.well_formed.0)
     (sym c.any_busy.ensures ∙ c.if-any_busy.false) _ _ _ _
-    c.load-out.ensures c.in-Accepted.is
+    c.load-out.ensures _ c.in-Ok.is
 
-pub returns-in-Refused : goal.returns-in-Refused
-returns-in-Refused c =
+pub returns-in-Err : goal.returns-in-Err
+returns-in-Err c =
     turned_down _ _ _ (good_length (e_struct T.the_type T'.the_laws T'.the_copy) 8 c.args.all _ c.well_formed.0)
     (sym c.any_busy.ensures ∙ c.if-any_busy.false) _ _ _ _
-    c.load-out.ensures _ c.in-Refused.is
+    c.load-out.ensures _ c.in-Err.is

@@ -27,17 +27,17 @@ returns c =
 loaded-from-requires : tie.Need-loaded_from-session-requires
 loaded-from-requires c κs =
     load-headers c.args.self (shaped c.args.self c.well_formed.0) (lent c.before.before.before.before.before.before.before.before.before) _ (may c.before.before.before.before.before.before.before.before.before) (ap not c.if-not-allowed.false) _ _ _
-    c.build_tables.ensures c.in-Built.is
+    c.build_tables.ensures _ c.in-Ok.is
 
-returns-2 : tie.Need-returns-in-Built
+returns-2 : tie.Need-returns-in-Ok
 returns-2 c =
     load-built c.args.self (shaped c.args.self c.well_formed.0) (lent c.before.before.before.before.before.before.before.before.before.before) _ (may c.before.before.before.before.before.before.before.before.before.before) (ap not c.if-not-allowed.false) _ _ _
-    c.build_tables.ensures c.in-Built.is _ c.loaded_from-session.ensures
+    c.build_tables.ensures _ c.in-Ok.is _ c.loaded_from-session.ensures
 
-returns-3 : tie.Need-returns-in-Refused
+returns-3 : tie.Need-returns-in-Err
 returns-3 c =
     load-refused c.args.self (shaped c.args.self c.well_formed.0) (lent c.before.before.before.before.before.before.before.before.before) _ (may c.before.before.before.before.before.before.before.before.before) (ap not c.if-not-allowed.false) _ _ _
-    c.build_tables.ensures _ c.in-Refused.is
+    c.build_tables.ensures _ c.in-Err.is
 
 pub load_spec : {M : Type 1} → statement M
 load_spec =

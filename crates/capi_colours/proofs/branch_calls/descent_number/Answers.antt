@@ -1,0 +1,23 @@
+-- A branch question's answer by colours: its four values, or a refusal.
+use Rattle.std.proofs.Common.{refl}
+use Rattle.capi_colours.proofs.branch_calls.descent_number.Goals as goal
+
+pub returns-in-Ok : goal.returns-in-Ok
+returns-in-Ok c =
+    rw c.in-Ok.is record {
+      result = refl;
+      state_answer = refl;
+      yes_answer = c.bit.ensures;
+      drops_answer = refl;
+      links_answer = refl;
+    }
+
+pub returns-in-Err : goal.returns-in-Err
+returns-in-Err c =
+    rw c.in-Err.is record {
+      result = c.number.ensures;
+      state_answer = refl;
+      yes_answer = refl;
+      drops_answer = refl;
+      links_answer = refl;
+    }
