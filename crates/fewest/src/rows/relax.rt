@@ -1,24 +1,12 @@
 // An inner node's row, way by way: the cost of a state is lowered to that of each way into it.
-ghost use Rattle.std.specs.Prelude.{◌≡◌, cond, ◌≤◌, ◌<◌};
+ghost use Rattle.std.specs.Prelude.{◌≡◌, ◌≤◌, ◌<◌};
 ghost use Rattle.state_sets.specs.StateSets.{member};
-ghost use Rattle.fewest.specs.Least.{no_way_out};
 ghost use Rattle.fewest.specs.inner.Images.{ImagesFit};
 ghost use Rattle.fewest.specs.inner.Rows.{change_of, labels_cost, right_cost, left_cost, Relaxed, CostRow, RowArgs, RightArgs, LeftArgs};
 
 use crate::rows::NO_WAY;
 use crate::rows::images::relax_image;
 use formats::rules::rule;
-
-// c where x is in the set, else "no way".
-pub fn cost_in(set: u64, x: usize, c: u32) -> u32
-    requires { x < 64 }
-    ensures { result ≡ cond (member set x) c no_way_out }
-{
-    if (set >> x) & 1 == 1 {
-        return c;
-    }
-    NO_WAY
-}
 
 // The cost of label b at a node of label a that may take the labels of the set.
 pub fn change_cost(a: usize, b: usize, labels: u64) -> u32
@@ -28,7 +16,10 @@ pub fn change_cost(a: usize, b: usize, labels: u64) -> u32
     if a == b {
         return 0;
     }
-    cost_in(labels, b, 1)
+    if (labels >> b) & 1 == 1 {
+        return 1;
+    }
+    NO_WAY
 }
 
 // Lowers the row by every label, over states p and q that cost `base` together.
