@@ -42,7 +42,12 @@ fn both_match(
 }
 
 // The full check: 2 to 11, then whether the tables are what the build writes. Nothing is written.
-pub fn check_tables(plan: &[u8], rules: &[u8], node_table: &[u16], state_table: &[u8]) -> Result<bool, Refusal>
+pub fn check_tables(
+    plan: &[u8],
+    rules: &[u8],
+    node_table: &[u16],
+    state_table: &[u8],
+) -> Result<bool, Refusal>
     ensures { CheckDone (first_no
         (build_checks plan.now rules.now (length node_table.now)
         (length state_table.now))) (built_node_table plan.now)
