@@ -1,4 +1,3 @@
-pub mod allowed_calls
 pub mod branch_calls
 pub mod choice_calls
 pub mod list_calls

@@ -29,7 +29,7 @@ use Rattle.formats.proofs.PlanLaws.{kinds-plan_tree, labels-plan_tree, size-plan
 use Rattle.formats.proofs.InputLaws.{rule-table-passes}
 use Rattle.state_sets.specs.StateSets.{member}
 use Rattle.runs.specs.FreshRun.{root_accepted}
-use Rattle.capi.specs.allowed_calls.AllowedExported.{AllowedExported}
+use Rattle.allowed.specs.Answers.{AllowedDone}
 use Rattle.capi.proofs.allowed_calls.Theorems.{mask-is-the-run}
 use Rattle.fewest.specs.Relabelling.{differences, permitted, Relabelling}
 use Rattle.fewest.proofs.costs.ListLaws.{differences-changed, permitted-set}
@@ -48,7 +48,7 @@ first_below n x e = ltb-true x n (and_left (ltb x n) true e)
 
 module _ (p r may : List ℕ) (want : ℕ) (w : want ≡ 0 → ⊥) (work nodes labels : List ℕ) (least count : ℕ) (work' nodes' labels' : List ℕ)
     (least' count' : ℕ) (T : FewestTold p r may want work nodes labels least count 0 work' nodes' labels' least' count')
-    (before after : List ℕ) (D : AllowedExported p r before 0 after) where
+    (before after : List ℕ) (D : AllowedDone p r before 0 after) where
   passes : PlanPasses p × RulesPass r × (all_below (label_count r) (labels_within p) ≡ true)
   passes = rule-table-passes p r (table-yes p r (length may) (length work) (length nodes) (length labels) (sym T.number))
 

@@ -24,13 +24,12 @@ use Rattle.state_sets.specs.StateSets.{member}
 use Rattle.runs.specs.FreshRun.{root_accepted}
 use Rattle.allowed.specs.Allowed.{allowed_sets}
 use Rattle.allowed.specs.Clearing.{state_given, clearing_sets, replaced, state_with}
-use Rattle.allowed.specs.Answers.{node_room_checks}
-use Rattle.capi.specs.allowed_calls.AllowedExported.{AllowedExported, ClearingExported}
+use Rattle.allowed.specs.Answers.{node_room_checks, AllowedDone, ClearingDone}
 use Rattle.capi.proofs.allowed_calls.Theorems as calls
 
 -- ---- the labels that each node may take
 
-module _ (p r masks masks' : List ℕ) (D : AllowedExported p r masks 0 masks') where
+module _ (p r masks masks' : List ℕ) (D : AllowedDone p r masks 0 masks') where
   -- "bit a of masks[v] is 1 exactly where the plan with node v alone relabelled to a is cleared": what whatif_fresh_run
   -- answers for that list of one change
   mask-is-the-run : (v a : ℕ) → v < node_count p → a < label_count r
@@ -54,13 +53,13 @@ module _ (p r masks masks' : List ℕ) (D : AllowedExported p r masks 0 masks') 
   masks-beyond = calls.masks-beyond p r masks masks' D
 
 -- "Refused, masks is as it was."
-masks-refused : (p r masks : List ℕ) (n : ℕ) (masks' : List ℕ) → AllowedExported p r masks n masks'
+masks-refused : (p r masks : List ℕ) (n : ℕ) (masks' : List ℕ) → AllowedDone p r masks n masks'
     → (n ≡ first_no (node_room_checks p r (length masks))) × ((n ≡ 0 → ⊥) → masks' ≡ masks)
 masks-refused p r masks n masks' D = (D.number, D.kept)
 
 -- ---- the states with which the plan is cleared
 
-module _ (p r sets sets' : List ℕ) (D : ClearingExported p r sets 0 sets') where
+module _ (p r sets sets' : List ℕ) (D : ClearingDone p r sets 0 sets') where
   -- "for each node v the set of states q such that the plan is cleared if node v's subtree had state q and all else is
   -- as it is"
   set-of-state : (v q : ℕ) → v < node_count p → q < state_count r
@@ -89,14 +88,14 @@ module _ (p r sets sets' : List ℕ) (D : ClearingExported p r sets 0 sets') whe
   sets-beyond = calls.sets-beyond p r sets sets' D
 
 -- "refused: unchanged"
-sets-refused : (p r sets : List ℕ) (n : ℕ) (sets' : List ℕ) → ClearingExported p r sets n sets'
+sets-refused : (p r sets : List ℕ) (n : ℕ) (sets' : List ℕ) → ClearingDone p r sets n sets'
     → (n ≡ first_no (node_room_checks p r (length sets))) × ((n ≡ 0 → ⊥) → sets' ≡ sets)
 sets-refused p r sets n sets' D = (D.number, D.kept)
 
 -- ---- both
 
 -- "bit a of masks[v] is 1 exactly where the state that v gets with label a is in v's clearing set"
-mask-by-set : (p r masks masks' sets sets' : List ℕ) → AllowedExported p r masks 0 masks' → ClearingExported p r sets 0 sets'
+mask-by-set : (p r masks masks' sets sets' : List ℕ) → AllowedDone p r masks 0 masks' → ClearingDone p r sets 0 sets'
     → (v a : ℕ) → v < node_count p → a < label_count r
     → member (get_or masks' v 0) a ≡ member (get_or sets' v 0) (state_with (rule_automaton r) (plan_tree p) v a)
 mask-by-set = calls.mask-by-set

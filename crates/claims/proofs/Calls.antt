@@ -31,7 +31,7 @@ use Rattle.planner.specs.File.{out_checks, home_checks}
 use Rattle.planner.specs.out.Out.{OutDone}
 use Rattle.planner.specs.home.Home.{HomeDone}
 use Rattle.choices.specs.question_counts.CountOn.{listed_checks, count_checks}
-use Rattle.allowed.specs.Answers.{node_room_checks}
+use Rattle.allowed.specs.Answers.{node_room_checks, AllowedDone, ClearingDone}
 use Rattle.fewest.specs.Answers.{fewest_checks, FewestTold}
 use Rattle.colour_tables.specs.branch.Build.{branch_colour_checks}
 use Rattle.colour_tables.specs.rule.Build.{rule_colour_checks}
@@ -44,7 +44,6 @@ use Rattle.capi.specs.list_calls.ListsExported as lists
 use Rattle.capi.specs.list_calls.ListsExported.{LayExported}
 use Rattle.capi.specs.choice_calls.CountExported as choices
 use Rattle.capi.specs.choice_calls.CountExported.{CountExported}
-use Rattle.capi.specs.allowed_calls.AllowedExported.{AllowedExported, ClearingExported}
 use Rattle.capi.proofs.table_calls.Theorems.{build-number, build-kept, check-number, check-kept, run-number, run-kept}
 use Rattle.capi.proofs.branch_calls.Ties.{branch-build-number, branch-build-kept, branch-check-number}
 use Rattle.capi.proofs.branch_calls.Ties.{branch-check-kept}
@@ -258,11 +257,11 @@ ask-order p r node_table state_table vs bs = refl
 
 -- ---- what each node may take
 
-allowed : (p r masks : List ℕ) (n : ℕ) (masks' : List ℕ) → AllowedExported p r masks n masks'
+allowed : (p r masks : List ℕ) (n : ℕ) (masks' : List ℕ) → AllowedDone p r masks n masks'
     → Answers n (node_room_checks p r (length masks)) (masks' ≡ masks)
 allowed p r m n m' D = answers _ _ _ (allowed-number p r m n m' D) (allowed-kept p r m n m' D)
 
-clearing : (p r sets : List ℕ) (n : ℕ) (sets' : List ℕ) → ClearingExported p r sets n sets'
+clearing : (p r sets : List ℕ) (n : ℕ) (sets' : List ℕ) → ClearingDone p r sets n sets'
     → Answers n (node_room_checks p r (length sets)) (sets' ≡ sets)
 clearing p r b n b' D = answers _ _ _ (clearing-number p r b n b' D) (clearing-kept p r b n b' D)
 

@@ -13,13 +13,13 @@ use denote.Triple.Clauses.{AtExit}
 use Rattle.branches.specs.declared.answers.Reading.TheVariants.{WithUpper, BelowUpper}
 use Rattle.planner.specs.out.Out.{OutDone}
 use Rattle.planner.specs.home.Home.{HomeDone}
+use Rattle.allowed.specs.Answers.{AllowedDone, ClearingDone}
 use Rattle.fewest.specs.Answers.{FewestTold}
 use Rattle.capi.specs.table_calls.RunExported.{RunExported}
 use Rattle.capi.specs.branch_calls.BranchExported.{AskExported}
 use Rattle.capi.specs.product_calls.Exported.{MergeExported, AgreeExported}
 use Rattle.capi.specs.list_calls.ListsExported.{LayExported}
 use Rattle.capi.specs.choice_calls.CountExported.{CountExported}
-use Rattle.capi.specs.allowed_calls.AllowedExported.{AllowedExported, ClearingExported}
 use Rattle.capi.specs.version.Version.{version_number}
 use Rattle.capi.proofs.table_calls.Ties.{build-tied, check-tied, run-tied, version-tied}
 use Rattle.capi.proofs.branch_calls.Ties.{branch-build-tied, branch-check-tied, branch-tied}
@@ -212,12 +212,12 @@ ask = ask-tied
 
 allowed : (κs : Lfts 3) (a : ArgsD allowed-fn.signature κs) (r : ResD allowed-fn.signature κs)
     (s : AtExit (ended_of 3 allowed-kinds.ps allowed-kinds.r) κs) → allowed-reads.Post κs a r s
-    → AllowedExported a.0.now a.1.0.now a.1.1.0.now r s.1.1.0.now
+    → AllowedDone a.0.now a.1.0.now a.1.1.0.now r s.1.1.0.now
 allowed = allowed-tied
 
 clearing : (κs : Lfts 3) (a : ArgsD clearing-fn.signature κs) (r : ResD clearing-fn.signature κs)
     (s : AtExit (ended_of 3 clearing-kinds.ps clearing-kinds.r) κs) → clearing-reads.Post κs a r s
-    → ClearingExported a.0.now a.1.0.now a.1.1.0.now r s.1.1.0.now
+    → ClearingDone a.0.now a.1.0.now a.1.1.0.now r s.1.1.0.now
 clearing = clearing-tied
 
 -- ---- the fewest changes

@@ -30,11 +30,11 @@ use Rattle.formats.specs.Checks.{first_no}
 use Rattle.formats.proofs.RuleLaws.{RulesPass}
 use Rattle.runs.specs.FreshRun.{root_accepted}
 use Rattle.state_sets.specs.StateSets.{member}
+use Rattle.allowed.specs.Answers.{AllowedDone}
 use Rattle.fewest.specs.Least.{no_way_out}
 use Rattle.fewest.specs.Fewest.{IsFewest, NoneClears}
 use Rattle.fewest.specs.Answers.{wanted_automaton, may_be, fewest_checks, ListTold, FewestTold}
 use Rattle.fewest.proofs.Theorems as calls
-use Rattle.capi.specs.allowed_calls.AllowedExported.{AllowedExported}
 use Rattle.capi_fewest.proofs.AllowedTheorems as both
 
 -- ---- what is wanted
@@ -109,7 +109,7 @@ module _ (p r may : List ℕ) (want : ℕ) (work nodes labels : List ℕ) (least
 
   -- ---- with the allowed labels of the same plan
 
-  module _ (w : want ≡ 0 → ⊥) (masks masks' : List ℕ) (D : AllowedExported p r masks 0 masks') where
+  module _ (w : want ≡ 0 → ⊥) (masks masks' : List ℕ) (D : AllowedDone p r masks 0 masks') where
     -- the one change that is told is a bit of the masks
     one-is-allowed : least' ≡ 1 → member (get_or masks' (get_or nodes' 0 0) 0) (get_or labels' 0 0) ≡ true
     one-is-allowed = both.one-is-allowed p r may want w work nodes labels least count work' nodes' labels' least' count' T

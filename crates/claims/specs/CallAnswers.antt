@@ -9,8 +9,8 @@
 --   whatif_branch_build and whatif_branch_check; ColourBranchBuildCall, ColourBuildCall == those of
 --   whatif_colour_branch_build and whatif_colour_build
 --
--- The other calls' promises are MergeExported, AgreeExported, CountExported, LayExported, RunExported, AskExported,
--- AllowedExported, ClearingExported (crate capi), OutDone, HomeDone (crate planner), FewestTold (crate fewest),
+-- The other calls' promises are MergeExported, AgreeExported, CountExported, LayExported, RunExported, AskExported
+-- (crate capi), OutDone, HomeDone (crate planner), AllowedDone, ClearingDone (crate allowed), FewestTold (crate fewest),
 -- WholeExported (crate capi_ask), DescentExported and RuleExported (crate capi_colours).
 use Rattle.std.specs.Prelude.{ℕ, ◌≡◌, true, List, [], ◌∷◌, length}
 use Rattle.formats.specs.Checks.{Check, first_no, build_checks, branch_build_checks}

@@ -36,11 +36,10 @@ use Rattle.state_sets.proofs.SetLaws.{set_of-below, member-set_of}
 use Rattle.runs.specs.FreshRun.{root_accepted}
 use Rattle.allowed.specs.Allowed.{is_allowed, allowed_set, allowed_sets}
 use Rattle.allowed.specs.Clearing.{state_given, clears, clearing_set, clearing_sets, replaced, state_with}
-use Rattle.allowed.specs.Answers.{node_room_checks}
+use Rattle.allowed.specs.Answers.{node_room_checks, AllowedDone, ClearingDone}
 use Rattle.allowed.proofs.InputsLaws.{table-yes}
 use Rattle.allowed.proofs.ClearingLaws.{set-member}
 use Rattle.allowed.proofs.Theorems as trees
-use Rattle.capi.specs.allowed_calls.AllowedExported.{AllowedExported, ClearingExported}
 
 -- ---- a buffer that begins with a number a node
 
@@ -74,7 +73,7 @@ module _ (p r : List ℕ) (m : ℕ) (e : first_no (node_room_checks p r m) ≡ 0
 
 -- ---- the labels that each node may take
 
-module _ (p r before after : List ℕ) (D : AllowedExported p r before 0 after) where
+module _ (p r before after : List ℕ) (D : AllowedDone p r before 0 after) where
   as-set : (v : ℕ) → v < node_count p
       → get_or after v 0 ≡ allowed_set (rule_automaton r) (label_count r) (plan_tree p) v
   unfolding allowed_sets
@@ -115,7 +114,7 @@ module _ (p r before after : List ℕ) (D : AllowedExported p r before 0 after) 
 
 -- ---- the states with which the plan is cleared
 
-module _ (p r before after : List ℕ) (D : ClearingExported p r before 0 after) where
+module _ (p r before after : List ℕ) (D : ClearingDone p r before 0 after) where
   as-clearing : (v : ℕ) → v < node_count p → get_or after v 0 ≡ clearing_set (rule_automaton r) (plan_tree p) v
   unfolding clearing_sets
   as-clearing = number_at p r (length before) (sym D.number) (clearing_set (rule_automaton r) (plan_tree p)) before after
@@ -157,7 +156,7 @@ module _ (p r before after : List ℕ) (D : ClearingExported p r before 0 after)
 
 -- ---- both calls on one plan
 
-pub mask-by-set : (p r b b' c c' : List ℕ) → AllowedExported p r b 0 b' → ClearingExported p r c 0 c'
+pub mask-by-set : (p r b b' c c' : List ℕ) → AllowedDone p r b 0 b' → ClearingDone p r c 0 c'
     → (v a : ℕ) → v < node_count p → a < label_count r
     → member (get_or b' v 0) a ≡ member (get_or c' v 0) (state_with (rule_automaton r) (plan_tree p) v a)
 mask-by-set p r b b' c c' D E v a hv ha =

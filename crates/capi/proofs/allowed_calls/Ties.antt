@@ -1,7 +1,7 @@
 -- What the contracts of the exported calls on what each node may take claim, as the prover itself reads them off the
--- source (`Reads.Post`), is what the theorems take (`AllowedExported`, `ClearingExported`). A contract that promises less is
+-- source (`Reads.Post`), is what the theorems take (`AllowedDone`, `ClearingDone`). A contract that promises less is
 -- refused here.
---     allowed-tied, clearing-tied       the contracts are AllowedExported and ClearingExported
+--     allowed-tied, clearing-tied       the contracts are AllowedDone and ClearingDone
 --     allowed-number, clearing-number   the number is that of the first check that fails: 2 to 10, then 11
 --     allowed-kept, clearing-kept       refused: the buffer is as it was
 use Prim.Native.Nat.{ℕ}
@@ -13,8 +13,7 @@ use borrow.Fn.World.{ArgsD, ResD}
 use borrow.Fn.Kinds.{ended_of}
 use denote.Triple.Clauses.{AtExit}
 use Rattle.formats.specs.Checks.{first_no}
-use Rattle.allowed.specs.Answers.{node_room_checks}
-use Rattle.capi.specs.allowed_calls.AllowedExported.{AllowedExported, ClearingExported}
+use Rattle.allowed.specs.Answers.{node_room_checks, AllowedDone, ClearingDone}
 use Rattle.capi.specs.contracts.allowed_calls.whatif_allowed as allowed-fn
 use Rattle.capi.proofs.allowed_calls.whatif_allowed.Kinds as allowed-kinds
 use Rattle.capi.proofs.allowed_calls.whatif_allowed.Reads as allowed-reads
@@ -26,10 +25,10 @@ use Rattle.capi.proofs.allowed_calls.whatif_clearing.Reads as clearing-reads
 
 pub allowed-tied : (κs : Lfts 3) (a : ArgsD allowed-fn.signature κs) (r : ResD allowed-fn.signature κs)
     (s : AtExit (ended_of 3 allowed-kinds.ps allowed-kinds.r) κs) → allowed-reads.Post κs a r s
-    → AllowedExported a.0.now a.1.0.now a.1.1.0.now r s.1.1.0.now
+    → AllowedDone a.0.now a.1.0.now a.1.1.0.now r s.1.1.0.now
 allowed-tied κs a r s p = p
 
-module _ (p r before : List ℕ) (n : ℕ) (after : List ℕ) (D : AllowedExported p r before n after) where
+module _ (p r before : List ℕ) (n : ℕ) (after : List ℕ) (D : AllowedDone p r before n after) where
   pub allowed-number : n ≡ first_no (node_room_checks p r (length before))
   allowed-number = D.number
 
@@ -40,10 +39,10 @@ module _ (p r before : List ℕ) (n : ℕ) (after : List ℕ) (D : AllowedExport
 
 pub clearing-tied : (κs : Lfts 3) (a : ArgsD clearing-fn.signature κs) (r : ResD clearing-fn.signature κs)
     (s : AtExit (ended_of 3 clearing-kinds.ps clearing-kinds.r) κs) → clearing-reads.Post κs a r s
-    → ClearingExported a.0.now a.1.0.now a.1.1.0.now r s.1.1.0.now
+    → ClearingDone a.0.now a.1.0.now a.1.1.0.now r s.1.1.0.now
 clearing-tied κs a r s p = p
 
-module _ (p r before : List ℕ) (n : ℕ) (after : List ℕ) (D : ClearingExported p r before n after) where
+module _ (p r before : List ℕ) (n : ℕ) (after : List ℕ) (D : ClearingDone p r before n after) where
   pub clearing-number : n ≡ first_no (node_room_checks p r (length before))
   clearing-number = D.number
 
