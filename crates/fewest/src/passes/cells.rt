@@ -20,6 +20,9 @@ pub fn put_row(work: &mut [u32], s: usize, v: usize, z: u32, row: &[u32])
     ensures { RowDone s v z (λ j. get_or row.now j 0) work.old work.new }
 {
     let at = v * (s + 1);
+    // no copy_from_slice: with it the whole call needs 32 bytes of stack more, above its 1 KiB
+    for j in 0..s {
+        work[at + 1 + j] = row[j];
+    }
     work[at] = z;
-    work[at + 1..at + 1 + s].copy_from_slice(&row[..s]);
 }
