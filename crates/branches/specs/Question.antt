@@ -7,8 +7,7 @@
 -- branch_on .. == the answer on these tables: none where a value read leads outside the plan, the states or the labels, or a climb
 --   does not rise (check 18)
 -- ask_checks .. == 17, 13, 16 and 18, in this order; ask_number .. == the first that fails, 0 where none does
--- refused_by n == the refusal where n, one of these four numbers, is that of the first failing check
--- ask_answer .. == the answer
+-- ask_answer .. == the answer: refused with the first failing check's number (refusal_of, crate formats)
 --
 -- "It tells state, yes or no, and the links of the climb from the lower node to the upper's depth", and the nodes that this climb passed
 -- over (02, S-7). The word runs downward while the climb goes up, so the first state goes through the climb's moves from the last to
@@ -22,7 +21,8 @@ use Rattle.formats.specs.Rules.{state_count, label_count, branch_steps, branch_a
 use Rattle.formats.specs.Checks.{Check, check, first_no}
 use Rattle.formats.specs.Buffers.{headed_buffers_fit, branch_tables}
 use Rattle.formats.specs.declared.refusals.Refusal.{Refusal}
-use Rattle.formats.specs.declared.refusals.Refusal.TheVariants.{Node, NotBelow, LentLength, LentValue}
+use Rattle.formats.specs.declared.refusals.Refusal.TheVariants.{LentValue}
+use Rattle.formats.specs.Refusals.{refusal_of}
 use Rattle.tables.specs.node_tables.Cells.{depth_cell, is_in_subtree_on}
 use Rattle.tables.specs.Replays.{replay_on}
 use Rattle.branches.specs.declared.answers.Reading.{Reading}
@@ -63,14 +63,11 @@ ask_checks reading p r node_table state_table u l =
 unfoldable pub ask_number : Reading → List ℕ → List ℕ → List ℕ → List ℕ → ℕ → ℕ → ℕ
 ask_number reading p r node_table state_table u l = first_no (ask_checks reading p r node_table state_table u l)
 
-abbrev pub refused_by : ℕ → Refusal
-refused_by n = cond (eqb n 17) LentLength (cond (eqb n 13) Node (cond (eqb n 16) NotBelow LentValue))
-
 -- document 01's answer for each case: what is answered, or the refusal alone
 unfoldable pub branch_answer : ℕ → Option Branched → Result Branched Refusal
 branch_answer zero none = Err LentValue
 branch_answer zero (some b) = Ok b
-branch_answer (suc n) b = Err (refused_by (suc n))
+branch_answer (suc n) b = Err (refusal_of (suc n))
 
 unfoldable pub ask_answer : Reading → List ℕ → List ℕ → List ℕ → List ℕ → ℕ → ℕ → Result Branched Refusal
 ask_answer reading p r node_table state_table u l =

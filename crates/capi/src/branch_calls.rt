@@ -12,7 +12,7 @@ use branches::answers::Branched;
 use branches::ask::ask_branch;
 use branches::build::build_branch_tables;
 use branches::check::check_branch_tables;
-use formats::refusals::Refusal;
+use formats::refusals::HasNumber;
 
 // Builds the tables of a plan for a branch table.
 pub fn whatif_branch_build(
@@ -49,14 +49,14 @@ pub fn whatif_branch_check(
 
 // The number of a branch question's answer; its state, whether it is marked, its links and the nodes passed over go to
 // `state`, `yes`, `links` and `passed`.
-pub fn ask_number(
-    answer: Result<Branched, Refusal>,
+pub fn ask_number<E: HasNumber>(
+    answer: Result<Branched, E>,
     state: &mut u32,
     yes: &mut u32,
     links: &mut u32,
     passed: &mut u32,
 ) -> u32
-    ensures { AskNumber answer state.old yes.old links.old passed.old
+    ensures { AskNumber E.number_in answer state.old yes.old links.old passed.old
         result state.new yes.new links.new passed.new }
 {
     match answer {
@@ -67,7 +67,7 @@ pub fn ask_number(
             *passed = b.passed;
             0
         }
-        Err(refusal) => refusal.number() as u32,
+        Err(refusal) => refusal.number_of() as u32,
     }
 }
 

@@ -5,7 +5,7 @@ use Rattle.std.proofs.Math.Option.{Option, some, none}
 use Rattle.std.specs.Prelude.{List, ◌++◌, IsErrAnd}
 use Rattle.formats.specs.Checks.{Check, first_no}
 use Rattle.formats.proofs.InputAnswers.{first_part}
-use Rattle.formats.specs.Refusals.{refusal_number, answer_number, told, told_as}
+use Rattle.formats.specs.Refusals.{refusal_number, refusal_of, answer_number, told, told_as}
 use Rattle.formats.specs.declared.refusals.Refusal.{Refusal}
 use Rattle.formats.specs.declared.refusals.Refusal.TheVariants.{SessionState, PlanShort, NodeCount, PlanLayout, PlanTree, TableShort, TableCounts, TableLayout, TableEntry, PlanLabel, BufferShort, ListLength, Node, Label, NodeTwice, NotBelow, LentLength, LentValue, PlannerFile, PlannerLabel, PlannerRoom, LaidOver, LabelCounts, StateProduct, Screen, Assignments, ColourStates}
 use Rattle.formats.specs.contracts.refusals.Refusal.{the_type}
@@ -89,3 +89,43 @@ pub told-value : {A : Type 0} (a : Result A Refusal) (n : ℕ) (x : A) → told 
 told-value (Ok y) n x e z = ap Ok (sym (value-told y n x e).1)
 told-value (Err r) zero x e z = absurd (number-not-0 r (ap (λ t. t.0) e))
 told-value (Err r) (suc n) x e z = absurd (omega arith)
+
+-- the number decides the refusal
+pub of-number : (r : Refusal) → refusal_of (refusal_number r) ≡ r
+of-number SessionState = refl
+of-number PlanShort = refl
+of-number NodeCount = refl
+of-number PlanLayout = refl
+of-number PlanTree = refl
+of-number TableShort = refl
+of-number TableCounts = refl
+of-number TableLayout = refl
+of-number TableEntry = refl
+of-number PlanLabel = refl
+of-number BufferShort = refl
+of-number ListLength = refl
+of-number Node = refl
+of-number Label = refl
+of-number NodeTwice = refl
+of-number NotBelow = refl
+of-number LentLength = refl
+of-number LentValue = refl
+of-number PlannerFile = refl
+of-number PlannerLabel = refl
+of-number PlannerRoom = refl
+of-number LaidOver = refl
+of-number LabelCounts = refl
+of-number StateProduct = refl
+of-number Screen = refl
+of-number Assignments = refl
+of-number ColourStates = refl
+
+pub number-decides : (r q : Refusal) → refusal_number r ≡ refusal_number q → r ≡ q
+number-decides r q e = sym (of-number r) ∙ ap refusal_of e ∙ of-number q
+
+-- what tells an accepted call's number, or a refusal's, tells the answer
+pub number-tells : (a : Result Unit Refusal) (n : ℕ) (x : Unit) → answer_number a ≡ n → told a ≡ told_as n x
+number-tells (Ok y) zero x e = refl
+number-tells (Ok y) (suc n) x e = absurd (omega (arith, e))
+number-tells (Err r) zero x e = absurd (number-not-0 r e)
+number-tells (Err r) (suc n) x e = ap (λ (k : ℕ). (k, none)) e

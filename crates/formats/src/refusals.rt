@@ -1,5 +1,5 @@
 // The refusals of all calls, each with its number in the interface (docs/REFUSALS.md).
-ghost use Rattle.std.specs.Prelude.{◌≡◌, ◌<◌};
+ghost use Rattle.std.specs.Prelude.{ℕ, ◌≡◌, ◌<◌};
 ghost use Rattle.formats.specs.Refusals.{refusal_number};
 
 // Why a call was refused.
@@ -67,5 +67,29 @@ impl Refusal {
         ensures { result ≡ refusal_number self }
     {
         self as u8
+    }
+}
+
+// What has the number of a refusal: a refusal, or the number itself.
+pub trait HasNumber: Copy {
+    ghost number_in: { Self → ℕ };
+
+    fn number_of(self) -> u8
+        ensures { result ≡ number_in self };
+}
+
+impl HasNumber for Refusal {
+    ghost number_in = { refusal_number };
+
+    fn number_of(self) -> u8 {
+        self.number()
+    }
+}
+
+impl HasNumber for u8 {
+    ghost number_in = { λ n. n };
+
+    fn number_of(self) -> u8 {
+        u8::from(self)
     }
 }

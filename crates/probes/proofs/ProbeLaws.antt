@@ -1,6 +1,6 @@
 -- What an answer in a known case holds, a session that is advanced once more, and a question from its calls' promises.
 use Prim.Native.Nat.{ℕ, suc, ◌≤◌}
-use mathlib.Core.Path.{◌≡◌, sym, ap, ap₂, ◌∙◌, subst}
+use mathlib.Core.Path.{◌≡◌, refl, sym, ap, ap₂, ◌∙◌, subst}
 use mathlib.Core.List.{List}
 use native.Mathlib.Omega.{arith}
 use Rattle.tables.specs.declared.answers.Reached.{Reached}
@@ -8,7 +8,7 @@ use Rattle.tables.specs.declared.answers.Climbed.{Climbed}
 use Rattle.tables.specs.declared.answers.Climbed.TheVariants.{Reached as To, OutOfRange}
 use Rattle.questions.specs.declared.roots.Rooted.{Rooted}
 use Rattle.formats.specs.Inputs.{Inputs}
-use Rattle.model.specs.Calls.{load, start, advance, cancel, read}
+use Rattle.model.specs.Calls.{load, start, advance, cancel, read, parts}
 use Rattle.std.specs.Prelude.{Result, Ok, Err}
 use Rattle.formats.specs.Refusals.{refusal_number}
 use Rattle.formats.specs.declared.refusals.Refusal.{Refusal}
@@ -23,7 +23,7 @@ use Rattle.probes.specs.declared.layers.Part.{Part}
 use Rattle.probes.specs.declared.whole.Life.{Life}
 use Rattle.probes.specs.declared.whole.Question.{Question}
 use Rattle.probes.specs.declared.whole.Steps.{Steps}
-use Rattle.probes.specs.Probed.{RootsProbed, part_in, advanced, parts_in, after, start_parts, steps_in}
+use Rattle.probes.specs.Probed.{RootsProbed, part_in, advanced, answer_by, accepted_in, outcome_in, parts_in, after, start_parts, steps_in}
 use Rattle.probes.specs.Probed.{nothing_in, read_in, question_in, call_number, once_loaded, once_started, life_in}
 
 pub roots-probed : (x y : Rooted) → x ≡ y → RootsProbed y x.count x.nodes
@@ -36,22 +36,59 @@ part-reached x y z e f = ap part_in (sym e ∙ f)
 pub part-outside : (x y : Climbed) → x ≡ OutOfRange → x ≡ y → ◌≡◌ {A = Part} (record { state = 16; links = 0 }) (part_in y)
 part-outside x y e f = ap part_in (sym e ∙ f)
 
-pub parts-some : (t : Result ℕ Refusal) (p : ℕ) → t ≡ Ok p → p ≡ parts_in (start_answer t)
-unfolding parts_in start_answer
-parts-some t p e = sym (ap (λ (x : Result ℕ Refusal). parts_in (start_answer x)) e)
+-- of an answer that is refused by E, f being the number of such a refusal
+module _ {E : Type 0} (f : E → ℕ) where
+  pub parts-some : (t : Result ℕ E) (p : ℕ) → t ≡ Ok p → p ≡ parts_in (answer_by f parts t)
+  unfolding parts_in
+  parts-some t p e = sym (ap (λ (x : Result ℕ E). parts_in (answer_by f parts x)) e)
 
-pub parts_none : (t : Result ℕ Refusal) (n : Refusal) → t ≡ Err n → 0 ≡ parts_in (start_answer t)
-unfolding parts_in start_answer
-parts_none t n e = sym (ap (λ (x : Result ℕ Refusal). parts_in (start_answer x)) e)
+  pub parts_none : (t : Result ℕ E) (n : E) → t ≡ Err n → 0 ≡ parts_in (answer_by f parts t)
+  unfolding parts_in
+  parts_none t n e = sym (ap (λ (x : Result ℕ E). parts_in (answer_by f parts x)) e)
 
-pub read_some : (a : Result Outcome Refusal) (o : Outcome) → a ≡ Ok o
-    → ◌≡◌ {A = Question} (record { state = o.state; yes = o.yes; parts = o.parts; links = o.links }) (read_in (read_answer a))
-unfolding read_in read_answer
-read_some a o e = sym (ap (λ (x : Result Outcome Refusal). read_in (read_answer x)) e)
+  pub read_some : (a : Result Outcome E) (o : Outcome) → a ≡ Ok o
+      → ◌≡◌ {A = Question} (record { state = o.state; yes = o.yes; parts = o.parts; links = o.links }) (read_in (answer_by f outcome_in a))
+  unfolding read_in
+  read_some a o e = sym (ap (λ (x : Result Outcome E). read_in (answer_by f outcome_in x)) e)
 
-pub read_none : (a : Result Outcome Refusal) (n : Refusal) → a ≡ Err n → nothing_in ≡ read_in (read_answer a)
-unfolding read_in read_answer
-read_none a n e = sym (ap (λ (x : Result Outcome Refusal). read_in (read_answer x)) e)
+  pub read_none : (a : Result Outcome E) (n : E) → a ≡ Err n → nothing_in ≡ read_in (answer_by f outcome_in a)
+  unfolding read_in
+  read_none a n e = sym (ap (λ (x : Result Outcome E). read_in (answer_by f outcome_in x)) e)
+
+  pub number-none : (a : Result Unit E) (u : Unit) → a ≡ Ok u → 0 ≡ call_number (answer_by f accepted_in a)
+  unfolding call_number
+  number-none a u e = sym (ap (λ (x : Result Unit E). call_number (answer_by f accepted_in x)) e)
+
+  pub number-some : (a : Result Unit E) (r : E) (n : ℕ) → a ≡ Err r → n ≡ f r → n ≡ call_number (answer_by f accepted_in a)
+  unfolding call_number
+  number-some a r n e g = g ∙ sym (ap (λ (x : Result Unit E). call_number (answer_by f accepted_in x)) e)
+
+-- the answers of Start, Read, Load and Cancel
+by-start : (a : Result ℕ Refusal) → answer_by refusal_number parts a ≡ start_answer a
+unfolding start_answer
+by-start (Ok p) = refl
+by-start (Err r) = refl
+
+by-read : (a : Result Outcome Refusal) → answer_by refusal_number outcome_in a ≡ read_answer a
+unfolding read_answer
+by-read (Ok o) = refl
+by-read (Err r) = refl
+
+by-call : (a : Result Unit Refusal) → answer_by refusal_number accepted_in a ≡ call_answer a
+unfolding call_answer
+by-call (Ok u) = refl
+by-call (Err r) = refl
+
+pub parts-of : (a : Result ℕ Refusal) (p : ℕ) → p ≡ parts_in (answer_by refusal_number parts a) → p ≡ parts_in (start_answer a)
+parts-of a p e = e ∙ ap parts_in (by-start a)
+
+pub read-of : (a : Result Outcome Refusal) (q : Question) → q ≡ read_in (answer_by refusal_number outcome_in a)
+    → q ≡ read_in (read_answer a)
+read-of a q e = e ∙ ap read_in (by-read a)
+
+pub number-of : (a : Result Unit Refusal) (n : ℕ) → n ≡ call_number (answer_by refusal_number accepted_in a)
+    → n ≡ call_number (call_answer a)
+number-of a n e = e ∙ ap call_number (by-call a)
 
 module _ (x : Inputs) (u end : Session) (left : ℕ) (o : advanced left x u ≡ end) where
   pub once_more : (r : Session) (next : ℕ) → suc next ≡ left → r ≡ record_on u (advance x) → advanced next x r ≡ end
@@ -95,14 +132,6 @@ module _ (x : Inputs) (vs bs : List ℕ) (s before : Session) (o : Started) (is 
       (ends_at p end f ∙ ap (λ (i : ℕ). after x vs bs i s) (parts_are p e)))
 
 -- ---- a life
-
-pub number-none : (a : Result Unit Refusal) (u : Unit) → a ≡ Ok u → 0 ≡ call_number (call_answer a)
-unfolding call_number call_answer
-number-none a u e = sym (ap (λ (x : Result Unit Refusal). call_number (call_answer x)) e)
-
-pub number-some : (a : Result Unit Refusal) (r : Refusal) (n : ℕ) → a ≡ Err r → n ≡ refusal_number r → n ≡ call_number (call_answer a)
-unfolding call_number call_answer
-number-some a r n e f = f ∙ sym (ap (λ (x : Result Unit Refusal). call_number (call_answer x)) e)
 
 module _ (x y : Inputs) (vs bs : List ℕ) (f : Session) (is : f ≡ fresh_session)
     (o : Called) (node_table' state_table' : List ℕ) (L : LoadDone f x (call_answer o.answer) o.session node_table' state_table')

@@ -6,6 +6,8 @@
 --
 -- loaded_with n s k == a loaded session of N, S and K
 -- advanced i x s == session s after i advances with the inputs x
+-- answer_by f g a == the answer of the model: what g gives of the value, or the number that f gives the refusal
+-- accepted_in u, outcome_in o == the answer of Load and Cancel, and of Read, where they are accepted
 -- parts_in a == the number of parts in answer a; 0 for any other answer
 -- steps_in x vs bs i s == the parts of a question, and its links after i advances
 -- after x vs bs i s == session s after Start and i advances; start_parts x vs bs s == the parts that Start returns
@@ -14,14 +16,15 @@
 -- call_number a == the number of an answer to Load or Cancel: 0 for one that is no refusal
 -- life_in x y vs bs == what a life of a session returns, Load given x and the later calls y: from fresh, Load, Start,
 --   Cancel and a question
-use Rattle.std.specs.Prelude.{ℕ, zero, suc, ◌≡◌, false, List}
+use Rattle.std.specs.Prelude.{ℕ, zero, suc, ◌≡◌, false, List, Result, Ok, Err}
 use Rattle.tables.specs.declared.answers.Climbed.{Climbed}
 use Rattle.tables.specs.declared.answers.Climbed.TheVariants.{Reached as To, OutOfRange}
 use Rattle.questions.specs.declared.roots.Rooted.{Rooted}
 use Rattle.formats.specs.Inputs.{Inputs}
-use Rattle.model.specs.Calls.{load, start, advance, cancel, read, Answer, on_parts, on_refused}
-use Rattle.model.specs.Calls.{on_outcome}
+use Rattle.model.specs.Calls.{load, start, advance, cancel, read, Answer, refused, accepted, outcome_answer}
+use Rattle.model.specs.Calls.{on_parts, on_refused, on_outcome}
 use Rattle.session.specs.declared.state.Session.{Session}
+use Rattle.session.specs.declared.answers.Outcome.{Outcome}
 use Rattle.session.specs.Promises.{answer_on, record_on}
 use Rattle.session.specs.Records.{session_of, fresh_session}
 use Rattle.session.specs.inner.Shapes.{loaded_by}
@@ -46,6 +49,16 @@ loaded_with n s k = session_of (loaded_by n s k)
 unfoldable pub advanced : ℕ → Inputs → Session → Session
 advanced zero x s = s
 advanced (suc i) x s = advanced i x (record_on s (advance x))
+
+abbrev pub answer_by : {A E : Type 0} → (E → ℕ) → (A → Answer) → Result A E → Answer
+answer_by f g (Ok x) = g x
+answer_by f g (Err e) = refused (f e)
+
+abbrev pub accepted_in : Unit {0} → Answer
+accepted_in u = accepted
+
+abbrev pub outcome_in : Outcome → Answer
+outcome_in o = outcome_answer o.state o.yes o.parts o.links o.passed
 
 unfoldable pub parts_in : Answer → ℕ
 parts_in a = on_parts (λ p. p) 0 a

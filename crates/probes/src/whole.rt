@@ -1,11 +1,11 @@
 // Start, advances, a whole question and a whole life of a session in place, without the record's bytes.
 ghost use Rattle.std.specs.Prelude.{◌≡◌};
-ghost use Rattle.session.specs.Answers.{call_answer, start_answer, read_answer};
+ghost use Rattle.model.specs.Calls.{parts};
 ghost use Rattle.formats.specs.Inputs.{inputs_of};
-ghost use Rattle.probes.specs.Probed.{loaded_with, parts_in, advanced, steps_in, read_in, question_in, call_number, life_in};
+ghost use Rattle.probes.specs.Probed.{loaded_with, answer_by, outcome_in, accepted_in, parts_in, advanced, steps_in, read_in, question_in, call_number, life_in};
 
 use crate::places::{advance_at, cancel_at, load_at, read_at, start_at};
-use formats::refusals::Refusal;
+use formats::refusals::HasNumber;
 use session::answers::Outcome;
 use session::state::{Phase, Session, Sizes, idle, no_last};
 
@@ -37,8 +37,8 @@ pub fn loaded(n: u16, s: u8, k: u8) -> Session
 }
 
 // The number of parts that Start returns; 0 where it is refused.
-pub fn parts_in(answer: Result<u8, Refusal>) -> u32
-    ensures { result ≡ parts_in (start_answer answer) }
+pub fn parts_in<E: HasNumber>(answer: Result<u8, E>) -> u32
+    ensures { result ≡ parts_in (answer_by E.number_in parts answer) }
 {
     match answer {
         Ok(p) => p as u32,
@@ -96,8 +96,8 @@ pub fn probe_steps(
 }
 
 // What Read returns; state 16 where it is refused.
-pub fn read_in(answer: Result<Outcome, Refusal>) -> Question
-    ensures { result ≡ read_in (read_answer answer) }
+pub fn read_in<E: HasNumber>(answer: Result<Outcome, E>) -> Question
+    ensures { result ≡ read_in (answer_by E.number_in outcome_in answer) }
 {
     match answer {
         Ok(o) => Question {
@@ -169,12 +169,12 @@ pub struct Life {
 }
 
 // The number of an answer to Load or Cancel: 0 where it is accepted.
-pub fn call_number(answer: Result<(), Refusal>) -> u32
-    ensures { result ≡ call_number (call_answer answer) }
+pub fn call_number<E: HasNumber>(answer: Result<(), E>) -> u32
+    ensures { result ≡ call_number (answer_by E.number_in accepted_in answer) }
 {
     match answer {
         Ok(()) => 0,
-        Err(refusal) => refusal.number() as u32,
+        Err(refusal) => refusal.number_of() as u32,
     }
 }
 

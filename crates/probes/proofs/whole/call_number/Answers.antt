@@ -3,7 +3,7 @@ use Rattle.probes.proofs.ProbeLaws.{number-none, number-some}
 use Rattle.probes.proofs.whole.call_number.Goals as goal
 
 pub returns-in-Ok : goal.returns-in-Ok
-returns-in-Ok c = number-none _ _ c.in-Ok.is
+returns-in-Ok g c = number-none g.E.HasNumber.number_in _ _ c.in-Ok.is
 
 pub returns-in-Err : goal.returns-in-Err
-returns-in-Err c = number-some _ _ _ c.in-Err.is c.number.ensures
+returns-in-Err g c = number-some g.E.HasNumber.number_in _ _ _ c.in-Err.is c.number_of.ensures
