@@ -31,7 +31,7 @@ use Rattle.tables.specs.node_tables.Cells.{NodeTableArgs}
 use Rattle.tables.specs.node_tables.NodeCells.{NodeCells}
 use Rattle.tables.proofs.node_tables.CellLaws.{length-node_table_of, link-cells}
 use Rattle.std.specs.Prelude.{Result, Ok, IsErrAnd}
-use Rattle.formats.proofs.RefusalLaws.{number-not-0, handed-on}
+use Rattle.formats.proofs.RefusalLaws.{number-not-0, handed-on, number-tells}
 use Rattle.formats.specs.declared.refusals.Refusal.{Refusal}
 use Rattle.formats.specs.Refusals.{refusal_number, answer_number}
 use Rattle.tables.specs.Answers.{written, BuildDone}
@@ -190,12 +190,14 @@ module _ (links states node_table state_table : List ℕ) where
       → BuildDone n links states node_table state_table a node_table state_table
   unfolding written
   build-refused zero r a h e = absurd (number-not-0 r e)
-  build-refused (suc n) r a h e = record { number = handed-on r a h ∙ e; node_table_written = refl; state_table_written = refl }
+  build-refused (suc n) r a h e =
+      let m = handed-on r a h ∙ e in
+      record { result = number-tells a (suc n) tt m; number = m; node_table_written = refl; state_table_written = refl }
 
   pub build-done : (n : ℕ) (node_table' state_table' : List ℕ) → n ≡ 0 → node_table' ≡ links ++ drop (length links) node_table
       → state_table' ≡ states ++ drop (length states) state_table → BuildDone n links states node_table state_table (Ok _) node_table' state_table'
   unfolding written
-  build-done zero node_table' state_table' e l s = record { number = refl; node_table_written = l; state_table_written = s }
+  build-done zero node_table' state_table' e l s = record { result = refl; number = refl; node_table_written = l; state_table_written = s }
   build-done (suc n) node_table' state_table' e l s = absurd (omega arith)
 
 -- ---- as built

@@ -15,6 +15,7 @@ written zero table entry = table ++ drop (length table) entry
 written (suc n) table entry = entry
 
 pub record BuildDone (n : ℕ) (links states node_table state_table : List ℕ) (answer : Result Unit Refusal) (node_table' state_table' : List ℕ) : Type 0 where
+  pub result : told answer ≡ told_as n tt
   pub number : answer_number answer ≡ n
   pub node_table_written : node_table' ≡ written n links node_table
   pub state_table_written : state_table' ≡ written n states state_table

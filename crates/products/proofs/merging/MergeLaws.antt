@@ -31,6 +31,7 @@ module _ (first second out : List ℕ) where
       → refusal_number r ≡ first_no (merge_checks first second (length out)) → MergeDone first second out a out
   refused-done r a h e = record {
     number = handed-on r a h ∙ e;
+    accepted = λ q. absurd (number-not-0 r (sym (handed-on r a h) ∙ q));
     merged = λ q. absurd (number-not-0 r (sym (handed-on r a h) ∙ q));
     refused = λ _. refl;
   }
@@ -126,6 +127,7 @@ module _ (first second out : List ℕ) where
             merged-done r e = record {
               number = sym (after-states ∙ first_no-yes 11 _ [] (le-leb (rule_length (merged_states first second)
                   (label_count first)) (length out) (omega (arith, length-is))) ∙ first_no-none);
+              accepted = λ _. refl;
               merged = λ _. e ∙ written_all (merged_bytes first second) out;
               refused = λ z. absurd (z refl);
             }
