@@ -1,6 +1,5 @@
 // The line of an answer.
 ghost use Rattle.std.specs.Prelude.{◌+◌, ◌≤◌, length};
-ghost use Rattle.formats.specs.Refusals.{refusal_number};
 ghost use Rattle.session.specs.Answers.{read_answer};
 ghost use Rattle.whatif.specs.Text.{Put};
 ghost use Rattle.whatif.specs.Line.{yes_or_no, counts_text, outcome_line, refused_line, line_of};
@@ -51,13 +50,13 @@ fn put_outcome(
     put_counts(out, b, parts, links, passed)
 }
 
-pub fn put_refused(out: &mut [u8], at: usize, refusal: Refusal) -> usize
+pub fn put_refused(out: &mut [u8], at: usize, n: u8) -> usize
     requires { at + 48 ≤ length out.old }
-    ensures put { Put out.old at (refused_line (refusal_number refusal)) out.new result }
+    ensures put { Put out.old at (refused_line n) out.new result }
     ensures upper_bound { result ≤ at + 48 }
 {
     let a = put_word(out, at, b"refused ");
-    let b = put_number(out, a, refusal.number() as u32);
+    let b = put_number(out, a, n as u32);
     put_word(out, b, b"\n")
 }
 
@@ -69,6 +68,6 @@ pub fn put_line(out: &mut [u8], at: usize, answer: Result<Outcome, Refusal>) -> 
 {
     match answer {
         Ok(o) => put_outcome(out, at, o.state, o.yes, o.parts, o.links, o.passed),
-        Err(refusal) => put_refused(out, at, refusal),
+        Err(refusal) => put_refused(out, at, refusal.number()),
     }
 }

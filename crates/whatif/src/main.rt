@@ -20,14 +20,12 @@ mod send;
 mod text;
 
 ghost use Rattle.std.specs.Prelude.{◌≡◌, List, ℕ, ◌≤◌, length, take, IfOk};
-ghost use Rattle.formats.specs.Refusals.{refusal_number};
 ghost use Rattle.whatif.specs.Line.{refused_line};
 ghost use Rattle.whatif.specs.Said.{said_on, said_after, said};
 ghost use Rattle.whatif.specs.Told.{Says, Writes};
 ghost use Rattle.whatif.specs.Turns.{Answered, AnsweredOn, AskedFor};
 
 use asking::put_questions;
-use formats::refusals::Refusal;
 use input::{
     ReadCount, head_space, is_too_large, length_at, line_space, node_table_space, plan_space,
     read_whole, rules_space, state_table_space,
@@ -59,14 +57,14 @@ fn send_load_refusal<W: Write>(
     output: &mut W,
     plan: &[u8],
     rules: &[u8],
-    refusal: Refusal,
+    n: u8,
 ) -> io::Result<usize>
-    requires { (qs : List ℕ) → said_on plan.now rules.now qs ≡ refused_line (refusal_number refusal) }
-    ensures len { IfOk result (λ k. k ≡ length (refused_line (refusal_number refusal))) }
-    ensures written { Writes result (W.contents output.old) (W.contents output.new) (refused_line (refusal_number refusal)) }
+    requires { (qs : List ℕ) → said_on plan.now rules.now qs ≡ refused_line n }
+    ensures len { IfOk result (λ k. k ≡ length (refused_line n)) }
+    ensures written { Writes result (W.contents output.old) (W.contents output.new) (refused_line n) }
 {
     let mut out = line_space();
-    let end = put_refused(&mut out, 0, refusal);
+    let end = put_refused(&mut out, 0, n);
     send_refusal(output, plan, rules, &out[..end])
 }
 
@@ -109,7 +107,7 @@ fn clear<R: Read, W: Write>(
             })
         }
         Err(refusal) => {
-            let sent = send_load_refusal(output, plan, rules, refusal)?;
+            let sent = send_load_refusal(output, plan, rules, refusal.number())?;
             Ok(QuestionBytes { came: 0, sent })
         }
     }

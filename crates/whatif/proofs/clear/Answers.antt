@@ -1,6 +1,5 @@
 use Rattle.std.proofs.Common.{ℕ, List, [], length, take, refl, sym, ap, ◌∙◌}
 use Rattle.std.specs.Io.KnownBytes.{Appends}
-use Rattle.formats.specs.Refusals.{refusal_number}
 use Rattle.whatif.specs.Line.{refused_line}
 use Rattle.whatif.specs.Stream.{question_line, lines_by}
 use Rattle.whatif.specs.Said.{said_on}
@@ -61,9 +60,10 @@ returns-in_ok-turn-in-Ok-clause-says g c =
 pub send_load_refusal-requires : goal.send_load_refusal-requires
 send_load_refusal-requires g c =
     let d = c.load-done.result in
-    refused-said c.args.plan.now c.args.rules.now c.node_table_space-node_table.result c.state_table_space-state_table.result
-    c.fresh-fresh.result d.session _ _ d.answer c.fresh-fresh.ensures.value c.load-done.ensures _ c.in-Err.is
-    c.requires.plan_len_bound c.node_table_space-node_table.ensures c.state_table_space-state_table.ensures
+    λ qs. refused-said c.args.plan.now c.args.rules.now c.node_table_space-node_table.result
+    c.state_table_space-state_table.result c.fresh-fresh.result d.session _ _ d.answer c.fresh-fresh.ensures.value
+    c.load-done.ensures _ c.in-Err.is c.requires.plan_len_bound c.node_table_space-node_table.ensures
+    c.state_table_space-state_table.ensures qs ∙ ap refused_line (sym c.number.ensures)
 
 pub returns-in_err-sent-in-Err-clause-says : goal.returns-in_err-sent-in-Err-clause-says
 returns-in_err-sent-in-Err-clause-says g c =
@@ -75,10 +75,10 @@ returns-in_err-sent-in-Err-clause-says g c =
     let b = g.W.Write.contents c.send_load_refusal.new.output in
     says-failed known a b c.from_residual-in_err-sent-in-Err.result (λ (w : List ℕ). said_on p r (take c.args.stated w))
     c.from_residual-in_err-sent-in-Err.ensures.0
-    (text-always (AppendsFront a b) known (λ (w : List ℕ). said_on p r (take c.args.stated w)) (refused_line (refusal_number c.in-Err.refusal))
+    (text-always (AppendsFront a b) known (λ (w : List ℕ). said_on p r (take c.args.stated w)) (refused_line c.number.result)
     (λ w. refused-said p r c.node_table_space-node_table.result c.state_table_space-state_table.result c.fresh-fresh.result d.session
     _ _ d.answer c.fresh-fresh.ensures.value c.load-done.ensures _ c.in-Err.is c.requires.plan_len_bound
-    c.node_table_space-node_table.ensures c.state_table_space-state_table.ensures (take c.args.stated w))
+    c.node_table_space-node_table.ensures c.state_table_space-state_table.ensures (take c.args.stated w) ∙ ap refused_line (sym c.number.ensures))
     c.in_err-sent-in-Err.ensures.written)
 
 pub returns-in_ok-sent-in-Err-clause-answered_on : goal.returns-in_ok-sent-in-Err-clause-answered_on
@@ -87,7 +87,7 @@ returns-in_ok-sent-in-Err-clause-answered_on g c =
     let s =
     refused-said c.args.plan.now c.args.rules.now c.node_table_space-node_table.result c.state_table_space-state_table.result
     c.fresh-fresh.result d.session _ _ d.answer c.fresh-fresh.ensures.value c.load-done.ensures _ c.in-Err.is
-    c.requires.plan_len_bound c.node_table_space-node_table.ensures c.state_table_space-state_table.ensures [] in
+    c.requires.plan_len_bound c.node_table_space-node_table.ensures c.state_table_space-state_table.ensures [] ∙ ap refused_line (sym c.number.ensures) in
     record { questions = []; count = refl; all = c.in_ok-sent-in-Err.ensures.len ∙ sym (ap length s) }
 
 pub returns-in_ok-sent-in-Err-clause-says : goal.returns-in_ok-sent-in-Err-clause-says
@@ -98,8 +98,8 @@ returns-in_ok-sent-in-Err-clause-says g c =
     let a = g.W.Write.contents c.args.output.now in
     let b = g.W.Write.contents c.send_load_refusal.new.output in
     text-always (Appends a b) (g.R.Read.remaining c.args.input.now) (λ (w : List ℕ). said_on p r (take c.args.stated w))
-    (refused_line (refusal_number c.in-Err.refusal))
+    (refused_line c.number.result)
     (λ w. refused-said p r c.node_table_space-node_table.result c.state_table_space-state_table.result c.fresh-fresh.result d.session
     _ _ d.answer c.fresh-fresh.ensures.value c.load-done.ensures _ c.in-Err.is c.requires.plan_len_bound
-    c.node_table_space-node_table.ensures c.state_table_space-state_table.ensures (take c.args.stated w))
+    c.node_table_space-node_table.ensures c.state_table_space-state_table.ensures (take c.args.stated w) ∙ ap refused_line (sym c.number.ensures))
     c.in_ok-sent-in-Err.ensures.written
