@@ -38,30 +38,30 @@ part-outside x y e f = ap part_in (sym e ∙ f)
 
 -- of an answer that is refused by E, f being the number of such a refusal
 module _ {E : Type 0} (f : E → ℕ) where
-  pub parts-some : (t : Result ℕ E) (p : ℕ) → t ≡ Ok p → p ≡ parts_in (answer_by f parts t)
+  pub parts-some-by : (t : Result ℕ E) (p : ℕ) → t ≡ Ok p → p ≡ parts_in (answer_by f parts t)
   unfolding parts_in
-  parts-some t p e = sym (ap (λ (x : Result ℕ E). parts_in (answer_by f parts x)) e)
+  parts-some-by t p e = sym (ap (λ (x : Result ℕ E). parts_in (answer_by f parts x)) e)
 
-  pub parts_none : (t : Result ℕ E) (n : E) → t ≡ Err n → 0 ≡ parts_in (answer_by f parts t)
+  pub parts_none-by : (t : Result ℕ E) (n : E) → t ≡ Err n → 0 ≡ parts_in (answer_by f parts t)
   unfolding parts_in
-  parts_none t n e = sym (ap (λ (x : Result ℕ E). parts_in (answer_by f parts x)) e)
+  parts_none-by t n e = sym (ap (λ (x : Result ℕ E). parts_in (answer_by f parts x)) e)
 
-  pub read_some : (a : Result Outcome E) (o : Outcome) → a ≡ Ok o
+  pub read_some-by : (a : Result Outcome E) (o : Outcome) → a ≡ Ok o
       → ◌≡◌ {A = Question} (record { state = o.state; yes = o.yes; parts = o.parts; links = o.links }) (read_in (answer_by f outcome_in a))
   unfolding read_in
-  read_some a o e = sym (ap (λ (x : Result Outcome E). read_in (answer_by f outcome_in x)) e)
+  read_some-by a o e = sym (ap (λ (x : Result Outcome E). read_in (answer_by f outcome_in x)) e)
 
-  pub read_none : (a : Result Outcome E) (n : E) → a ≡ Err n → nothing_in ≡ read_in (answer_by f outcome_in a)
+  pub read_none-by : (a : Result Outcome E) (n : E) → a ≡ Err n → nothing_in ≡ read_in (answer_by f outcome_in a)
   unfolding read_in
-  read_none a n e = sym (ap (λ (x : Result Outcome E). read_in (answer_by f outcome_in x)) e)
+  read_none-by a n e = sym (ap (λ (x : Result Outcome E). read_in (answer_by f outcome_in x)) e)
 
-  pub number-none : (a : Result Unit E) (u : Unit) → a ≡ Ok u → 0 ≡ call_number (answer_by f accepted_in a)
+  pub number-none-by : (a : Result Unit E) (u : Unit) → a ≡ Ok u → 0 ≡ call_number (answer_by f accepted_in a)
   unfolding call_number
-  number-none a u e = sym (ap (λ (x : Result Unit E). call_number (answer_by f accepted_in x)) e)
+  number-none-by a u e = sym (ap (λ (x : Result Unit E). call_number (answer_by f accepted_in x)) e)
 
-  pub number-some : (a : Result Unit E) (r : E) (n : ℕ) → a ≡ Err r → n ≡ f r → n ≡ call_number (answer_by f accepted_in a)
+  pub number-some-by : (a : Result Unit E) (r : E) (n : ℕ) → a ≡ Err r → n ≡ f r → n ≡ call_number (answer_by f accepted_in a)
   unfolding call_number
-  number-some a r n e g = g ∙ sym (ap (λ (x : Result Unit E). call_number (answer_by f accepted_in x)) e)
+  number-some-by a r n e g = g ∙ sym (ap (λ (x : Result Unit E). call_number (answer_by f accepted_in x)) e)
 
 -- the answers of Start, Read, Load and Cancel
 by-start : (a : Result ℕ Refusal) → answer_by refusal_number parts a ≡ start_answer a
@@ -89,6 +89,26 @@ read-of a q e = e ∙ ap read_in (by-read a)
 pub number-of : (a : Result Unit Refusal) (n : ℕ) → n ≡ call_number (answer_by refusal_number accepted_in a)
     → n ≡ call_number (call_answer a)
 number-of a n e = e ∙ ap call_number (by-call a)
+
+-- of a Refusal
+pub parts-some : (t : Result ℕ Refusal) (p : ℕ) → t ≡ Ok p → p ≡ parts_in (start_answer t)
+parts-some t p e = parts-of t p (parts-some-by refusal_number t p e)
+
+pub parts_none : (t : Result ℕ Refusal) (n : Refusal) → t ≡ Err n → 0 ≡ parts_in (start_answer t)
+parts_none t n e = parts-of t 0 (parts_none-by refusal_number t n e)
+
+pub read_some : (a : Result Outcome Refusal) (o : Outcome) → a ≡ Ok o
+    → ◌≡◌ {A = Question} (record { state = o.state; yes = o.yes; parts = o.parts; links = o.links }) (read_in (read_answer a))
+read_some a o e = read-of a _ (read_some-by refusal_number a o e)
+
+pub read_none : (a : Result Outcome Refusal) (n : Refusal) → a ≡ Err n → nothing_in ≡ read_in (read_answer a)
+read_none a n e = read-of a nothing_in (read_none-by refusal_number a n e)
+
+pub number-none : (a : Result Unit Refusal) (u : Unit) → a ≡ Ok u → 0 ≡ call_number (call_answer a)
+number-none a u e = number-of a 0 (number-none-by refusal_number a u e)
+
+pub number-some : (a : Result Unit Refusal) (r : Refusal) (n : ℕ) → a ≡ Err r → n ≡ refusal_number r → n ≡ call_number (call_answer a)
+number-some a r n e f = number-of a n (number-some-by refusal_number a r n e f)
 
 module _ (x : Inputs) (u end : Session) (left : ℕ) (o : advanced left x u ≡ end) where
   pub once_more : (r : Session) (next : ℕ) → suc next ≡ left → r ≡ record_on u (advance x) → advanced next x r ≡ end
