@@ -90,7 +90,7 @@ pub number-of : (a : Result Unit Refusal) (n : ℕ) → n ≡ call_number (answe
     → n ≡ call_number (call_answer a)
 number-of a n e = e ∙ ap call_number (by-call a)
 
--- of a Refusal
+-- the same of the session's answers, which a Refusal refuses
 pub parts-some : (t : Result ℕ Refusal) (p : ℕ) → t ≡ Ok p → p ≡ parts_in (start_answer t)
 parts-some t p e = parts-of t p (parts-some-by refusal_number t p e)
 
